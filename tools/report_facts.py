@@ -287,7 +287,8 @@ def counts(position):
 def head(study):
     known = {name: study.tags[name] for name in ("Event", "White", "Site", "Date", "Round")
              if study.tags[name] not in ("?", "????.??.??")}
-    by = [say(known[name]) for name in ("White", "Site", "Date") if name in known]
+    known["Date"] = re.sub(r"(\.\?\?){1,2}$", "", known.get("Date", ""))
+    by = [say(known[name]) for name in ("White", "Site", "Date") if known.get(name)]
     if "Round" in known:
         by.append("entry " + say(known["Round"]))
     return inside("header", inside("h1", say(known.get("Event", "Untitled"))) + inside("p", " &#183; ".join(by), 'class="by"'))
@@ -614,7 +615,7 @@ def file_of(texts, more=()):
         if name == "again":  # the last study once more, with the tags that were set since
             count += 1
             again = copy.copy(studies[-1])
-            again.tags = {**again.tags, **dict([line.split(" ", 2)[1:] for line, _ in more if line.startswith("tag ")][:1])}
+            again.tags = {**again.tags, **dict(line.split(" ", 2)[1:] for line, fault in more if fault is None and line.startswith("tag "))}
             studies.append(again)
             body += page(again, count)
         elif name:
@@ -688,6 +689,9 @@ GATE_MORE = [
     ("# Lines that are refused.", None),
     ("build QK", "NotAClass"),
     ('tag Event <script>alert("1 & 2")</script>', None),
+    ("tag Site ?", None),
+    ("tag Date 2026.??.??", None),
+    ("tag Round 3", None),
     ("tag White <script>Caf\xe9", "BadByte"),
     ("pgn", "again"),
     ("moves 0.0.0.0.0", "NoSuchNode"),

@@ -2,3 +2,5 @@ pub mod Asking
 pub mod MadeRows
 pub mod WholePage
 pub mod GroupsFound
+pub mod TreeWritten
+pub mod OnePage

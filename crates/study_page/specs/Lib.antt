@@ -1,8 +1,11 @@
 pub mod Words
 pub mod Diagram
+pub mod Known
+pub mod Counts
 pub mod Head
 pub mod Verdict
 pub mod Rows
+pub mod Tree
 pub mod Made
 pub mod Page
 pub mod Lists

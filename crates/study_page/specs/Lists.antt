@@ -1,5 +1,5 @@
 -- Refused lines, and the list of all entries.
-use Rattle.std.specs.Prelude.{ℕ, List, [], ◌++◌, Option, Some, None, codes, decimal}
+use Rattle.std.specs.Prelude.{ℕ, List, ◌++◌, codes, decimal}
 use Rattle.study_marks.specs.declared.mark.Mark.{Mark}
 use Rattle.study_marks.specs.declared.tag.TagName.TheVariants.{Event, White}
 use Rattle.study_marks.specs.Study.{Study, tag_of}
@@ -7,6 +7,7 @@ use Rattle.study_pgn.specs.Pgn.{stipulation_text}
 use Rattle.study_html.specs.declared.element.Element.TheVariants.{Cell, Code, Head, Heads, Header, Link, Row, Rows, Strong, Summary, Table, Title, Warning}
 use Rattle.study_html.specs.Escape.{said}
 use Rattle.study_html.specs.Elements.{inside}
+use Rattle.study_page.specs.Known.{known}
 use Rattle.study_page.specs.Head.{title_words}
 use Rattle.study_page.specs.Verdict.{stamp_words, judged}
 
@@ -16,15 +17,11 @@ refusal_part line text name reason =
     inside Warning (said (codes "Line " ++ (decimal line ++ codes " was refused: ")) ++ (inside Code (said text) ++ (said (codes " ")
     ++ (inside Strong (said name) ++ (said (codes ": ") ++ said reason)))))
 
-abbrev pub known_words : Option (List ℕ) → List ℕ
-known_words None = []
-known_words (Some words) = words
-
 -- an entry: its number, its title, which leads to its page, its author, what is asked for, and the verdict
 unfoldable pub summary_row : Study Mark → ℕ → List ℕ
 summary_row s number =
-    inside Row (inside Cell (said (decimal number)) ++ (inside Cell (inside (Link number) (said (title_words (tag_of s.tags Event))))
-    ++ (inside Cell (said (known_words (tag_of s.tags White)))
+    inside Row (inside Cell (said (decimal number)) ++ (inside Cell (inside (Link number) (said (title_words (known (tag_of s.tags Event)))))
+    ++ (inside Cell (said (known (tag_of s.tags White)))
     ++ (inside Cell (said (stipulation_text s.stipulation)) ++ inside Cell (said (stamp_words (judged s).stamp))))))
 
 unfoldable pub two_heads : List ℕ → List ℕ → List ℕ

@@ -11,6 +11,7 @@ use Rattle.study_page.specs.declared.walk.Part.{Part}
 use Rattle.study_page.specs.declared.walk.Part.TheVariants as part
 use Rattle.study_page.specs.Head.{head, figure}
 use Rattle.study_page.specs.Verdict.{verdict_part, judged}
+use Rattle.study_page.specs.Tree.{solution_words}
 use Rattle.study_page.specs.Made.{RowsOf}
 
 -- what the part has of the root and of all nodes, in written order
@@ -70,28 +71,36 @@ tables tries defences ends =
     ++ table_part ends_title (heads (codes "After") (codes "Value") (codes "Goes on")) ends)
 
 -- the diagram and the verdict, side by side
-unfoldable pub top : Study Mark → List ℕ → List ℕ → List ℕ
-top s counts faults = inside element.Top (figure s.stipulation s.start counts ++ verdict_part (judged s) faults)
+unfoldable pub top : Study Mark → List ℕ → List ℕ
+top s faults = inside element.Top (figure s.stipulation s.start ++ verdict_part (judged s) faults)
 
-unfoldable pub page_text : Study Mark → ℕ → List ℕ → List ℕ → List ℕ → List ℕ → List ℕ → List ℕ → List ℕ → List ℕ
-page_text s number counts tree faults duals tries defences ends =
-    inside (element.Entry number) (head s.tags ++ (top s counts faults ++ (solution_part tree ++ (cards_part duals
+unfoldable pub page_text : Study Mark → ℕ → List ℕ → List ℕ → List ℕ → List ℕ → List ℕ → List ℕ
+page_text s number faults duals tries defences ends =
+    inside (element.Entry number) (head s.tags ++ (top s faults ++ (solution_part (solution_words s) ++ (cards_part duals
     ++ (tables tries defences ends ++ inside element.Foot (said foot_words))))))
 
 -- ---- what it says
 
--- The page of an annotated study, its entry of this number: head, diagram and verdict, and then part by part what each has
--- of the nodes. What the counts of men and the tree of the solution say is left open here.
+-- The page of an annotated study, its entry of this number: head, diagram and verdict, the tree of the solution, and then part by part
+-- what each has of the nodes.
 abbrev pub IsPage : Study Mark → ℕ → List ℕ → Type 0
 IsPage s number text =
-    (counts tree faults duals tries defences ends : List ℕ)
+    (faults duals tries defences ends : List ℕ)
     × AreRows part.Faults s faults
     × AreRows part.Duals s duals
     × AreRows part.Tries s tries
     × AreRows part.Defences s defences
     × AreRows part.Ends s ends
-    × (text ≡ page_text s number counts tree faults duals tries defences ends)
+    × (text ≡ page_text s number faults duals tries defences ends)
 
 -- the page of a plain study is that of its annotation
 abbrev pub IsPageOf : Study (Unit {0}) → ℕ → List ℕ → Type 0
 IsPageOf plain number text = (s : Study Mark) × (plain_study s ≡ plain) × IsAnnotated s × IsPage s number text
+
+-- an annotated study has one page of a number
+abbrev pub PagesAreUnique : Type 0
+PagesAreUnique = (s : Study Mark) (number : ℕ) (t u : List ℕ) → IsPage s number t → IsPage s number u → t ≡ u
+
+-- so has a plain study
+abbrev pub PlainStudiesHaveOnePage : Type 0
+PlainStudiesHaveOnePage = (plain : Study (Unit {0})) (number : ℕ) (t u : List ℕ) → IsPageOf plain number t → IsPageOf plain number u → t ≡ u

@@ -5,9 +5,12 @@ ghost use Rattle.study_marks.specs.Study.{tag_of};
 ghost use Rattle.study_marks.specs.declared.tag.TagName.TheVariants as tag;
 ghost use Rattle.study_html.specs.Elements.{inside};
 ghost use Rattle.study_html.specs.Escape.{said};
-ghost use Rattle.study_page.specs.Head.{title_words, behind, byline_item, round_item, byline, head, moves_first, men_words, caption, figure};
+ghost use Rattle.study_page.specs.Known.{known, date_words};
+ghost use Rattle.study_page.specs.Head.{title_words, behind, byline_item, round_words, byline, head, moves_first, men_words, caption, figure};
 
+use crate::counts::add_counts;
 use crate::diagram::{add_control, draw_board};
+use crate::known::{date_words, known_tag};
 use std::alloc::{AllocError, Allocator};
 use study_board::{Man, Side};
 use study_html::{Drawing, Element, Html, put_words};
@@ -22,12 +25,22 @@ fn put_title<'a, 'b, A: Allocator, B: Allocator>(
     html: &mut Html<'_, A>,
     bench: &Bench<'b, B>,
 ) -> Result<(), AllocError>
-    ensures { OnOk result (html.new ≡ html.old ++ inside Element.Title (said (title_words (tag_of (marked bench.now).tags tag.Event)))) }
+    ensures { OnOk result (html.new ≡ html.old
+        ++ inside Element.Title (said (title_words (known (tag_of (marked bench.now).tags tag.Event))))) }
 {
-    match bench.tag(TagName::Event) {
-        None => put_words(alloc, html, Element::Title, b"Untitled"),
-        Some(title) => put_words(alloc, html, Element::Title, title.as_bytes()),
-    }
+    put_words(
+        alloc,
+        html,
+        Element::Title,
+        title_words(known_tag(bench, TagName::Event)),
+    )
+}
+
+/// The title of a study with this tag.
+pub fn title_words(event: &[u8]) -> &[u8]
+    ensures { result.now ≡ title_words event.now }
+{
+    if event.is_empty() { b"Untitled" } else { event }
 }
 
 /// A dot, where something comes before it.
@@ -40,36 +53,26 @@ fn draw_dot<A: Allocator>(html: &mut Html<'_, A>) -> Result<(), AllocError>
     html.draw(&Drawing::Dot)
 }
 
-fn say_tag<'b, A: Allocator, B: Allocator>(
-    html: &mut Html<'_, A>,
-    bench: &Bench<'b, B>,
-    name: TagName,
-) -> Result<(), AllocError>
-    ensures { OnOk result (html.new ≡ byline_item (tag_of (marked bench.now).tags name) html.old) }
+/// What is known, after what is known before it.
+fn say_known<A: Allocator>(html: &mut Html<'_, A>, words: &[u8]) -> Result<(), AllocError>
+    ensures { OnOk result (html.new ≡ byline_item words.now html.old) }
 {
-    match bench.tag(name) {
-        None => Ok(()),
-        Some(words) => {
-            draw_dot(html)?;
-            html.say(words.as_bytes())
-        }
+    if words.is_empty() {
+        return Ok(());
     }
+    draw_dot(html)?;
+    html.say(words)
 }
 
-fn say_round<'b, A: Allocator, B: Allocator>(
-    html: &mut Html<'_, A>,
-    bench: &Bench<'b, B>,
-) -> Result<(), AllocError>
-    ensures { OnOk result (html.new ≡ round_item (tag_of (marked bench.now).tags tag.Round) html.old) }
+/// `entry 5`.
+fn add_round<A: Allocator>(text: &mut Text<'_, A>, round: &[u8]) -> Result<(), AllocError>
+    ensures { OnOk result (text.new ≡ text.old ++ round_words round.now) }
 {
-    match bench.tag(TagName::Round) {
-        None => Ok(()),
-        Some(words) => {
-            draw_dot(html)?;
-            html.say(b"entry ")?;
-            html.say(words.as_bytes())
-        }
+    if round.is_empty() {
+        return Ok(());
     }
+    text.add(b"entry ")?;
+    text.add(round)
 }
 
 /// The title, and below it author, place, date and entry.
@@ -83,11 +86,13 @@ pub fn put_head<'a, 'b, A: Allocator, B: Allocator>(
 {
     let mut within = Html::new(alloc);
     let mut byline = Html::new(alloc);
+    let mut round = Text::new(alloc);
     put_title(alloc, &mut within, bench)?;
-    say_tag(&mut byline, bench, TagName::White)?;
-    say_tag(&mut byline, bench, TagName::Site)?;
-    say_tag(&mut byline, bench, TagName::Date)?;
-    say_round(&mut byline, bench)?;
+    add_round(&mut round, known_tag(bench, TagName::Round))?;
+    say_known(&mut byline, known_tag(bench, TagName::White))?;
+    say_known(&mut byline, known_tag(bench, TagName::Site))?;
+    say_known(&mut byline, date_words(known_tag(bench, TagName::Date)))?;
+    say_known(&mut byline, round.as_slice())?;
     within.put(Element::Byline, &byline)?;
     html.put(Element::Header, &within)
 }
@@ -112,25 +117,26 @@ fn add_men<A: Allocator>(text: &mut Text<'_, A>, men: &[Man]) -> Result<(), Allo
     add_control(text, Side::Black, men)
 }
 
-/// What is below the diagram: the stipulation, these counts, the men and the FEN.
+/// What is below the diagram: the stipulation, the counts of men, the men and the FEN.
 #[tactic(auto, unfolding(crate::specs::Head::caption))]
 fn put_caption<'a, 'b, A: Allocator, B: Allocator>(
     alloc: &'a A,
     html: &mut Html<'_, A>,
     bench: &Bench<'b, B>,
-    counts: &[u8],
 ) -> Result<(), AllocError>
-    ensures { OnOk result (html.new ≡ html.old ++ caption (marked bench.now).stipulation (marked bench.now).start counts.now) }
+    ensures { OnOk result (html.new ≡ html.old ++ caption (marked bench.now).stipulation (marked bench.now).start) }
 {
     let start = bench.start();
     let fen = write_fen(start);
     let mut within = Html::new(alloc);
     let mut stipulation = Text::new(alloc);
+    let mut counts = Text::new(alloc);
     let mut men = Text::new(alloc);
     add_stipulation(&mut stipulation, bench.stipulation())?;
     put_words(alloc, &mut within, Element::Strong, stipulation.as_slice())?;
     within.say(moves_first(start.position.to_move()))?;
-    put_words(alloc, &mut within, Element::Count, counts)?;
+    add_counts(&mut counts, &start.position)?;
+    put_words(alloc, &mut within, Element::Count, counts.as_slice())?;
     within.draw(&Drawing::Break)?;
     add_men(&mut men, start.position.men())?;
     within.say(men.as_slice())?;
@@ -145,13 +151,12 @@ pub fn put_figure<'a, 'b, A: Allocator, B: Allocator>(
     alloc: &'a A,
     html: &mut Html<'_, A>,
     bench: &Bench<'b, B>,
-    counts: &[u8],
 ) -> Result<(), AllocError>
-    ensures { OnOk result (html.new ≡ html.old ++ figure (marked bench.now).stipulation (marked bench.now).start counts.now) }
+    ensures { OnOk result (html.new ≡ html.old ++ figure (marked bench.now).stipulation (marked bench.now).start) }
 {
     let start = bench.start();
     let mut within = Html::new(alloc);
     draw_board(alloc, &mut within, &start.position)?;
-    put_caption(alloc, &mut within, bench, counts)?;
+    put_caption(alloc, &mut within, bench)?;
     html.put(Element::Figure, &within)
 }

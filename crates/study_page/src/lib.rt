@@ -1,7 +1,7 @@
 //! The page of a study, in HTML, as a judge would print it.
 //!
-//! `write_page` writes the page of a study by the game's values. A page is `Html` of study_html, so it is well nested, and the
-//! words of a study are never read as markup.
+//! `write_page` writes the page of a study by the game's values: one text, to the byte. A page is `Html` of study_html, so it is well nested,
+//! and the words of a study are never read as markup.
 #![tactic(auto)]
 
 mod counts;
@@ -11,6 +11,8 @@ mod faults;
 mod groups;
 mod head;
 mod items;
+mod known;
+mod laws;
 mod lists;
 mod page;
 mod parts;
@@ -22,5 +24,6 @@ mod walk;
 mod words;
 
 pub use fault::PageFault;
+pub use laws::{pages_are_unique, plain_studies_have_one_page};
 pub use lists::{add_entry, write_refusal, write_summary};
 pub use page::write_page;

@@ -8,11 +8,14 @@ ghost use Rattle.study_marks.specs.declared.tag.TagName.TheVariants as tag;
 ghost use Rattle.study_pgn.specs.Pgn.{stipulation_text};
 ghost use Rattle.study_html.specs.Elements.{inside};
 ghost use Rattle.study_html.specs.Escape.{said};
+ghost use Rattle.study_page.specs.Known.{known};
 ghost use Rattle.study_page.specs.Head.{title_words};
 ghost use Rattle.study_page.specs.Verdict.{stamp_words, judged};
-ghost use Rattle.study_page.specs.Lists.{refusal_part, known_words, summary_row, two_heads, three_heads, summary_heads, summary_part};
+ghost use Rattle.study_page.specs.Lists.{refusal_part, summary_row, two_heads, three_heads, summary_heads, summary_part};
 
 use crate::fault::PageFault;
+use crate::head::title_words;
+use crate::known::known_tag;
 use crate::verdict::{add_stamp_words, judge};
 use std::alloc::{AllocError, Allocator};
 use std::io::Write;
@@ -80,20 +83,6 @@ pub fn write_refusal<'a, A: Allocator, W: Write>(
     Ok(())
 }
 
-/// The words of a tag, none where it is not known.
-fn add_known<'b, A: Allocator, B: Allocator>(
-    text: &mut Text<'_, A>,
-    bench: &Bench<'b, B>,
-    name: TagName,
-) -> Result<(), AllocError>
-    ensures { OnOk result (text.new ≡ text.old ++ known_words (tag_of (marked bench.now).tags name)) }
-{
-    match bench.tag(name) {
-        None => Ok(()),
-        Some(words) => text.add(words.as_bytes()),
-    }
-}
-
 /// The title, which leads to the entry's page.
 fn put_link<'a, 'b, A: Allocator, B: Allocator>(
     alloc: &'a A,
@@ -102,12 +91,10 @@ fn put_link<'a, 'b, A: Allocator, B: Allocator>(
     number: u32,
 ) -> Result<(), AllocError>
     ensures { OnOk result (html.new ≡ html.old
-        ++ inside (Element.Link number) (said (title_words (tag_of (marked bench.now).tags tag.Event)))) }
+        ++ inside (Element.Link number) (said (title_words (known (tag_of (marked bench.now).tags tag.Event))))) }
 {
-    match bench.tag(TagName::Event) {
-        None => put_words(alloc, html, Element::Link(number), b"Untitled"),
-        Some(title) => put_words(alloc, html, Element::Link(number), title.as_bytes()),
-    }
+    let title = title_words(known_tag(bench, TagName::Event));
+    put_words(alloc, html, Element::Link(number), title)
 }
 
 fn put_link_cell<'a, 'b, A: Allocator, B: Allocator>(
@@ -117,24 +104,11 @@ fn put_link_cell<'a, 'b, A: Allocator, B: Allocator>(
     number: u32,
 ) -> Result<(), AllocError>
     ensures { OnOk result (html.new ≡ html.old ++ inside Element.Cell
-        (inside (Element.Link number) (said (title_words (tag_of (marked bench.now).tags tag.Event))))) }
+        (inside (Element.Link number) (said (title_words (known (tag_of (marked bench.now).tags tag.Event)))))) }
 {
     let mut within = Html::new(alloc);
     put_link(alloc, &mut within, bench, number)?;
     html.put(Element::Cell, &within)
-}
-
-fn put_tag<'a, 'b, A: Allocator, B: Allocator>(
-    alloc: &'a A,
-    html: &mut Html<'_, A>,
-    bench: &Bench<'b, B>,
-    name: TagName,
-) -> Result<(), AllocError>
-    ensures { OnOk result (html.new ≡ html.old ++ inside Element.Cell (said (known_words (tag_of (marked bench.now).tags name)))) }
-{
-    let mut text = Text::new(alloc);
-    add_known(&mut text, bench, name)?;
-    put_words(alloc, html, Element::Cell, text.as_slice())
 }
 
 /// The cells with what is asked for and the verdict.
@@ -167,7 +141,12 @@ pub fn add_entry<'a, 'b, A: Allocator, B: Allocator>(
     let mut row = Html::new(alloc);
     put_number(alloc, &mut row, Element::Cell, number)?;
     put_link_cell(alloc, &mut row, bench, number)?;
-    put_tag(alloc, &mut row, bench, TagName::White)?;
+    put_words(
+        alloc,
+        &mut row,
+        Element::Cell,
+        known_tag(bench, TagName::White),
+    )?;
     put_judged(alloc, &mut row, bench)?;
     rows.put(Element::Row, &row)
 }

@@ -11,9 +11,9 @@ ghost use Rattle.study_html.specs.Markup.{IsWellNested};
 ghost use Rattle.study_page.specs.Made.{HasAsked};
 ghost use Rattle.study_page.specs.Page.{AreRows, heads, table_part, full_table, cards_part, full_cards};
 ghost use Rattle.study_page.specs.Page.{tries_title, missing_title, ends_title};
+ghost use Rattle.study_page.specs.Tree.{solution_words};
 ghost use Rattle.study_page.specs.Page.{solution_part, duals_title, duals_note, foot_words, tables, top, page_text, IsPage, IsPageOf};
 
-use crate::counts::add_counts;
 use crate::fault::NotMade;
 use crate::head::{put_figure, put_head};
 use crate::tree::put_following;
@@ -24,7 +24,7 @@ use std::io::Write;
 use study_html::{Element, Html, put_words};
 use study_marks::Bench;
 use study_review::ReviewFault;
-use study_text::{Text, write_text};
+use study_text::write_text;
 use study_values::Values;
 
 /// What is made of the nodes, part by part.
@@ -82,11 +82,14 @@ fn parts_of<'a, 'b, A: Allocator, B: Allocator, V: Values>(
 fn solution_of<'a, 'b, A: Allocator, B: Allocator>(
     alloc: &'a A,
     bench: &Bench<'b, B>,
-) -> Result<Html<'a, A>, AllocError> {
-    let mut html = Html::new(alloc);
-    let mut steps = Vec::new(alloc);
-    put_following(alloc, &mut html, bench, &mut steps, true, 256)?;
-    Ok(html)
+) -> Result<Html<'a, A>, AllocError>
+    ensures { IfOk result (λ tree. tree ≡ solution_words (marked bench.now)) }
+{
+    let start = bench.start();
+    let hero = bench.stipulation().hero;
+    let mut tree = Html::new(alloc);
+    put_following(alloc, &mut tree, hero, true, start, &bench.root())?;
+    Ok(tree)
 }
 
 /// The head of a table with three columns.
@@ -175,16 +178,17 @@ fn put_cards<'a, A: Allocator>(
 }
 
 #[tactic(auto, unfolding(crate::specs::Page::solution_part))]
-fn put_solution<'a, A: Allocator>(
+fn put_solution<'a, 'b, A: Allocator, B: Allocator>(
     alloc: &'a A,
     html: &mut Html<'_, A>,
-    tree: &Html<'_, A>,
+    bench: &Bench<'b, B>,
 ) -> Result<(), AllocError>
-    ensures { OnOk result (html.new ≡ html.old ++ solution_part tree.now) }
+    ensures { OnOk result (html.new ≡ html.old ++ solution_part (solution_words (marked bench.now))) }
 {
     let mut part = Html::new(alloc);
+    let tree = solution_of(alloc, bench)?;
     put_words(alloc, &mut part, Element::Heading, b"Solution")?;
-    part.put(Element::Tree, tree)?;
+    part.put(Element::Tree, &tree)?;
     html.put(Element::Part, &part)
 }
 
@@ -258,35 +262,32 @@ fn put_top<'a, 'b, A: Allocator, B: Allocator>(
     alloc: &'a A,
     html: &mut Html<'_, A>,
     bench: &Bench<'b, B>,
-    counts: &[u8],
     faults: &Html<'_, A>,
 ) -> Result<(), AllocError>
-    ensures { OnOk result (html.new ≡ html.old ++ top (marked bench.now) counts.now faults.now) }
+    ensures { OnOk result (html.new ≡ html.old ++ top (marked bench.now) faults.now) }
 {
     let mut within = Html::new(alloc);
-    put_figure(alloc, &mut within, bench, counts)?;
+    put_figure(alloc, &mut within, bench)?;
     put_verdict(alloc, &mut within, &judge(bench), faults)?;
     html.put(Element::Top, &within)
 }
 
-/// The page, of these counts, this tree and these parts.
+/// The page, of these parts.
 #[tactic(auto, unfolding(crate::specs::Page::page_text))]
 fn put_page<'a, 'b, A: Allocator, B: Allocator>(
     alloc: &'a A,
     html: &mut Html<'_, A>,
     bench: &Bench<'b, B>,
     number: u32,
-    counts: &[u8],
-    tree: &Html<'_, A>,
     parts: &Parts<'_, A>,
 ) -> Result<(), AllocError>
-    ensures { OnOk result (html.new ≡ html.old ++ page_text (marked bench.now) number counts.now tree.now
+    ensures { OnOk result (html.new ≡ html.old ++ page_text (marked bench.now) number
         parts.now.faults parts.now.duals parts.now.tries parts.now.defences parts.now.ends) }
 {
     let mut page = Html::new(alloc);
     put_head(alloc, &mut page, bench)?;
-    put_top(alloc, &mut page, bench, counts, &parts.faults)?;
-    put_solution(alloc, &mut page, tree)?;
+    put_top(alloc, &mut page, bench, &parts.faults)?;
+    put_solution(alloc, &mut page, bench)?;
     put_cards(alloc, &mut page, &parts.duals)?;
     put_tables(alloc, &mut page, parts)?;
     put_words(alloc, &mut page, Element::Foot, foot_words())?;
@@ -304,27 +305,16 @@ fn page_of<'a, 'b, A: Allocator, B: Allocator, V: Values>(
     ensures asked { HasAsked V.held (within (marked bench.now).start.position V.gives) V.may_fail V.asked_of V.failed_of V.is_honest values.old result values.new }
 {
     let mut html = Html::new(alloc);
-    let mut counts = Text::new(alloc);
-    add_counts(&mut counts, bench.start().position.men())?;
-    let tree = solution_of(alloc, bench)?;
     let parts = parts_of(alloc, bench, values)?;
-    put_page(
-        alloc,
-        &mut html,
-        bench,
-        number,
-        counts.as_slice(),
-        &tree,
-        &parts,
-    )?;
+    put_page(alloc, &mut html, bench, number, &parts)?;
     Ok(html)
 }
 
 /// Writes the page of a study, the entry of this number.
 ///
 /// The page is made whole first, so want of memory, and a value that cannot be read, are reported before the first byte. A writer
-/// that fails or takes nothing ends the call; it has taken a prefix of the page then. The contract leaves open what the counts of men
-/// and the tree of the solution say; it says that they are well nested, and that words from outside are escaped.
+/// that fails or takes nothing ends the call; it has taken a prefix of the page then. A study has one page of a number, to the byte
+/// (`pages_are_unique`).
 pub fn write_page<'a, 'b, A: Allocator, B: Allocator, V: Values, W: Write>(
     alloc: &'a A,
     bench: &Bench<'b, B>,

@@ -18,7 +18,7 @@ use study_review::{Continuation, add_move};
 use study_text::Text;
 use study_values::Value;
 
-fn is_white(side: Side) -> bool
+pub fn is_white(side: Side) -> bool
     ensures { result ≡ is_white side }
 {
     match side {
@@ -28,7 +28,7 @@ fn is_white(side: Side) -> bool
 }
 
 /// The number before the first move, and before each of White's.
-pub fn add_number<A: Allocator>(
+fn add_number<A: Allocator>(
     text: &mut Text<'_, A>,
     first: bool,
     start: &Start,

@@ -1,18 +1,24 @@
 //! The solution as a tree.
-ghost use Rattle.std.specs.Prelude.{◌≡◌, true};
+ghost use Rattle.std.specs.Prelude.{◌≡◌, ◌++◌, true, OnOk};
+ghost use Rattle.study_marks.specs.Study.{IsPlayable};
 ghost use Rattle.study_moves.specs.Rules.{is_legal};
+ghost use Rattle.study_page.specs.Tree.{move_element, sign_words, dual_words, number_where, played_words, below_words, made_words, list_where, tree_words};
 
-use crate::rows::add_number;
-use crate::signs::mark_at;
+use crate::rows::is_white;
 use crate::words::add_short;
 use std::alloc::{AllocError, Allocator};
+use study_board::Side;
 use study_html::{Element, Html, put_words};
-use study_marks::{Bench, MoveMark, hero_moves};
-use study_pgn::add_san;
-use study_review::{Made, aim_in, count_at, made_in, value_at};
+use study_marks::{MarkedChild, MarkedNode, MoveMark};
+use study_moves::Move;
+use study_notation::Start;
+use study_pgn::{add_san, move_dots};
 use study_text::Text;
+use study_values::Value;
 
-fn move_element(mark: Option<MoveMark>) -> Element {
+fn move_element(mark: Option<MoveMark>) -> Element
+    ensures { result ≡ move_element mark }
+{
     match mark {
         Some(MoveMark::Only) => Element::Only,
         Some(MoveMark::Dual(_)) => Element::Dual,
@@ -27,7 +33,9 @@ fn put_sign<'a, A: Allocator>(
     alloc: &'a A,
     html: &mut Html<'_, A>,
     mark: Option<MoveMark>,
-) -> Result<(), AllocError> {
+) -> Result<(), AllocError>
+    ensures { OnOk result (html.new ≡ html.old ++ sign_words mark) }
+{
     match mark {
         Some(MoveMark::Only) => put_words(alloc, html, Element::Sign, b"!"),
         Some(MoveMark::Mistake) => put_words(alloc, html, Element::Sign, b"?"),
@@ -35,11 +43,14 @@ fn put_sign<'a, A: Allocator>(
     }
 }
 
+/// How many other moves hold beside a dual.
 fn put_dual<'a, A: Allocator>(
     alloc: &'a A,
     html: &mut Html<'_, A>,
     mark: Option<MoveMark>,
-) -> Result<(), AllocError> {
+) -> Result<(), AllocError>
+    ensures { OnOk result (html.new ≡ html.old ++ dual_words mark) }
+{
     match mark {
         Some(MoveMark::Dual(count)) => {
             let mut text = Text::new(alloc);
@@ -52,82 +63,121 @@ fn put_dual<'a, A: Allocator>(
     }
 }
 
-/// The move to the node at the path, with its sign and its value.
-fn put_made<'a, 'b, A: Allocator, B: Allocator>(
+/// The number of a move, before the first of a line and before each of White's.
+fn add_number<A: Allocator>(
+    text: &mut Text<'_, A>,
+    first: bool,
+    start: &Start,
+) -> Result<(), AllocError>
+    ensures { OnOk result (text.new ≡ text.old ++ number_where first start.now) }
+{
+    let side = start.position.to_move();
+    if first || is_white(side) {
+        text.add_number(start.number as u32)?;
+        text.add(move_dots(side))?;
+        return text.add(b" ");
+    }
+    Ok(())
+}
+
+/// A move with its number and its sign.
+#[tactic(auto, unfolding(crate::specs::Tree::played_words))]
+fn put_played<'a, A: Allocator>(
     alloc: &'a A,
     html: &mut Html<'_, A>,
-    bench: &Bench<'b, B>,
-    steps: &[u16],
-    made: &Made,
-    numbered: bool,
+    first: bool,
+    start: &Start,
+    played: Move,
+    mark: Option<MoveMark>,
 ) -> Result<(), AllocError>
-    requires { is_legal made.now.before.position made.now.played ≡ true }
+    requires { is_legal start.now.position played ≡ true }
+    ensures { OnOk result (html.new ≡ html.old ++ played_words first start.now played mark) }
 {
-    let before = &made.before;
-    let mark = mark_at(bench, steps);
-    let aim = aim_in(bench);
     let mut text = Text::new(alloc);
     let mut within = Html::new(alloc);
-    let mut value = Text::new(alloc);
-    let side = before.position.to_move();
-    add_number(&mut text, numbered, bench.start(), before.depth, side)?;
-    add_san(&mut text, &before.position, made.played)?;
+    add_number(&mut text, first, start)?;
+    add_san(&mut text, &start.position, played)?;
     within.say(text.as_slice())?;
     put_sign(alloc, &mut within, mark)?;
-    html.put(move_element(mark), &within)?;
-    let hero = hero_moves(&aim, steps.len());
-    add_short(&mut value, hero, value_at(bench, steps))?;
-    put_words(alloc, html, Element::Below, value.as_slice())?;
-    put_dual(alloc, html, mark)?;
+    html.put(move_element(mark), &within)
+}
+
+/// Small, the value after a move of this side.
+#[tactic(auto, unfolding(crate::specs::Tree::below_words))]
+fn put_below<'a, A: Allocator>(
+    alloc: &'a A,
+    html: &mut Html<'_, A>,
+    hero: Side,
+    mover: Side,
+    value: Value,
+) -> Result<(), AllocError>
+    ensures { OnOk result (html.new ≡ html.old ++ below_words hero mover value) }
+{
+    let mut text = Text::new(alloc);
+    add_short(&mut text, mover.other() == hero, value)?;
+    put_words(alloc, html, Element::Below, text.as_slice())
+}
+
+/// The move that leads to a child, with its sign, and the value after it. It is a call of its own, so that a ply of the tree takes little of the
+/// stack.
+#[inline(never)]
+#[tactic(auto, unfolding(crate::specs::Tree::made_words))]
+fn put_made<'t, 'a, 'b, A: Allocator, B: Allocator>(
+    alloc: &'a A,
+    html: &mut Html<'_, A>,
+    hero: Side,
+    first: bool,
+    start: &Start,
+    child: &MarkedChild<'t, 'b, B>,
+) -> Result<(), AllocError>
+    requires { is_legal start.now.position child.now.played ≡ true }
+    ensures { OnOk result (html.new ≡ html.old ++ made_words hero first start.now child.now.played child.now.node.label) }
+{
+    let mark = child.node.mark();
+    put_played(alloc, html, first, start, child.played, mark.on_move)?;
+    put_below(alloc, html, hero, start.position.to_move(), mark.value)?;
+    put_dual(alloc, html, mark.on_move)?;
     html.say(b" ")
 }
 
-fn put_move<'a, 'b, A: Allocator, B: Allocator>(
-    alloc: &'a A,
-    html: &mut Html<'_, A>,
-    bench: &Bench<'b, B>,
-    steps: &[u16],
-    numbered: bool,
-) -> Result<(), AllocError> {
-    match made_in(bench, steps) {
-        None => Ok(()),
-        Some(made) => put_made(alloc, html, bench, steps, &made, numbered),
-    }
-}
-
-/// What follows the node at the path: the first move, variations for the others in a list, and what follows the first.
-/// At most so many plies are left.
-///
-/// No contract but that of `Html`, well nested: the expected pages of the gate tell the rest.
-pub fn put_following<'a, 'b, A: Allocator, B: Allocator>(
-    alloc: &'a A,
-    html: &mut Html<'_, A>,
-    bench: &Bench<'b, B>,
-    steps: &mut Vec<u16, &A>,
-    numbered: bool,
-    left: u16,
-) -> Result<(), AllocError> {
-    let count = count_at(bench, steps.as_slice());
-    if left == 0 || count == 0 {
+/// Items as a list, where there are any.
+fn put_list<A: Allocator>(html: &mut Html<'_, A>, items: &Html<'_, A>) -> Result<(), AllocError>
+    ensures { OnOk result (html.new ≡ html.old ++ list_where items.now) }
+{
+    if items.is_empty() {
         return Ok(());
     }
+    html.put(Element::List, items)
+}
+
+/// What follows a node: the first move, the variations for the others in a list, and what follows the first.
+pub fn put_following<'t, 'a, 'b, A: Allocator, B: Allocator>(
+    alloc: &'a A,
+    html: &mut Html<'_, A>,
+    hero: Side,
+    first: bool,
+    start: &Start,
+    node: &MarkedNode<'t, 'b, B>,
+) -> Result<(), AllocError>
+    requires { IsPlayable start.now.position node.now.below }
+    ensures { OnOk result (html.new ≡ html.old ++ tree_words hero first start.now node.now.below) }
+{
+    let Some(main) = node.child(0) else {
+        return Ok(());
+    };
+    put_made(alloc, html, hero, first, start, &main)?;
     let mut list = Html::new(alloc);
-    steps.push(0)?;
-    put_move(alloc, html, bench, steps.as_slice(), numbered)?;
-    steps.pop();
-    for place in 1..count {
+    for place in 1..node.width() {
+        let Some(other) = node.child(place) else {
+            unreachable!()
+        };
         let mut item = Html::new(alloc);
-        steps.push(place)?;
-        put_move(alloc, &mut item, bench, steps.as_slice(), true)?;
-        put_following(alloc, &mut item, bench, steps, false, left - 1)?;
-        steps.pop();
+        put_made(alloc, &mut item, hero, true, start, &other)?;
+        let after = start.played(other.played);
+        put_following(alloc, &mut item, hero, false, &after, &other.node)?;
         list.put(Element::Item, &item)?;
     }
-    if !list.is_empty() {
-        html.put(Element::List, &list)?;
-    }
-    steps.push(0)?;
-    put_following(alloc, html, bench, steps, 1 < count, left - 1)?;
-    steps.pop();
-    Ok(())
+    put_list(html, &list)?;
+    let next = start.played(main.played);
+    put_following(alloc, html, hero, 1 < node.width(), &next, &main.node)
 }

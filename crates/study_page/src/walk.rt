@@ -26,7 +26,8 @@ pub enum Part {
     Ends,
 }
 
-/// What the part has of the node at the path.
+/// What the part has of the node at the path. It is a call of its own, so that a ply of `add_each` takes little of the stack.
+#[inline(never)]
 fn add_own<'a, 'b, A: Allocator, B: Allocator, V: Values>(
     alloc: &'a A,
     part: Part,

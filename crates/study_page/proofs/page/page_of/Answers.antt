@@ -4,8 +4,6 @@ use Rattle.study_page.proofs.page.page_of.Goals as goal
 pub returns-clause-text : goal.returns-clause-text
 returns-clause-text g c h =
     let p = c.in_ok-parts.ensures.text h in (
-      c.as_slice.result.now,
-      c.in_ok-tree.tree,
       c.in_ok-parts.parts.faults,
       c.in_ok-parts.parts.duals,
       c.in_ok-parts.parts.tries,

@@ -1,0 +1,108 @@
+-- The tree of the solution, child by child.
+use Rattle.std.proofs.Common.{◌≡◌, ℕ, zero, suc, ◌+◌, ◌≤◌, Bool, true, false, not, List, [], ◌++◌, Option, Some, None}
+use Rattle.std.proofs.Common.{refl, sym, ap, ◌∙◌, arith, append_assoc, add-one, nat_lt}
+use Rattle.std.proofs.lemmas.Bool.{lt-ltb}
+use Rattle.std.proofs.lemmas.List.{append-nil}
+use Rattle.study_board.specs.declared.men.Side.{Side}
+use Rattle.study_notation.specs.declared.start.Start.{Start}
+use Rattle.study_notation.specs.Played.{start_after}
+use Rattle.study_tree.specs.Forest.{Forest, none, more, Twig}
+use Rattle.study_tree.specs.Edits.{node_in, width}
+use Rattle.study_marks.specs.declared.mark.Mark.{Mark}
+use Rattle.study_pgn.proofs.PathWalks.{skip}
+use Rattle.study_review.specs.Nodes.{has_none}
+use Rattle.study_html.specs.declared.element.Element.TheVariants.{Item}
+use Rattle.study_html.specs.Elements.{inside}
+use Rattle.study_page.specs.Tree.{made_words, list_where, tree_words, item_words}
+
+skip_zero : (f : Forest Mark) → skip 0 f ≡ f
+skip_zero none = refl
+skip_zero (more m l b r) = refl
+
+skip_all : (k : ℕ) (f : Forest Mark) → width f ≤ k → skip k f ≡ none
+skip_all k none h = refl
+skip_all zero (more m l b r) h = absurd (omega (arith, h))
+skip_all (suc k) (more m l b r) h = skip_all k r (omega (arith, h))
+
+-- there are other moves beside the first
+others_there : (f : Forest Mark) → nat_lt 1 (width f) ≡ not (has_none (skip 1 f))
+others_there none = refl
+others_there (more m l b none) = refl
+others_there (more m l b (more n j c r)) = lt-ltb 1 (1 + (1 + width r)) (omega arith)
+
+module _ (hero : Side) (s : Start) where
+  -- ---- the first move
+
+  abbrev first_text : Bool → Forest Mark → Option (Twig Mark) → List ℕ
+  first_text first f None = []
+  first_text first f (Some t) =
+      made_words hero first s t.played t.label
+      ++ (list_where (item_words hero s (skip 1 f)) ++ tree_words hero (not (has_none (skip 1 f))) (start_after s t.played) t.below)
+
+  tree_is : (first : Bool) (f : Forest Mark) → tree_words hero first s f ≡ first_text first f (node_in f 0 [])
+  tree_is first none = refl
+  tree_is first (more m l b r) =
+      ap (λ g. made_words hero first s m l ++ (list_where (item_words hero s g) ++ tree_words hero (not (has_none g)) (start_after s m) b))
+      (sym (skip_zero r))
+
+  tree_first : (first : Bool) (f : Forest Mark) (t : Twig Mark) → node_in f 0 [] ≡ Some t →
+      tree_words hero first s f ≡ made_words hero first s t.played t.label
+      ++ (list_where (item_words hero s (skip 1 f)) ++ tree_words hero (not (has_none (skip 1 f))) (start_after s t.played) t.below)
+  tree_first first f t e = tree_is first f ∙ ap (first_text first f) e
+
+  -- nothing follows
+  pub no_tree : (first : Bool) (f : Forest Mark) (html : List ℕ) → node_in f 0 [] ≡ None → html ≡ html ++ tree_words hero first s f
+  no_tree first f html e = sym (append-nil html) ∙ ap (λ (x : List ℕ). html ++ x) (sym (tree_is first f ∙ ap (first_text first f) e))
+
+  -- ---- the others
+
+  abbrev other_text : List ℕ → Option (Twig Mark) → List ℕ
+  other_text rest None = rest
+  other_text rest (Some t) = inside Item (made_words hero true s t.played t.label ++ tree_words hero false (start_after s t.played) t.below) ++ rest
+
+  items_are : (f : Forest Mark) (k : ℕ) → item_words hero s (skip k f) ≡ other_text (item_words hero s (skip (suc k) f)) (node_in f k [])
+  items_are none k = refl
+  items_are (more m l b r) zero =
+      ap (λ g. inside Item (made_words hero true s m l ++ tree_words hero false (start_after s m) b) ++ item_words hero s g) (sym (skip_zero r))
+  items_are (more m l b r) (suc k) = items_are r k
+
+  items_first : (f : Forest Mark) (k : ℕ) (t : Twig Mark) → node_in f k [] ≡ Some t →
+      item_words hero s (skip k f) ≡ inside Item (made_words hero true s t.played t.label ++ tree_words hero false (start_after s t.played) t.below)
+      ++ item_words hero s (skip (suc k) f)
+  items_first f k t e = items_are f k ∙ ap (other_text (item_words hero s (skip (suc k) f))) e
+
+  items_done : (f : Forest Mark) (k : ℕ) → width f ≤ k → item_words hero s (skip k f) ≡ []
+  items_done f k h = ap (item_words hero s) (skip_all k f h)
+
+  module _ (f : Forest Mark) (k : ℕ) (t : Twig Mark) (next : Start) (en : next ≡ start_after s t.played) where
+    -- an item is written: its move, what follows it, and then the item in the list
+    pub item_written : (empty made item list whole : List ℕ) (grown : List ℕ) → node_in f k [] ≡ Some t → empty ≡ []
+        → made ≡ empty ++ made_words hero true s t.played t.label → item ≡ made ++ tree_words hero false next t.below
+        → grown ≡ list ++ inside Item item → list ++ item_words hero s (skip k f) ≡ whole → grown ++ item_words hero s (skip (k + 1) f) ≡ whole
+    item_written empty made item list whole grown e ee em ei eg h =
+        let v = item_words hero s (skip (suc k) f) in
+        let words : item ≡ made_words hero true s t.played t.label ++ tree_words hero false (start_after s t.played) t.below =
+        ei ∙ ap (λ x. made ++ tree_words hero false x t.below) en
+        ∙ ap (λ (x : List ℕ). x ++ tree_words hero false (start_after s t.played) t.below)
+        (em ∙ ap (λ (x : List ℕ). x ++ made_words hero true s t.played t.label) ee) in
+        ap (λ j. grown ++ item_words hero s (skip j f)) (add-one k) ∙ ap (λ (x : List ℕ). x ++ v) (eg ∙ ap (λ (x : List ℕ). list ++ inside Item x) words)
+        ∙ append_assoc list (inside Item (made_words hero true s t.played t.label ++ tree_words hero false (start_after s t.played) t.below)) v
+        ∙ ap (λ (x : List ℕ). list ++ x) (sym (items_first f k t e)) ∙ h
+
+  module _ (first : Bool) (f : Forest Mark) (k : ℕ) (t : Twig Mark) (next : Start) (en : next ≡ start_after s t.played) where
+    -- all is written: the first move, the list of the others, and what follows the first
+    pub tree_written : (old made list listed new : List ℕ) (wide : Bool) → node_in f 0 [] ≡ Some t
+        → made ≡ old ++ made_words hero first s t.played t.label → width f ≤ k
+        → list ++ item_words hero s (skip k f) ≡ item_words hero s (skip 1 f) → listed ≡ made ++ list_where list
+        → wide ≡ nat_lt 1 (width f) → new ≡ listed ++ tree_words hero wide next t.below → new ≡ old ++ tree_words hero first s f
+    tree_written old made list listed new wide e em few h el ew n =
+        let w = made_words hero first s t.played t.label in
+        let done : list ≡ item_words hero s (skip 1 f) =
+        sym (append-nil list) ∙ ap (λ (x : List ℕ). list ++ x) (sym (items_done f k few)) ∙ h in
+        let l = list_where (item_words hero s (skip 1 f)) in
+        let b = tree_words hero (not (has_none (skip 1 f))) (start_after s t.played) t.below in
+        let after : tree_words hero wide next t.below ≡ b =
+        ap (λ x. tree_words hero wide x t.below) en ∙ ap (λ x. tree_words hero x (start_after s t.played) t.below) (ew ∙ others_there f) in
+        n ∙ ap (λ (x : List ℕ). listed ++ x) after ∙ ap (λ (x : List ℕ). x ++ b) (el ∙ ap (λ (x : List ℕ). made ++ list_where x) done
+        ∙ ap (λ (x : List ℕ). x ++ l) em) ∙ append_assoc (old ++ w) l b ∙ append_assoc old w (l ++ b)
+        ∙ ap (λ (x : List ℕ). old ++ x) (sym (tree_first first f t e))
