@@ -98,14 +98,14 @@ fn list_into<'a, A: Allocator>(
     for word in theme.split(' ') {
         words.push(word)?;
     }
-    let Some(request) = read_request(class, words.as_slice()) else {
+    let Ok(request) = read_request(class, words.as_slice()) else {
         return Err(refused());
     };
     match search_of(&request, values) {
         Err(_) => Err(refused()),
         Ok(None) => Ok(0),
         Ok(Some(search)) => {
-            match list_found(&search, Form::Lines, u32::MAX, values, text, &mut NoWatch) {
+            match list_found(&search, Form::Lines, values, text, &mut NoWatch) {
                 Ok(count) => Ok(count),
                 Err(_) => Err(refused()),
             }

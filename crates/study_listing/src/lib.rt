@@ -1,14 +1,23 @@
 //! Lists of the positions that are found: what words ask for, the line of a position or its study, and the list as it is found.
 //!
 //! Which positions are listed, and that none is missing, is said and proved in `study_search`; the texts of FENs and moves are those of
-//! `study_notation`.
+//! `study_notation`. `list_found` writes the whole list, `list_numbers` that of a range of numbers, and `count_found` and
+//! `count_numbers` count; the public functions of `laws` prove that there is one such list, and that it has each position.
 #![tactic(auto)]
 
+mod facts;
 mod fault;
+mod laws;
 mod listing;
 mod request;
-mod words;
+mod text;
 
+pub use facts::{Facts, Wanted, facts_of};
 pub use fault::Stop;
-pub use listing::{Form, MAX_STUDIES, NoWatch, Watch, list_found, search_of};
-pub use request::{Request, has_like_sides, read_request};
+pub use laws::{lists_are_unique, lists_have_all};
+pub use listing::{
+    MAX_STUDIES, NoWatch, Numbers, Watch, count_found, count_numbers, has_like_sides, list_found,
+    list_numbers, search_of,
+};
+pub use request::{Request, Unread, read_request};
+pub use text::{Form, Listed, text_of};

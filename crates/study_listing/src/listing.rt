@@ -1,30 +1,26 @@
-//! The list of the positions that are found, a line each, as they are found.
-ghost use Rattle.std.specs.Prelude.{◌≡◌, ◌≤◌, ◌<◌, true, IfOk, IfSome};
-ghost use Rattle.study_moves.specs.Rules.{is_legal};
+//! The list of the positions that are found, as they are found.
+ghost use Rattle.std.specs.Prelude.{◌≡◌, ◌↔◌, ◌≤◌, ◌<◌, ℕ, true, false, Some, IfOk, IfErr, IfSome, IfNone, OnErr, IsErrOf};
+ghost use Rattle.study_board.specs.Position.{Position as APosition};
+ghost use Rattle.study_index.specs.Computed.{position_numbered};
+ghost use Rattle.study_material.specs.declared.class.Class.{Class as AClass};
+ghost use Rattle.study_search.specs.Finding.{IsFound, IsLookedFor};
+ghost use Rattle.study_values.specs.declared.values.ProbeFault.{ProbeFault as AFault};
+ghost use Rattle.study_values.specs.Number.{cells_of};
+ghost use Rattle.study_values.specs.Values.{IsNotDamage};
+ghost use Rattle.study_listing.specs.Lists.{has_like_sides, is_of_zugzwangs, is_for_white, is_paired, IsOneOfPair, IsListed, IsListedAt, IsTextAt};
+ghost use Rattle.study_listing.specs.Lists.{AreSoMany, HasWritten, HasWrittenSome, HasStopped, IsSearchOf};
+ghost use Rattle.study_listing.specs.Stops.{StopsUndamaged};
 
 use crate::fault::Stop;
-use crate::request::{Request, has_like_sides};
-use crate::words::{put_fen, put_san, put_value};
+use crate::request::Request;
+use crate::text::{Form, Listed, text_of};
 use std::io::Write;
 use study_board::{Position, Side};
 use study_index::decode;
-use study_moves::Move;
-use study_search::{
-    Outcome, Search, Theme, handed_on, is_listed_of_two, key_move, longest_mate, next_found,
-};
+use study_material::Class;
+use study_search::{Search, Theme, is_listed_of_two, longest_mate, next_found};
 use study_text::write_text;
-use study_values::{Value, Values, cells};
-
-/// How positions are listed.
-#[derive(Clone, Copy, Debug, PartialEq, Eq)]
-pub enum Form {
-    /// A position a line, with its values or its key move.
-    Lines,
-    /// Nothing but how many there are.
-    Count,
-    /// The commands of a script that makes each a study.
-    Script,
-}
+use study_values::{ProbeFault, Values, cells};
 
 /// The most studies that a script holds: with four lines a study, 100,000 lines.
 pub const MAX_STUDIES: u32 = 25_000;
@@ -32,10 +28,17 @@ pub const MAX_STUDIES: u32 = 25_000;
 /// How many numbers are looked through before it is said how far the search has come.
 const PIECE: u32 = 100_000;
 
+/// The numbers from one on and below another.
+#[derive(Clone, Copy, Debug, PartialEq, Eq)]
+pub struct Numbers {
+    pub from: u32,
+    pub to: u32,
+}
+
 /// Is informed how far a search has come.
 pub trait Watch: Drop {
-    /// So many of all numbers are looked through, and so many positions found.
-    fn passed(&mut self, numbers: u32, all: u32, found: u32);
+    /// The numbers below this one are looked through, and so many positions found.
+    fn passed(&mut self, number: u32, end: u32, found: u32);
 }
 
 /// Nobody is informed.
@@ -43,194 +46,328 @@ pub trait Watch: Drop {
 pub struct NoWatch;
 
 impl Watch for NoWatch {
-    fn passed(&mut self, _numbers: u32, _all: u32, _found: u32) {}
+    fn passed(&mut self, _number: u32, _end: u32, _found: u32) {}
 }
 
-/// The outcome that a side to move with this value has.
-fn outcome_with(value: Value) -> Option<Outcome> {
-    match value {
-        Value::Win(_) => Some(Outcome::Win),
-        Value::Draw => Some(Outcome::Draw),
-        Value::Loss(_) => None,
-    }
-}
-
-/// The move that alone keeps what the side to move has.
-fn key_of<V: Values>(p: &Position, value: Value, values: &mut V) -> Result<Option<Move>, Stop>
-    ensures { IfOk result (λ key. IfSome key (λ m. is_legal p.now m ≡ true)) }
+/// Whether both sides have the same men, so that each position has a colour image in the class.
+pub fn has_like_sides(class: Class) -> bool
+    ensures { result ≡ has_like_sides class }
 {
-    match outcome_with(value) {
-        None => Ok(None),
-        Some(outcome) => match key_move(p, outcome, values) {
-            Ok(key) => Ok(key),
-            Err(fault) => Err(Stop::Values(fault)),
-        },
-    }
+    matches!(
+        class,
+        Class::KK | Class::KQKQ | Class::KRKR | Class::KBKB | Class::KNKN | Class::KPKP
+    )
 }
 
-/// After the value of a mutual zugzwang that of the same men with the other side to move.
-fn put_other_value<V: Values, W: Write>(
-    p: &Position,
-    values: &mut V,
-    out: &mut W,
-) -> Result<(), Stop> {
-    if let Some(q) = handed_on(p) {
-        let other = values.value(&q)?;
-        write_text(out, b" ")?;
-        put_value(out, other)?;
-    }
-    Ok(())
-}
-
-fn put_key<V: Values, W: Write>(
-    p: &Position,
-    value: Value,
-    values: &mut V,
-    out: &mut W,
-) -> Result<(), Stop> {
-    if let Some(m) = key_of(p, value, values)? {
-        write_text(out, b" ")?;
-        put_san(out, p, m)?;
-    }
-    Ok(())
-}
-
-/// `FEN VALUE`, and then for a zugzwang the value with the other side to move, for a long mate nothing, and else the key.
-fn put_line<V: Values, W: Write>(
-    theme: Theme,
-    p: &Position,
-    values: &mut V,
-    out: &mut W,
-) -> Result<(), Stop> {
-    let value = values.value(p)?;
-    put_fen(out, p)?;
-    write_text(out, b" ")?;
-    put_value(out, value)?;
+pub(crate) fn is_of_zugzwangs(theme: Theme) -> bool
+    ensures { result ≡ is_of_zugzwangs theme }
+{
     match theme {
-        Theme::Zugzwang => put_other_value(p, values, out)?,
-        Theme::MateIn(_) => {}
-        _ => put_key(p, value, values, out)?,
+        Theme::Zugzwang => true,
+        _ => false,
     }
-    write_text(out, b"\n")?;
-    Ok(())
 }
 
-/// Who is to do what: the side to move wins or draws, or the other side wins.
-fn put_stipulation<W: Write>(to_move: Side, value: Value, out: &mut W) -> Result<(), Stop> {
-    let hero = match value {
-        Value::Loss(_) => to_move.other(),
-        _ => to_move,
-    };
-    match hero {
-        Side::White => write_text(out, b"\nstipulate white ")?,
-        Side::Black => write_text(out, b"\nstipulate black ")?,
+fn is_for_white(side: Option<Side>) -> bool
+    ensures { result ≡ is_for_white side }
+{
+    match side {
+        Some(Side::White) => true,
+        _ => false,
     }
-    match value {
-        Value::Draw => write_text(out, b"draw\n")?,
-        _ => write_text(out, b"win\n")?,
-    }
-    Ok(())
 }
 
-/// The study of a position: what the side to move reaches, and the one move that keeps it, where there is one.
-fn put_study<V: Values, W: Write>(p: &Position, values: &mut V, out: &mut W) -> Result<(), Stop> {
-    let value = values.value(p)?;
-    write_text(out, b"position ")?;
-    put_fen(out, p)?;
-    put_stipulation(p.to_move(), value, out)?;
-    if let Some(m) = key_of(p, value, values)? {
-        write_text(out, b"insert root ")?;
-        put_san(out, p, m)?;
-        write_text(out, b"\n")?;
-    }
-    write_text(out, b"pgn\n")?;
-    Ok(())
+/// Whether each mutual zugzwang is found in two placements.
+fn is_paired(search: &Search) -> bool
+    ensures { result ≡ is_paired search.now }
+{
+    is_of_zugzwangs(search.theme) && is_for_white(search.side) && has_like_sides(search.class)
 }
 
-/// Whether a position that is found is listed: of the two placements of a mutual zugzwang in a class whose sides have the same men one is.
-fn is_listed<V: Values>(search: &Search, p: &Position, values: &mut V) -> Result<bool, Stop> {
-    let paired = search.theme == Theme::Zugzwang
-        && search.side == Some(Side::White)
-        && has_like_sides(search.class);
+/// Whether a position that is looked for is listed: of the two placements of a mutual zugzwang one is.
+fn is_listed<V: Values>(search: &Search, p: &Position, values: &mut V) -> Result<bool, ProbeFault>
+    ensures game { V.is_honest values.old → IsLookedFor search.now p.now → IfOk result (λ b. (b ≡ true) ↔ IsListed search.now p.now) }
+    ensures no_table { (c : AClass) → IsErrOf result (ProbeFault.NoTable c) → V.held values.old c ≡ false }
+    ensures no_damage { V.is_honest values.old → IfErr result IsNotDamage }
+    ensures honest { V.is_honest values.old → V.is_honest values.new }
+    ensures tables { (c : AClass) → V.held values.new c ≡ V.held values.old c }
+{
+    let paired = is_paired(search);
     if paired {
-        return Ok(is_listed_of_two(p, values)?);
+        return is_listed_of_two(p, values);
     }
     Ok(true)
 }
 
-fn put_position<V: Values, W: Write>(
+/// The position of a number that is found, if it is listed.
+fn listed_at<V: Values>(
     search: &Search,
-    form: Form,
-    p: &Position,
+    number: u32,
     values: &mut V,
-    out: &mut W,
-) -> Result<(), Stop> {
-    match form {
-        Form::Lines => put_line(search.theme, p, values, out),
-        Form::Count => Ok(()),
-        Form::Script => put_study(p, values, out),
+) -> Result<Option<Position>, ProbeFault>
+    ensures some { V.is_honest values.old → IsFound search.now number → IfOk result (λ at. IfSome at (λ p. IsListedAt search.now number)) }
+    ensures none { V.is_honest values.old → IsFound search.now number → IfOk result (λ at. IfNone at (¬ (IsListedAt search.now number))) }
+    ensures position { IfOk result (λ at. IfSome at (λ p. position_numbered search.now.class number ≡ Some p)) }
+    ensures no_table { (c : AClass) → IsErrOf result (ProbeFault.NoTable c) → V.held values.old c ≡ false }
+    ensures no_damage { V.is_honest values.old → IfErr result IsNotDamage }
+    ensures honest { V.is_honest values.old → V.is_honest values.new }
+    ensures tables { (c : AClass) → V.held values.new c ≡ V.held values.old c }
+{
+    match decode(search.class, number) {
+        None => Ok(None),
+        Some(p) => match is_listed(search, &p, values) {
+            Err(fault) => Err(fault),
+            Ok(true) => Ok(Some(p)),
+            Ok(false) => Ok(None),
+        },
     }
 }
 
-/// Writes the position of a number that is found, if it is listed.
-fn put_number<V: Values, W: Write>(
+/// The text of a number that is found, if it is listed.
+fn text_at<V: Values>(
     search: &Search,
     form: Form,
     number: u32,
     values: &mut V,
-    out: &mut W,
-) -> Result<bool, Stop> {
-    let Some(p) = decode(search.class, number) else {
-        return Ok(false);
-    };
-    let listed = is_listed(search, &p, values)?;
-    if listed {
-        put_position(search, form, &p, values, out)?;
+) -> Result<Option<Listed>, ProbeFault>
+    ensures some { V.is_honest values.old → IsFound search.now number → IfOk result (λ at. IfSome at (λ p. IsListedAt search.now number)) }
+    ensures none { V.is_honest values.old → IsFound search.now number → IfOk result (λ at. IfNone at (¬ (IsListedAt search.now number))) }
+    ensures text { V.is_honest values.old → IfOk result (λ at. IfSome at (λ text. IsTextAt search.now form number text.bytes)) }
+    ensures no_table { (c : AClass) → IsErrOf result (ProbeFault.NoTable c) → V.held values.old c ≡ false }
+    ensures no_damage { V.is_honest values.old → IfErr result IsNotDamage }
+    ensures honest { V.is_honest values.old → V.is_honest values.new }
+    ensures tables { (c : AClass) → V.held values.new c ≡ V.held values.old c }
+{
+    match listed_at(search, number, values) {
+        Err(fault) => Err(fault),
+        Ok(None) => Ok(None),
+        Ok(Some(p)) => match text_of(&p, form, search.theme, values) {
+            Err(fault) => Err(fault),
+            Ok(text) => Ok(Some(text)),
+        },
     }
-    Ok(listed)
+}
+
+/// Where the next piece of a range ends.
+fn piece_end(at: u32, to: u32) -> u32
+    requires { at < to }
+    ensures on { at < result }
+    ensures within { result ≤ to }
+{
+    at.saturating_add(PIECE).min(to)
+}
+
+/// How many positions of a range of numbers are listed.
+pub fn count_numbers<V: Values, H: Watch>(
+    search: &Search,
+    numbers: Numbers,
+    values: &mut V,
+    watch: &mut H,
+) -> Result<u32, ProbeFault>
+    ensures count { V.is_honest values.old → IfOk result (AreSoMany search.now numbers.from numbers.to) }
+    ensures no_table { (c : AClass) → IsErrOf result (ProbeFault.NoTable c) → V.held values.old c ≡ false }
+    ensures no_damage { V.is_honest values.old → IfErr result IsNotDamage }
+    ensures honest { V.is_honest values.old → V.is_honest values.new }
+    ensures tables { (c : AClass) → V.held values.new c ≡ V.held values.old c }
+{
+    let mut at = numbers.from;
+    let mut count = 0u32;
+    while at < numbers.to {
+        let end = piece_end(at, numbers.to);
+        match next_found(search, at, end, values) {
+            Err(fault) => return Err(fault),
+            Ok(None) => {
+                at = end;
+                watch.passed(at, numbers.to, count);
+            }
+            Ok(Some(number)) => match listed_at(search, number, values) {
+                Err(fault) => return Err(fault),
+                Ok(None) => at = number + 1,
+                Ok(Some(_)) => {
+                    at = number + 1;
+                    count += 1;
+                }
+            },
+        }
+    }
+    Ok(count)
+}
+
+/// Writes the positions of a range of numbers that are listed, as they are found, and gives their number.
+///
+/// Where a value is not known or the writer fails, what is found before that has been written.
+pub fn list_numbers<V: Values, W: Write, H: Watch>(
+    search: &Search,
+    form: Form,
+    numbers: Numbers,
+    values: &mut V,
+    out: &mut W,
+    watch: &mut H,
+) -> Result<u32, Stop>
+    ensures list { V.is_honest values.old → IfOk result (HasWritten search.now form numbers.from numbers.to (W.contents out.old) (W.contents out.new)) }
+    ensures values { V.is_honest values.old → (f : AFault) → IsErrOf result (Stop.Values f)
+        → HasWrittenSome search.now form numbers.from numbers.to (W.contents out.old) (W.contents out.new) }
+    ensures device { V.is_honest values.old → IsErrOf result Stop.WriteDevice
+        → HasStopped search.now form numbers.from numbers.to (W.contents out.old) (W.contents out.new) }
+    ensures fits { ¬ (IsErrOf result Stop.TooManyStudies) }
+    ensures no_table { (c : AClass) → IsErrOf result (Stop.Values (ProbeFault.NoTable c)) → V.held values.old c ≡ false }
+    ensures no_damage { V.is_honest values.old → IfErr result StopsUndamaged }
+    ensures honest { V.is_honest values.old → V.is_honest values.new }
+    ensures tables { (c : AClass) → V.held values.new c ≡ V.held values.old c }
+{
+    let mut at = numbers.from;
+    let mut count = 0u32;
+    while at < numbers.to {
+        let end = piece_end(at, numbers.to);
+        match next_found(search, at, end, values) {
+            Err(fault) => return Err(Stop::Values(fault)),
+            Ok(None) => {
+                at = end;
+                watch.passed(at, numbers.to, count);
+            }
+            Ok(Some(number)) => match text_at(search, form, number, values) {
+                Err(fault) => return Err(Stop::Values(fault)),
+                Ok(None) => at = number + 1,
+                Ok(Some(text)) => match write_text(out, text.as_str().as_bytes()) {
+                    Err(_) => return Err(Stop::WriteDevice),
+                    Ok(()) => {
+                        at = number + 1;
+                        count += 1;
+                    }
+                },
+            },
+        }
+    }
+    Ok(count)
+}
+
+/// How many positions are listed.
+pub fn count_found<V: Values, H: Watch>(
+    search: &Search,
+    values: &mut V,
+    watch: &mut H,
+) -> Result<u32, ProbeFault>
+    ensures count { V.is_honest values.old → IfOk result (AreSoMany search.now 0 (cells_of search.now.class)) }
+    ensures no_table { (c : AClass) → IsErrOf result (ProbeFault.NoTable c) → V.held values.old c ≡ false }
+    ensures no_damage { V.is_honest values.old → IfErr result IsNotDamage }
+    ensures honest { V.is_honest values.old → V.is_honest values.new }
+    ensures tables { (c : AClass) → V.held values.new c ≡ V.held values.old c }
+{
+    let all = Numbers {
+        from: 0,
+        to: cells(search.class),
+    };
+    count_numbers(search, all, values, watch)
+}
+
+/// Writes the lines.
+fn list_lines<V: Values, W: Write, H: Watch>(
+    search: &Search,
+    values: &mut V,
+    out: &mut W,
+    watch: &mut H,
+) -> Result<u32, Stop>
+    ensures list { V.is_honest values.old → IfOk result (HasWritten search.now Form.Lines 0 (cells_of search.now.class) (W.contents out.old) (W.contents out.new)) }
+    ensures values { V.is_honest values.old → (f : AFault) → IsErrOf result (Stop.Values f)
+        → HasWrittenSome search.now Form.Lines 0 (cells_of search.now.class) (W.contents out.old) (W.contents out.new) }
+    ensures device { V.is_honest values.old → IsErrOf result Stop.WriteDevice
+        → HasStopped search.now Form.Lines 0 (cells_of search.now.class) (W.contents out.old) (W.contents out.new) }
+    ensures fits { ¬ (IsErrOf result Stop.TooManyStudies) }
+    ensures no_table { (c : AClass) → IsErrOf result (Stop.Values (ProbeFault.NoTable c)) → V.held values.old c ≡ false }
+    ensures no_damage { V.is_honest values.old → IfErr result StopsUndamaged }
+    ensures honest { V.is_honest values.old → V.is_honest values.new }
+    ensures tables { (c : AClass) → V.held values.new c ≡ V.held values.old c }
+{
+    let all = Numbers {
+        from: 0,
+        to: cells(search.class),
+    };
+    list_numbers(search, Form::Lines, all, values, out, watch)
+}
+
+/// Writes the studies as a script. They are counted first, so that one with too many is refused before its first line.
+fn list_studies<V: Values, W: Write, H: Watch>(
+    search: &Search,
+    values: &mut V,
+    out: &mut W,
+    watch: &mut H,
+) -> Result<u32, Stop>
+    ensures list { V.is_honest values.old → IfOk result (HasWritten search.now Form.Script 0 (cells_of search.now.class) (W.contents out.old) (W.contents out.new)) }
+    ensures few { V.is_honest values.old → IfOk result (λ count. count ≤ 25000) }
+    ensures many { V.is_honest values.old → IsErrOf result Stop.TooManyStudies
+        → (count : ℕ) × AreSoMany search.now 0 (cells_of search.now.class) count × (25000 < count) }
+    ensures nothing { IsErrOf result Stop.TooManyStudies → out.new ≡ out.old }
+    ensures values { V.is_honest values.old → (f : AFault) → IsErrOf result (Stop.Values f)
+        → HasWrittenSome search.now Form.Script 0 (cells_of search.now.class) (W.contents out.old) (W.contents out.new) }
+    ensures device { V.is_honest values.old → IsErrOf result Stop.WriteDevice
+        → HasStopped search.now Form.Script 0 (cells_of search.now.class) (W.contents out.old) (W.contents out.new) }
+    ensures no_table { (c : AClass) → IsErrOf result (Stop.Values (ProbeFault.NoTable c)) → V.held values.old c ≡ false }
+    ensures no_damage { V.is_honest values.old → IfErr result StopsUndamaged }
+    ensures honest { V.is_honest values.old → V.is_honest values.new }
+    ensures tables { (c : AClass) → V.held values.new c ≡ V.held values.old c }
+{
+    let all = Numbers {
+        from: 0,
+        to: cells(search.class),
+    };
+    match count_numbers(search, all, values, &mut NoWatch) {
+        Err(fault) => Err(Stop::Values(fault)),
+        Ok(count) => {
+            if count > MAX_STUDIES {
+                return Err(Stop::TooManyStudies);
+            }
+            list_numbers(search, Form::Script, all, values, out, watch)
+        }
+    }
+}
+
+/// Writes the positions that are listed, as they are found, and gives their number. A script that would have too many studies is refused
+/// before its first line.
+pub fn list_found<V: Values, W: Write, H: Watch>(
+    search: &Search,
+    form: Form,
+    values: &mut V,
+    out: &mut W,
+    watch: &mut H,
+) -> Result<u32, Stop>
+    ensures list { V.is_honest values.old → IfOk result (HasWritten search.now form 0 (cells_of search.now.class) (W.contents out.old) (W.contents out.new)) }
+    ensures few { V.is_honest values.old → form ≡ Form.Script → IfOk result (λ count. count ≤ 25000) }
+    ensures many { V.is_honest values.old → IsErrOf result Stop.TooManyStudies
+        → (form ≡ Form.Script) × ((count : ℕ) × AreSoMany search.now 0 (cells_of search.now.class) count × (25000 < count)) }
+    ensures nothing { IsErrOf result Stop.TooManyStudies → out.new ≡ out.old }
+    ensures values { V.is_honest values.old → (f : AFault) → IsErrOf result (Stop.Values f)
+        → HasWrittenSome search.now form 0 (cells_of search.now.class) (W.contents out.old) (W.contents out.new) }
+    ensures device { V.is_honest values.old → IsErrOf result Stop.WriteDevice
+        → HasStopped search.now form 0 (cells_of search.now.class) (W.contents out.old) (W.contents out.new) }
+    ensures no_table { (c : AClass) → IsErrOf result (Stop.Values (ProbeFault.NoTable c)) → V.held values.old c ≡ false }
+    ensures no_damage { V.is_honest values.old → IfErr result StopsUndamaged }
+    ensures honest { V.is_honest values.old → V.is_honest values.new }
+    ensures tables { (c : AClass) → V.held values.new c ≡ V.held values.old c }
+{
+    match form {
+        Form::Lines => list_lines(search, values, out, watch),
+        Form::Script => list_studies(search, values, out, watch),
+    }
 }
 
 /// What is looked for where the longest mate of a side is asked for: no position, where it has none.
-pub fn search_of<V: Values>(request: &Request, values: &mut V) -> Result<Option<Search>, Stop> {
+pub fn search_of<V: Values>(request: &Request, values: &mut V) -> Result<Option<Search>, ProbeFault>
+    ensures game { V.is_honest values.old → IfOk result (IsSearchOf request.now) }
+    ensures no_table { (c : AClass) → IsErrOf result (ProbeFault.NoTable c) → V.held values.old c ≡ false }
+    ensures no_damage { V.is_honest values.old → IfErr result IsNotDamage }
+    ensures honest { V.is_honest values.old → V.is_honest values.new }
+    ensures tables { (c : AClass) → V.held values.new c ≡ V.held values.old c }
+{
     match request {
         Request::Positions(search) => Ok(Some(*search)),
-        Request::Longest(class, side) => match longest_mate(*class, *side, values)? {
-            None => Ok(None),
-            Some(plies) => Ok(Some(Search {
+        Request::Longest(class, side) => match longest_mate(*class, *side, values) {
+            Err(fault) => Err(fault),
+            Ok(None) => Ok(None),
+            Ok(Some(plies)) => Ok(Some(Search {
                 class: *class,
                 theme: Theme::MateIn(plies),
                 side: Some(*side),
             })),
         },
     }
-}
-
-/// Writes the positions that are found, at most so many, and answers how many they are.
-pub fn list_found<V: Values, W: Write, H: Watch>(
-    search: &Search,
-    form: Form,
-    most: u32,
-    values: &mut V,
-    out: &mut W,
-    watch: &mut H,
-) -> Result<u32, Stop> {
-    let end = cells(search.class);
-    let mut from = 0u32;
-    let mut found = 0u32;
-    while from < end && found < most {
-        let to = from.saturating_add(PIECE).min(end);
-        match next_found(search, from, to, values)? {
-            None => {
-                from = to;
-                watch.passed(from, end, found);
-            }
-            Some(number) => {
-                if put_number(search, form, number, values, out)? {
-                    found += 1;
-                }
-                from = number + 1;
-            }
-        }
-    }
-    Ok(found)
 }

@@ -23,7 +23,7 @@ none-more P a n b h e now k from l p = go (nat_lt k n) refl
         false≢true (sym e ∙ now.1 (subst P same p))
 
 module _ (P : ℕ → Type 0) where
-  in-range : (ns : List ℕ) (a b : ℕ) → AreFound P a b ns → (k i : ℕ) → i < length ns → slice_index_or ns i k ≡ k → (a ≤ k) × (k < b) × P k
+  pub in-range : (ns : List ℕ) (a b : ℕ) → AreFound P a b ns → (k i : ℕ) → i < length ns → slice_index_or ns i k ≡ k → (a ≤ k) × (k < b) × P k
   in-range [] a b h k i l e = absurd (omega (arith, l))
   in-range (n ∷ ns) a b h k zero l e = (subst (λ x. a ≤ x) e h.0.0, subst (λ x. x < b) e h.0.1, subst P e h.0.2)
   in-range (n ∷ ns) a b h k (suc i) l e =
@@ -33,7 +33,7 @@ module _ (P : ℕ → Type 0) where
       let low = r.0 in
       (omega (arith, from, low), r.1, r.2)
 
-  there : (ns : List ℕ) (a b : ℕ) → AreFound P a b ns → (k : ℕ) → a ≤ k → k < b → P k → Contains ns k
+  pub there : (ns : List ℕ) (a b : ℕ) → AreFound P a b ns → (k : ℕ) → a ≤ k → k < b → P k → Contains ns k
   there [] a b h k from below p = absurd (h k from below p)
   there (n ∷ ns) a b h k from below p = elim (cases_lt k n) [
     | inl l ↦ absurd (h.0.3 k from l p)
@@ -55,7 +55,7 @@ module _ (P : ℕ → Type 0) where
       let from = h.0.0 in
       All-cons (λ x. a ≤ x) n ns from (λ k d long. let low = above ns (n + 1) b h.1 k d long in omega (arith, from, low))
 
-  ascend : (ns : List ℕ) (a b : ℕ) → AreFound P a b ns → AllPairs (λ x y. x < y) ns
+  pub ascend : (ns : List ℕ) (a b : ℕ) → AreFound P a b ns → AllPairs (λ x y. x < y) ns
   ascend [] a b h = λ i j d l long. absurd (omega (arith, long))
   ascend (n ∷ ns) a b h =
       AllPairs-cons (λ x y. x < y) n ns (λ k d long. let low = above ns (n + 1) b h.1 k d long in omega (arith, low)) (ascend ns (n + 1) b h.1)

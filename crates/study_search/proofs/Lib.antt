@@ -1,8 +1,8 @@
-mod Zugzwangs
-mod OnlyMoves
+pub mod Zugzwangs
+pub mod OnlyMoves
 mod OneMove
 mod ThemeImages
-mod AllFound
+pub mod AllFound
 mod LongestFound
 mod EachFound
 mod OneOfTwo

@@ -28,7 +28,7 @@ handed_on_is p q v w h e f =
     made : (xs ys : List Man) (s : Side) (x : Option ℕ) → xs ≡ ys → s ≡ other_side p.to_move → x ≡ None → of ys s x ≡ of xs (other_side p.to_move) None
     made xs ys s x e f g = ap (λ zs. of zs s x) (sym e) ∙ ap (λ r. of xs r x) f ∙ ap (λ y. of xs (other_side p.to_move) y) g
 
-one-value : EachHasAtMostOneValue → (p : Position) (v w : Value) → IsValueOf p v → IsValueOf p w → v ≡ w
+pub one-value : EachHasAtMostOneValue → (p : Position) (v w : Value) → IsValueOf p v → IsValueOf p w → v ≡ w
 one-value law p (Win n) (Win k) h j = ap Win ((law p).won_once n k h j)
 one-value law p (Win n) (Loss k) h j = absurd ((law p).won_not_lost n k h j)
 one-value law p (Win n) Draw h j = absurd ((law p).won_not_drawn n h j)

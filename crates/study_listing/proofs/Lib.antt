@@ -1,0 +1,4 @@
+pub mod Found
+pub mod Written
+pub mod OneList
+pub mod Said

@@ -1,0 +1,17 @@
+use Rattle.std.proofs.Common.{◌≡◌, ◌-◌, ◌≤◌, ◌⊎◌}
+use Rattle.study_material.specs.declared.class.Class.{Class}
+use Rattle.study_listing.specs.Lists.{AreSoMany}
+use Rattle.study_listing.proofs.listing.count_numbers.Given as goal
+
+abbrev pub invariant-loop-at : goal.invariant-loop-at
+invariant-loop-at g l = record {
+  within : (l.at ≤ l.numbers.to) ⊎ (l.at ≡ l.numbers.from);
+  from : l.numbers.from ≤ l.at;
+  few : l.count ≤ l.at;
+  counted : g.V.Values.is_honest l.fn.values → AreSoMany l.search l.numbers.from l.at l.count;
+  honest : g.V.Values.is_honest l.fn.values → g.V.Values.is_honest l.values;
+  tables : (c : Class) → g.V.Values.held l.values c ≡ g.V.Values.held l.fn.values c;
+}
+
+abbrev pub decreases-loop-at : goal.decreases-loop-at
+decreases-loop-at g l = l.numbers.to - l.at

@@ -1,0 +1,56 @@
+-- What the text of a position says of it: the game's values, and the one move that holds.
+use Rattle.std.specs.Prelude.{◌≡◌, ◌↔◌, ℕ, Bool, true, false, List, Option, Some, None, MatchOption}
+use Rattle.study_board.specs.Position.{Position, IsValid}
+use Rattle.study_moves.specs.declared.moves.Move.{Move}
+use Rattle.study_values.specs.declared.value.Value.{Value}
+use Rattle.study_values.specs.Game.{IsValueOf}
+use Rattle.study_search.specs.declared.only_moves.Outcome.{Outcome}
+use Rattle.study_search.specs.declared.themes.Theme.{Theme}
+use Rattle.study_search.specs.declared.themes.Theme.TheVariants as theme
+use Rattle.study_search.specs.OnlyMoves.{IsKey}
+use Rattle.study_search.specs.Zugzwang.{handed_on}
+use Rattle.study_listing.specs.declared.facts.Facts.{Facts}
+use Rattle.study_listing.specs.declared.text.Form.{Form}
+use Rattle.study_listing.specs.declared.text.Form.TheVariants.{Lines, Script}
+use Rattle.study_listing.specs.Lines.{line_of, study_of}
+
+-- the value of the same men with the other side to move, if they are a position then
+abbrev pub IsOtherValue : Position → Option Value → Type 0
+IsOtherValue p other = MatchOption other (¬ (IsValid (handed_on p))) (λ v. IsValid (handed_on p) × IsValueOf (handed_on p) v)
+
+-- the one move that keeps what the side to move has, a win or a draw, if there is one
+abbrev pub IsOneKey : Position → Option Move → Type 0
+IsOneKey p key = (m : Move) → (key ≡ Some m) ↔ ((o : Outcome) × IsKey o p m)
+
+-- it is said if it is wanted
+abbrev pub SaidIf : {A : Type 0} → Bool → (Option A → Type 0) → Option A → Type 0
+SaidIf true P x = P x
+SaidIf false P x = x ≡ None
+
+pub record AreFacts (wants_other wants_key : Bool) (p : Position) (f : Facts) : Type 0 where
+  pub value : IsValueOf p f.value
+  pub other : SaidIf wants_other (IsOtherValue p) f.other
+  pub key : SaidIf wants_key (IsOneKey p) f.key
+
+-- of a mutual zugzwang a line has both values
+abbrev pub has_other : Theme → Bool
+has_other theme.Zugzwang = true
+has_other (theme.OnlyMoves o n) = false
+has_other theme.Underpromotion = false
+has_other (theme.IntoZugzwang o) = false
+has_other (theme.ZugzwangTry o) = false
+has_other (theme.MateIn n) = false
+
+-- the key; of a mutual zugzwang and of a long mate a line has none
+abbrev pub has_key : Theme → Bool
+has_key theme.Zugzwang = false
+has_key (theme.OnlyMoves o n) = true
+has_key theme.Underpromotion = true
+has_key (theme.IntoZugzwang o) = true
+has_key (theme.ZugzwangTry o) = true
+has_key (theme.MateIn n) = false
+
+-- the text of a position with the theme: its line, or its study, which has the key whatever the theme
+abbrev pub IsTextOf : Form → Theme → Position → List ℕ → Type 0
+IsTextOf Lines t p text = (f : Facts) × AreFacts (has_other t) (has_key t) p f × (text ≡ line_of p f)
+IsTextOf Script t p text = (f : Facts) × AreFacts false true p f × (text ≡ study_of p f)

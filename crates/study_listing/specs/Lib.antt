@@ -1,0 +1,6 @@
+pub mod Lines
+pub mod Facts
+pub mod Lists
+pub mod Stops
+pub mod Requests
+pub mod Laws

@@ -1,0 +1,59 @@
+-- The line of a position, and its study as a script.
+use Rattle.std.specs.Prelude.{ℕ, List, [], ◌∷◌, ◌++◌, Option, Some, None, codes}
+use Rattle.study_board.specs.declared.men.Side.{Side}
+use Rattle.study_board.specs.declared.men.Side.TheVariants.{White, Black}
+use Rattle.study_board.specs.Men.{other_side}
+use Rattle.study_board.specs.Position.{Position}
+use Rattle.study_moves.specs.declared.moves.Move.{Move}
+use Rattle.study_values.specs.declared.value.Value.{Value}
+use Rattle.study_values.specs.declared.value.Value.TheVariants as value
+use Rattle.study_notation.specs.FenSpelling.{fen_text}
+use Rattle.study_notation.specs.Written.{move_text}
+use Rattle.study_reply.specs.Words.{value_words}
+use Rattle.study_listing.specs.declared.facts.Facts.{Facts}
+
+-- the position alone: no moves are counted
+abbrev pub fen_of : Position → List ℕ
+fen_of p = fen_text (record { position = p; clock = 0; number = 1 })
+
+-- ` loss 4`
+abbrev pub value_after : Option Value → List ℕ
+value_after None = []
+value_after (Some v) = 32 ∷ value_words v
+
+-- ` Kd3`
+abbrev pub move_after : Position → Option Move → List ℕ
+move_after p None = []
+move_after p (Some m) = 32 ∷ move_text p m
+
+-- `FEN VALUE`, then the value with the other side to move, or the one move that holds
+unfoldable pub line_of : Position → Facts → List ℕ
+line_of p f = fen_of p ++ (value_after (Some f.value) ++ (value_after f.other ++ (move_after p f.key ++ 10 ∷ [])))
+
+-- who wins; or who draws, being on the move
+abbrev pub hero_of : Side → Value → Side
+hero_of side (value.Win n) = side
+hero_of side (value.Loss n) = other_side side
+hero_of side value.Draw = side
+
+abbrev pub side_named : Side → List ℕ
+side_named White = codes "white"
+side_named Black = codes "black"
+
+abbrev pub goal_named : Value → List ℕ
+goal_named (value.Win n) = codes "win"
+goal_named (value.Loss n) = codes "win"
+goal_named value.Draw = codes "draw"
+
+-- the stipulation, on a line of its own
+unfoldable pub stipulation_line : Side → Value → List ℕ
+stipulation_line side v = codes "stipulate " ++ (side_named (hero_of side v) ++ (32 ∷ (goal_named v ++ 10 ∷ [])))
+
+abbrev pub insert_line : Position → Option Move → List ℕ
+insert_line p None = []
+insert_line p (Some m) = codes "insert root " ++ (move_text p m ++ 10 ∷ [])
+
+-- `position FEN`, `stipulate SIDE win` or `draw`, `insert root SAN` where one move alone holds, and `pgn`
+unfoldable pub study_of : Position → Facts → List ℕ
+study_of p f =
+    codes "position " ++ (fen_of p ++ (10 ∷ (stipulation_line p.to_move f.value ++ (insert_line p f.key ++ codes "pgn\n"))))

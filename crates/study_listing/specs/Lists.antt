@@ -1,0 +1,97 @@
+-- The whole list: the texts of all numbers that are found, one after the other.
+use Rattle.std.specs.Prelude.{◌≡◌, ℕ, ◌≤◌, Bool, true, false, ◌&&◌, List, [], ◌∷◌, ◌++◌, length, Option, Some, None, MatchOption}
+use Rattle.std.specs.Io.KnownBytes.{Appends}
+use Rattle.study_text.specs.Taken.{TakesPrefix}
+use Rattle.study_board.specs.declared.men.Side.{Side}
+use Rattle.study_board.specs.declared.men.Side.TheVariants.{White, Black}
+use Rattle.study_board.specs.Position.{Position}
+use Rattle.study_material.specs.declared.class.Class.{Class}
+use Rattle.study_material.specs.Class.{lists_of, same_kinds}
+use Rattle.study_index.specs.Computed.{position_numbered}
+use Rattle.study_search.specs.declared.finding.Search.{Search}
+use Rattle.study_search.specs.declared.themes.Theme.{Theme}
+use Rattle.study_search.specs.declared.themes.Theme.TheVariants as theme
+use Rattle.study_search.specs.Finding.{IsLookedFor, AreFound}
+use Rattle.study_search.specs.Longest.{IsLongest}
+use Rattle.study_search.specs.Pairs.{IsListedOfTwo}
+use Rattle.study_listing.specs.declared.request.Request.{Request}
+use Rattle.study_listing.specs.declared.request.Request.TheVariants.{Positions, Longest}
+use Rattle.study_listing.specs.declared.text.Form.{Form}
+use Rattle.study_listing.specs.Facts.{IsTextOf}
+
+-- both sides have the same men, so that each position has a colour image in the class
+abbrev pub has_like_sides : Class → Bool
+has_like_sides c = same_kinds (lists_of c).white (lists_of c).black
+
+abbrev pub is_of_zugzwangs : Theme → Bool
+is_of_zugzwangs theme.Zugzwang = true
+is_of_zugzwangs (theme.OnlyMoves o n) = false
+is_of_zugzwangs theme.Underpromotion = false
+is_of_zugzwangs (theme.IntoZugzwang o) = false
+is_of_zugzwangs (theme.ZugzwangTry o) = false
+is_of_zugzwangs (theme.MateIn n) = false
+
+abbrev pub is_for_white : Option Side → Bool
+is_for_white None = false
+is_for_white (Some White) = true
+is_for_white (Some Black) = false
+
+-- each mutual zugzwang is found in two placements
+abbrev pub is_paired : Search → Bool
+is_paired s = is_of_zugzwangs s.theme && (is_for_white s.side && has_like_sides s.class)
+
+-- of two placements of a mutual zugzwang one is listed
+abbrev pub IsOneOfPair : Search → Position → Type 0
+IsOneOfPair s p = is_paired s ≡ true → IsListedOfTwo p
+
+-- the position is looked for, and is not the second placement of a mutual zugzwang
+abbrev pub IsListed : Search → Position → Type 0
+IsListed s p = IsLookedFor s p × IsOneOfPair s p
+
+abbrev pub IsListedAt : Search → ℕ → Type 0
+IsListedAt s n = (p : Position) × (position_numbered s.class n ≡ Some p) × IsListed s p
+
+abbrev pub IsTextAt : Search → Form → ℕ → List ℕ → Type 0
+IsTextAt s form n text = (p : Position) × (position_numbered s.class n ≡ Some p) × IsTextOf form s.theme p text
+
+-- the texts of the numbers, one after the other
+abbrev pub AreTexts : (ℕ → List ℕ → Type 0) → List ℕ → List ℕ → Type 0
+AreTexts T [] text = text ≡ []
+AreTexts T (n ∷ ns) text = (first : List ℕ) × (rest : List ℕ) × T n first × AreTexts T ns rest × (text ≡ first ++ rest)
+
+-- Of the numbers from a on and below b, these are listed, each once and ascending, and this is their list.
+pub record IsList (s : Search) (form : Form) (a b : ℕ) (ns text : List ℕ) : Type 0 where
+  pub found : AreFound (IsListedAt s) a b ns
+  pub texts : AreTexts (IsTextAt s form) ns text
+
+-- so many numbers are listed
+abbrev pub AreSoMany : Search → ℕ → ℕ → ℕ → Type 0
+AreSoMany s a b count = (ns : List ℕ) × AreFound (IsListedAt s) a b ns × (length ns ≡ count)
+
+-- the list is written, and the count is that of its numbers
+pub record HasWritten (s : Search) (form : Form) (a b : ℕ) (old new : Option (List ℕ)) (count : ℕ) : Type 0 where
+  pub numbers : List ℕ
+  pub text : List ℕ
+  pub list : IsList s form a b numbers text
+  pub written : Appends old new text
+  pub counted : length numbers ≡ count
+
+-- the list of all numbers below one of them is written, and nothing else
+abbrev pub HasWrittenSome : Search → Form → ℕ → ℕ → Option (List ℕ) → Option (List ℕ) → Type 0
+HasWrittenSome s form a b old new = (n : ℕ) × (n ≤ b) × ((count : ℕ) × HasWritten s form a n old new count)
+
+-- the writer stopped inside the list
+pub record HasStopped (s : Search) (form : Form) (a b : ℕ) (old new : Option (List ℕ)) : Type 0 where
+  pub end : ℕ
+  pub within : end ≤ b
+  pub numbers : List ℕ
+  pub text : List ℕ
+  pub list : IsList s form a end numbers text
+  pub taken : TakesPrefix old new text
+
+-- what is looked for: of a longest mate, the mates of this length, if the side mates at all
+abbrev pub IsSearchOf : Request → Option Search → Type 0
+IsSearchOf (Positions s) search = search ≡ Some s
+IsSearchOf (Longest c side) search = MatchOption search
+    (IsLongest c side None)
+    (λ s. (n : ℕ) × (s ≡ record { class = c; theme = theme.MateIn n; side = Some side }) × IsLongest c side (Some n))

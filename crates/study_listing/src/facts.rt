@@ -1,0 +1,152 @@
+//! What the text of a position says of it.
+ghost use Rattle.std.specs.Prelude.{◌≡◌, ◌↔◌, true, false, IfOk, IfErr, IfSome, IsErrOf};
+ghost use Rattle.study_material.specs.declared.class.Class.{Class as AClass};
+ghost use Rattle.study_moves.specs.Rules.{is_legal};
+ghost use Rattle.study_values.specs.Game.{IsValueOf};
+ghost use Rattle.study_values.specs.Values.{IsNotDamage};
+ghost use Rattle.study_listing.specs.Facts.{AreFacts, IsOtherValue, IsOneKey, SaidIf, has_other, has_key};
+
+use study_board::Position;
+use study_moves::{Move, values_are_unique};
+use study_search::{Outcome, Theme, handed_on, key_move};
+use study_values::{ProbeFault, Value, Values};
+
+/// What the text of a position says of it.
+#[derive(Clone, Copy, Debug, PartialEq, Eq)]
+pub struct Facts {
+    /// The value of the position.
+    pub value: Value,
+    /// The value of the same men with the other side to move.
+    pub other: Option<Value>,
+    /// The one move that keeps what the side to move has.
+    pub key: Option<Move>,
+}
+
+/// Which facts are wanted beside the value.
+#[derive(Clone, Copy, Debug, PartialEq, Eq)]
+pub struct Wanted {
+    pub other: bool,
+    pub key: bool,
+}
+
+/// What a line says of a position with this theme.
+pub fn wanted_for(theme: Theme) -> Wanted
+    ensures other { result.other ≡ has_other theme }
+    ensures key { result.key ≡ has_key theme }
+{
+    match theme {
+        Theme::Zugzwang => Wanted {
+            other: true,
+            key: false,
+        },
+        Theme::MateIn(_) => Wanted {
+            other: false,
+            key: false,
+        },
+        _ => Wanted {
+            other: false,
+            key: true,
+        },
+    }
+}
+
+/// The move that alone keeps what the side to move has, by its value.
+fn find_key<V: Values>(
+    p: &Position,
+    value: Value,
+    values: &mut V,
+) -> Result<Option<Move>, ProbeFault>
+    ensures game { V.is_honest values.old → IsValueOf p.now value → IfOk result (IsOneKey p.now) }
+    ensures legal { IfOk result (λ key. IfSome key (λ m. is_legal p.now m ≡ true)) }
+    ensures no_table { (c : AClass) → IsErrOf result (ProbeFault.NoTable c) → V.held values.old c ≡ false }
+    ensures no_damage { V.is_honest values.old → IfErr result IsNotDamage }
+    ensures honest { V.is_honest values.old → V.is_honest values.new }
+    ensures tables { (c : AClass) → V.held values.new c ≡ V.held values.old c }
+{
+    values_are_unique();
+    match value {
+        Value::Win(_) => key_move(p, Outcome::Win, values),
+        Value::Draw => key_move(p, Outcome::Draw, values),
+        Value::Loss(_) => Ok(None),
+    }
+}
+
+/// The one key, if it is wanted.
+fn key_if<V: Values>(
+    wanted: bool,
+    p: &Position,
+    value: Value,
+    values: &mut V,
+) -> Result<Option<Move>, ProbeFault>
+    ensures game { V.is_honest values.old → IsValueOf p.now value → IfOk result (SaidIf wanted (IsOneKey p.now)) }
+    ensures legal { IfOk result (λ key. IfSome key (λ m. is_legal p.now m ≡ true)) }
+    ensures no_table { (c : AClass) → IsErrOf result (ProbeFault.NoTable c) → V.held values.old c ≡ false }
+    ensures no_damage { V.is_honest values.old → IfErr result IsNotDamage }
+    ensures honest { V.is_honest values.old → V.is_honest values.new }
+    ensures tables { (c : AClass) → V.held values.new c ≡ V.held values.old c }
+{
+    if wanted {
+        return find_key(p, value, values);
+    }
+    Ok(None)
+}
+
+/// The value of the same men with the other side to move, if they are a position then.
+fn other_value<V: Values>(p: &Position, values: &mut V) -> Result<Option<Value>, ProbeFault>
+    ensures game { V.is_honest values.old → IfOk result (IsOtherValue p.now) }
+    ensures no_table { (c : AClass) → IsErrOf result (ProbeFault.NoTable c) → V.held values.old c ≡ false }
+    ensures no_damage { V.is_honest values.old → IfErr result IsNotDamage }
+    ensures honest { V.is_honest values.old → V.is_honest values.new }
+    ensures tables { (c : AClass) → V.held values.new c ≡ V.held values.old c }
+{
+    match handed_on(p) {
+        None => Ok(None),
+        Some(q) => match values.value(&q) {
+            Err(fault) => Err(fault),
+            Ok(value) => Ok(Some(value)),
+        },
+    }
+}
+
+/// The other value, if it is wanted.
+fn other_if<V: Values>(
+    wanted: bool,
+    p: &Position,
+    values: &mut V,
+) -> Result<Option<Value>, ProbeFault>
+    ensures game { V.is_honest values.old → IfOk result (SaidIf wanted (IsOtherValue p.now)) }
+    ensures no_table { (c : AClass) → IsErrOf result (ProbeFault.NoTable c) → V.held values.old c ≡ false }
+    ensures no_damage { V.is_honest values.old → IfErr result IsNotDamage }
+    ensures honest { V.is_honest values.old → V.is_honest values.new }
+    ensures tables { (c : AClass) → V.held values.new c ≡ V.held values.old c }
+{
+    if wanted {
+        return other_value(p, values);
+    }
+    Ok(None)
+}
+
+/// The facts of a position that are wanted.
+pub fn facts_of<V: Values>(
+    p: &Position,
+    wanted: Wanted,
+    values: &mut V,
+) -> Result<Facts, ProbeFault>
+    ensures game { V.is_honest values.old → IfOk result (AreFacts wanted.other wanted.key p.now) }
+    ensures legal { IfOk result (λ f. IfSome f.key (λ m. is_legal p.now m ≡ true)) }
+    ensures no_table { (c : AClass) → IsErrOf result (ProbeFault.NoTable c) → V.held values.old c ≡ false }
+    ensures no_damage { V.is_honest values.old → IfErr result IsNotDamage }
+    ensures honest { V.is_honest values.old → V.is_honest values.new }
+    ensures tables { (c : AClass) → V.held values.new c ≡ V.held values.old c }
+{
+    match values.value(p) {
+        Err(fault) => Err(fault),
+        Ok(value) => match other_if(wanted.other, p, values) {
+            Err(fault) => Err(fault),
+            Ok(other) => match key_if(wanted.key, p, value, values) {
+                Err(fault) => Err(fault),
+                Ok(key) => Ok(Facts { value, other, key }),
+            },
+        },
+    }
+}
