@@ -1,0 +1,110 @@
+//! The answer to a request over values: the list, or how much it is.
+ghost use Rattle.std.specs.Prelude.{◌≡◌, false, IfOk, OnOk, IsErrOf};
+ghost use Rattle.study_material.specs.declared.class.Class.{Class as AClass};
+ghost use Rattle.studymine.specs.Listed.{AreSoManyOf, HasCounted, HasListed, HasPut, HasAnswered};
+
+use crate::options::Output;
+use crate::status::put_count;
+use std::io::Write;
+use study_listing::{Form, Request, Stop, Watch, count_found, list_found, search_of};
+use study_material::order;
+use study_search::Search;
+use study_values::{ProbeFault, Values};
+
+/// Refuses what wants a table that is not there: before the first line, that of the class, or of a class that its moves lead to.
+fn need_tables<V: Values>(request: &Request, values: &V) -> Result<(), ProbeFault>
+    ensures { (c : AClass) → IsErrOf result (ProbeFault.NoTable c) → V.held values.now c ≡ false }
+{
+    let class = request.class();
+    for each in order(class) {
+        if !values.holds(each) && (each == class || !request.is_of_one_table()) {
+            return Err(ProbeFault::NoTable(each));
+        }
+    }
+    Ok(())
+}
+
+/// How many positions are listed: none, where nothing is looked for.
+fn count_of<V: Values, H: Watch>(
+    search: Option<Search>,
+    values: &mut V,
+    watch: &mut H,
+) -> Result<u32, ProbeFault>
+    ensures { V.is_honest values.old → IfOk result (AreSoManyOf search) }
+{
+    match search {
+        None => Ok(0),
+        Some(search) => count_found(&search, values, watch),
+    }
+}
+
+/// Writes how many positions are listed.
+fn write_count<V: Values, W: Write, H: Watch>(
+    search: Option<Search>,
+    values: &mut V,
+    out: &mut W,
+    watch: &mut H,
+) -> Result<(), Stop>
+    ensures { V.is_honest values.old → OnOk result (HasCounted search (W.contents out.old) (W.contents out.new)) }
+{
+    match count_of(search, values, watch) {
+        Err(fault) => Err(Stop::Values(fault)),
+        Ok(count) => match put_count(out, count) {
+            Err(_) => Err(Stop::WriteDevice),
+            Ok(()) => Ok(()),
+        },
+    }
+}
+
+/// Writes the list.
+fn write_list<V: Values, W: Write, H: Watch>(
+    form: Form,
+    search: Option<Search>,
+    values: &mut V,
+    out: &mut W,
+    watch: &mut H,
+) -> Result<(), Stop>
+    ensures { V.is_honest values.old → OnOk result (HasListed form search (W.contents out.old) (W.contents out.new)) }
+{
+    match search {
+        None => Ok(()),
+        Some(search) => match list_found(&search, form, values, out, watch) {
+            Err(stop) => Err(stop),
+            Ok(_) => Ok(()),
+        },
+    }
+}
+
+fn write<V: Values, W: Write, H: Watch>(
+    output: Output,
+    search: Option<Search>,
+    values: &mut V,
+    out: &mut W,
+    watch: &mut H,
+) -> Result<(), Stop>
+    ensures { V.is_honest values.old → OnOk result (HasPut output search (W.contents out.old) (W.contents out.new)) }
+{
+    match output {
+        Output::Count => write_count(search, values, out, watch),
+        Output::List(form) => write_list(form, search, values, out, watch),
+    }
+}
+
+/// Writes what a request asks for. Where a table is not there nothing is written.
+pub fn answer<V: Values, W: Write, H: Watch>(
+    request: &Request,
+    output: Output,
+    values: &mut V,
+    out: &mut W,
+    watch: &mut H,
+) -> Result<(), Stop>
+    ensures { V.is_honest values.old → OnOk result (HasAnswered request.now output (W.contents out.old) (W.contents out.new)) }
+{
+    if let Err(fault) = need_tables(request, values) {
+        return Err(Stop::Values(fault));
+    }
+    match search_of(request, values) {
+        Err(fault) => Err(Stop::Values(fault)),
+        Ok(search) => write(output, search, values, out, watch),
+    }
+}

@@ -1,0 +1,189 @@
+//! The command line.
+ghost use Rattle.std.specs.Prelude.{◌≤◌, ◌<◌, length};
+
+use clap::builder::ValueParser;
+use clap::{Arg, ArgAction, Command, Error, value_parser};
+use std::alloc::Global;
+use study_listing::{Form, Request, Unread, read_request};
+use study_material::Class;
+use study_program::{VERSION, folder_of};
+
+const ABOUT: &str =
+    "Lists the positions of a class of material that have a theme, from the tables of a folder: each once up to symmetry, none missing.";
+
+const THEMES: &str = "Themes:
+  zugzwang              mutual zugzwangs, with both values: White to move, then Black to move
+  win N, draw N         the side to move wins, or draws, and the defender can make it find N only moves in a row
+  underpromotion        one move alone holds, and it promotes to a rook, a bishop or a knight
+  into win, into draw   one move alone wins, or draws, and it leads to a mutual zugzwang
+  try win, try draw     the same, and another move fails by one reply alone, which leads to a mutual zugzwang
+  longest white, longest black   the longest win of the side, which is to move
+After a theme 'white' or 'black' lists the positions with that side to move; without one, of a zugzwang, and where both sides have the
+same men, those with White to move, and else those with either.
+
+Exit status: 0 the list was made; 2 the command line was refused; 3 the list stopped, and why is on standard error.";
+
+/// What is written.
+#[derive(Clone, Copy, Debug, PartialEq, Eq)]
+pub enum Output {
+    List(Form),
+    /// How many positions there are, and nothing else.
+    Count,
+}
+
+/// Why words ask for nothing.
+#[derive(Clone, Copy, Debug, PartialEq, Eq)]
+pub enum WordFault {
+    NoSuchClass,
+    NoSuchTheme,
+    NoSuchFilter,
+}
+
+/// What the command line asks for.
+#[derive(Clone, Copy, Debug)]
+pub struct Options<'a> {
+    /// The folder of the files of tables: never an empty text, of which the files would stand in the root folder.
+    pub tables: &'a str,
+    /// How many pages of tables are kept: 1 to 4,096.
+    pub pages: u16,
+    pub output: Output,
+    /// Whether it is written to standard error how far the search has come.
+    pub progress: bool,
+    pub request: Request,
+    ghost named: { 0 < length tables.now },
+    ghost some: { 1 ≤ pages },
+    ghost few: { pages ≤ 4096 },
+}
+
+/// Reads the words of the command line, of which the first is the program's name; `Ok(Err(..))` where clap takes them but they ask for nothing.
+/// `--help` and `--version` are answered as errors whose exit code is 0.
+///
+/// No contract: clap has none on the words that it takes. The type proves that the folder has a name, and the range of pages; the tests
+/// tell the rest.
+pub fn read_words<'a>(
+    alloc: Global,
+    words: &'a [String],
+) -> Result<Result<Options<'a>, WordFault>, Error> {
+    let matches = command(alloc)?.try_get_matches_from(words)?;
+    let request = match read_words_of_request(matches.get_str("class"), matches.get_strs("theme")) {
+        Ok(request) => request,
+        Err(fault) => return Ok(Err(fault)),
+    };
+    let tables = folder_of(matches.get_str("tables"));
+    let pages = pages_of(matches.get_one::<u16>("pages"));
+    let output = output_of(matches.get_flag("count"), matches.get_flag("script"));
+    let progress = matches.get_flag("progress");
+    Ok(Ok(Options {
+        tables,
+        pages,
+        output,
+        progress,
+        request,
+    }))
+}
+
+fn command<'a>(alloc: Global) -> Result<Command<'a>, Error> {
+    let command = Command::new(alloc, "studymine")
+        .version(VERSION)
+        .about(ABOUT)
+        .after_help(THEMES)
+        .arg(tables(alloc))?
+        .arg(pages(alloc))?
+        .arg(flag(
+            alloc,
+            "count",
+            "Writes how many positions there are, and no more",
+        ))?
+        .arg(flag(
+            alloc,
+            "script",
+            "Writes the script of their studies, at most 25,000, for studybench and studyreport",
+        ))?
+        .arg(flag(
+            alloc,
+            "progress",
+            "Writes to standard error how far the search has come",
+        ))?
+        .arg(
+            Arg::new(alloc, "class")
+                .value_name("CLASS")
+                .required(true)
+                .help("The class of material, as KRKP"),
+        )?
+        .arg(
+            Arg::new(alloc, "theme")
+                .value_name("THEME")
+                .required(true)
+                .num_args(1..)
+                .help("The theme, and a side to move"),
+        )?;
+    Ok(command)
+}
+
+fn tables<'a>(alloc: Global) -> Arg<'a> {
+    Arg::new(alloc, "tables")
+        .long("tables")
+        .value_name("DIR")
+        .action(ArgAction::Set)
+        .value_parser(ValueParser::NonEmptyString)
+        .help("The folder of the files of tables, as KQK.dtm [default: .]")
+}
+
+fn pages<'a>(alloc: Global) -> Arg<'a> {
+    Arg::new(alloc, "pages")
+        .long("pages")
+        .value_name("N")
+        .action(ArgAction::Set)
+        .value_parser(value_parser!(u16).range(1..=4096))
+        .help("Keeps N pages of 4,096 cells, 1 to 4096 [default: 4096]")
+}
+
+fn flag<'a>(alloc: Global, name: &'a str, help: &'a str) -> Arg<'a> {
+    Arg::new(alloc, name)
+        .long(name)
+        .action(ArgAction::SetTrue)
+        .help(help)
+}
+
+/// What the words of the class and of the theme ask for.
+fn read_words_of_request(
+    class: Option<&str>,
+    theme: Option<&[&str]>,
+) -> Result<Request, WordFault> {
+    let Some(name) = class else {
+        return Err(WordFault::NoSuchClass);
+    };
+    let Ok(class) = Class::parse(name) else {
+        return Err(WordFault::NoSuchClass);
+    };
+    let Some(words) = theme else {
+        return Err(WordFault::NoSuchTheme);
+    };
+    match read_request(class, words) {
+        Ok(request) => Ok(request),
+        Err(Unread::NoSuchTheme) => Err(WordFault::NoSuchTheme),
+        Err(Unread::NoSuchFilter) => Err(WordFault::NoSuchFilter),
+    }
+}
+
+/// So many pages, where it is a number of pages that can be kept, else 4,096.
+fn pages_of(given: Option<u16>) -> u16
+    ensures some { 1 ≤ result }
+    ensures few { result ≤ 4096 }
+{
+    match given {
+        Some(n) if 1 <= n && n <= 4096 => n,
+        _ => 4096,
+    }
+}
+
+/// What is to be written. Of a list and a script that are both counted, the count alone is.
+fn output_of(count: bool, script: bool) -> Output {
+    if count {
+        Output::Count
+    } else if script {
+        Output::List(Form::Script)
+    } else {
+        Output::List(Form::Lines)
+    }
+}

@@ -1,0 +1,129 @@
+//! What the program does, over the streams of its process or over any others.
+ghost use Rattle.std.specs.Prelude.{◌≡◌, Bool};
+ghost use Rattle.clap.specs.Values.{kind_of};
+ghost use Rattle.study_program.specs.Status.{status_unread};
+
+use crate::answer::answer;
+use crate::options::{Options, WordFault, read_words};
+use crate::progress::Progress;
+use crate::status::{put_stop, status_of};
+use crate::tables::open_tables;
+use clap::Error;
+use std::alloc::Allocator;
+use std::io;
+use std::io::{ErrorKind, LineWriter, Write};
+use std::process::ExitCode;
+use std::rt::Files;
+use study_listing::Stop;
+use study_prober::PagedTables;
+use study_program::{FolderStore, status_without_options, words_of};
+use study_text::write_text;
+
+/// Writes the positions that the command line asks for to standard output as they are found.
+///
+/// The exit status is 0 where the list was made, 2 where the command line was refused, and 3 where the list stopped: at a table that is not
+/// there or not read, at too many studies, or at a device, whose name then goes to standard error.
+///
+/// No contract: of the streams and the words of a process no clause can say what they hold.
+pub fn studymine(rt: &HostRuntime) -> ExitCode {
+    let words = match words_of(rt) {
+        Ok(words) => words,
+        Err(error) => return ExitCode::from(not_read(rt, &error)),
+    };
+    match read_words(rt.alloc(), words.as_slice()) {
+        Ok(Ok(options)) => ExitCode::from(list_to_streams(rt, &options)),
+        Ok(Err(fault)) => ExitCode::from(not_known(rt, fault)),
+        Err(error) => ExitCode::from(answered(rt, &error)),
+    }
+}
+
+/// There is no memory.
+fn without_memory(rt: &HostRuntime) -> u8
+    ensures { result ≡ 3 }
+{
+    let _ = write_text(&mut rt.stderr(), b"studymine: OutOfMemory\n");
+    3
+}
+
+/// The words of the command line are not known.
+fn not_read(rt: &HostRuntime, error: &io::Error) -> u8 {
+    if error.kind() == ErrorKind::OutOfMemory {
+        return without_memory(rt);
+    }
+    let _ = eprintln!(rt; "error: a word of the command line is not UTF-8");
+    2
+}
+
+/// The words ask for nothing.
+fn not_known(rt: &HostRuntime, fault: WordFault) -> u8
+    ensures { result ≡ 2 }
+{
+    let name = match fault {
+        WordFault::NoSuchClass => "NoSuchClass",
+        WordFault::NoSuchTheme => "NoSuchTheme",
+        WordFault::NoSuchFilter => "NoSuchFilter",
+    };
+    let _ = eprintln!(rt; "error: {name}: see 'studymine --help'");
+    2
+}
+
+/// Help, the version, or why the words are refused.
+fn answered(rt: &HostRuntime, error: &Error) -> u8
+    ensures { (printed : Bool) × (result ≡ status_unread (kind_of error.now) printed) }
+{
+    if error.kind() == clap::error::ErrorKind::OutOfMemory {
+        return without_memory(rt);
+    }
+    let printed = error.print(rt).is_ok();
+    let status = status_without_options(error, printed);
+    if status == 3 {
+        let _ = write_text(&mut rt.stderr(), b"studymine: WriteDevice\n");
+    }
+    status
+}
+
+fn list_to_streams(rt: &HostRuntime, options: &Options<'_>) -> u8 {
+    let alloc = rt.alloc();
+    let mut errors = rt.stderr();
+    let Ok(mut out) = LineWriter::new(alloc, rt.stdout()) else {
+        return without_memory(rt);
+    };
+    match list_over_files(rt, &alloc, options, &mut out, &mut errors) {
+        Some(status) => status,
+        None => without_memory(rt),
+    }
+}
+
+/// Lists over the tables of a folder, writes to `errors` which files give no table and why the list stopped, if it did, and gives
+/// the exit status; none, where there is no memory for the tables.
+pub fn list_over_files<F: Files, A: Allocator, W: Write, E: Write>(
+    files: &F,
+    alloc: &A,
+    options: &Options<'_>,
+    out: &mut W,
+    errors: &mut E,
+) -> Option<u8> {
+    let mut store = FolderStore::new(files, alloc, options.tables).ok()?;
+    let mut tables = PagedTables::new(alloc, options.pages).ok()?;
+    open_tables(alloc, &mut tables, &mut store, errors);
+    let mut progress = Progress {
+        errors,
+        wanted: options.progress,
+    };
+    let mut answered = answer(
+        &options.request,
+        options.output,
+        &mut tables,
+        out,
+        &mut progress,
+    );
+    // What is left in a buffer of the writer are lines too.
+    if out.flush().is_err() {
+        answered = Err(Stop::WriteDevice);
+    }
+    if let Err(stop) = &answered {
+        // Nobody can be informed that standard error failed.
+        let _ = put_stop(progress.errors, *stop);
+    }
+    Some(status_of(&answered))
+}

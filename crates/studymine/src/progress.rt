@@ -1,0 +1,21 @@
+//! How far a search has come.
+
+use crate::status::put_progress;
+use std::io::Write;
+use study_listing::Watch;
+
+/// Writes how far a search has come, where that is asked for.
+#[derive(Drop)]
+pub struct Progress<'e, E: Write> {
+    pub errors: &'e mut E,
+    pub wanted: bool,
+}
+
+impl<'e, E: Write> Watch for Progress<'e, E> {
+    fn passed(&mut self, numbers: u32, all: u32, found: u32) {
+        if self.wanted {
+            // Nobody can be informed that standard error failed.
+            let _ = put_progress(self.errors, numbers, all, found);
+        }
+    }
+}

@@ -1,0 +1,75 @@
+//! The tables of a folder.
+ghost use Rattle.std.specs.Prelude.{◌≡◌, OnErr};
+ghost use Rattle.study_script.specs.StoreRefusals.{refusal_of_paged};
+
+use crate::status::{put_file_fault, without_error};
+use std::alloc::Allocator;
+use std::io::Write;
+use study_material::Class;
+use study_prober::{PagedFault, PagedTables};
+use study_reply::{Refusal, refuse};
+use study_script::{StoreFault, TableStore};
+use study_text::MemoryWriter;
+
+/// Why the file of a class gives no table.
+#[derive(Clone, Copy, Debug, PartialEq, Eq)]
+enum NoTable {
+    NoFile,
+    Fault(Refusal),
+}
+
+/// A fault of a source of pages, by its name in a script.
+fn refusal_of(fault: PagedFault) -> Refusal
+    ensures { result ≡ refusal_of_paged fault }
+{
+    match fault {
+        PagedFault::AlreadyHeld(class) => Refusal::AlreadyHeld(class),
+        PagedFault::TableRead(fault) => Refusal::TableRead(fault),
+        PagedFault::Header(fault) => Refusal::File(fault),
+        PagedFault::OtherClass(class) => Refusal::OtherClass(class),
+        PagedFault::OutOfMemory => Refusal::OutOfMemory,
+    }
+}
+
+/// Opens the file of a class by pages.
+fn open_table<'a, S: TableStore, A: Allocator>(
+    tables: &mut PagedTables<'a, S::Pages, A>,
+    store: &mut S,
+    class: Class,
+) -> Result<(), NoTable>
+    ensures same { OnErr result (tables.new ≡ tables.old) }
+{
+    match store.pages(class) {
+        Err(StoreFault::NoFile) => Err(NoTable::NoFile),
+        Err(StoreFault::Device) => Err(NoTable::Fault(Refusal::Device)),
+        Ok(source) => match tables.add(class, source) {
+            Ok(()) => Ok(()),
+            Err(fault) => Err(NoTable::Fault(refusal_of(fault))),
+        },
+    }
+}
+
+/// Writes the fault of a file. Nobody can be informed that standard error failed.
+fn put_fault<A: Allocator, E: Write>(alloc: &A, errors: &mut E, class: Class, refusal: Refusal) {
+    let mut reply = MemoryWriter::new(alloc);
+    if refuse(&mut reply, refusal).is_ok() {
+        let _ = put_file_fault(errors, class, without_error(reply.taken.as_slice()));
+    }
+}
+
+/// Opens each table whose file is there, in the order of the class list, and writes the fault of each file that gives no table.
+///
+/// No contract: `tools/finding.sh` compares what is written.
+pub fn open_tables<'a, S: TableStore, A: Allocator, E: Write>(
+    alloc: &'a A,
+    tables: &mut PagedTables<'a, S::Pages, A>,
+    store: &mut S,
+    errors: &mut E,
+) {
+    for class in Class::all() {
+        match open_table(tables, store, *class) {
+            Ok(()) | Err(NoTable::NoFile) => {}
+            Err(NoTable::Fault(refusal)) => put_fault(alloc, errors, *class, refusal),
+        }
+    }
+}
