@@ -1,0 +1,189 @@
+//! Lists of KPK: as a script, to a writer that fails, without tables.
+
+use std::alloc::Global;
+use std::process::Abort;
+use study_board::Side;
+use study_index::index;
+use study_listing::{
+    Form, MAX_STUDIES, NoWatch, Numbers, Request, Stop, count_found, count_numbers, list_found,
+    list_numbers, search_of,
+};
+use study_material::Class;
+use study_notation::read_fen;
+use study_prober::{FailingValues, WholeTables};
+use study_retro::{BuildRoom, build};
+use study_search::{Outcome, Search, Theme};
+use study_table::TableSet;
+use study_text::{MemoryWriter, WhenFull};
+use study_values::{ProbeFault, SourceFault, Values, cells};
+
+/// By an independent program: the first of the three positions of KPK in which only an underpromotion wins.
+const STUDY: &[u8] = b"position 8/1P6/k7/8/K7/8/8/8 w - - 0 1
+stipulate white win
+insert root b8=R
+pgn
+";
+
+const LINE: &[u8] = b"8/1P6/k7/8/K7/8/8/8 w - - 0 1 win 13 b8=R\n";
+
+/// By an independent program: the longest wins.
+const LONGEST: &[u8] = b"8/8/8/1k6/8/8/K5P1/8 w - - 0 1 win 55
+8/8/8/1k6/8/8/1K4P1/8 w - - 0 1 win 55
+8/8/8/1k6/8/K7/6P1/8 w - - 0 1 win 55
+";
+
+/// By an independent program: the first two mutual zugzwangs of 80.
+const ZUGZWANGS: &[u8] = b"8/8/8/k7/8/K7/1P6/8 w - - 0 1 draw loss 46
+8/8/8/k7/8/K7/2P5/8 w - - 0 1 draw loss 44
+";
+
+/// The tables of KPK and of what its moves lead to.
+fn tables<'a>(rt: &impl Abort, alloc: &'a Global) -> WholeTables<'a, Global> {
+    let mut set = TableSet::new(alloc).ok().expect(rt, "a set");
+    for class in [
+        Class::KK,
+        Class::KQK,
+        Class::KRK,
+        Class::KBK,
+        Class::KNK,
+        Class::KPK,
+    ] {
+        let room = BuildRoom::new(alloc, cells(class)).ok().expect(rt, "room");
+        let (table, _) = build(class, &set, room).ok().expect(rt, "a table");
+        assert!(rt; set.add(table).is_ok());
+    }
+    WholeTables::new(set)
+}
+
+fn search(theme: Theme, side: Option<Side>) -> Search {
+    Search {
+        class: Class::KPK,
+        theme,
+        side,
+    }
+}
+
+/// Whether the list of a position alone is the text.
+fn is_said<V: Values>(
+    rt: &impl Abort,
+    alloc: &Global,
+    form: Form,
+    fen: &str,
+    values: &mut V,
+    want: &[u8],
+) -> bool {
+    let start = read_fen(fen).ok().expect(rt, "a position");
+    let number = index(&start.position);
+    let wanted = search(Theme::Underpromotion, None);
+    let alone = Numbers {
+        from: number,
+        to: number.saturating_add(1),
+    };
+    let mut out = MemoryWriter::new(alloc);
+    let found = list_numbers(&wanted, form, alone, values, &mut out, &mut NoWatch);
+    found == Ok(1) && out.taken.as_slice() == want
+}
+
+/// An underpromotion as a line and as a study.
+#[test]
+fn a_position_becomes_a_line_and_a_study(rt: HostRuntime) {
+    let alloc = rt.alloc();
+    let mut values = tables(&rt, &alloc);
+    let fen = "8/1P6/k7/8/K7/8/8/8 w - - 0 1";
+    assert!(rt; is_said(&rt, &alloc, Form::Lines, fen, &mut values, LINE));
+    assert!(rt; is_said(&rt, &alloc, Form::Script, fen, &mut values, STUDY));
+}
+
+/// The longest wins, a line each.
+#[test]
+fn the_longest_wins_are_listed(rt: HostRuntime) {
+    let alloc = rt.alloc();
+    let mut values = tables(&rt, &alloc);
+    let request = Request::Longest(Class::KPK, Side::White);
+    let found = search_of(&request, &mut values).ok().expect(&rt, "values");
+    let longest = found.expect(&rt, "a longest win");
+    let mut out = MemoryWriter::new(&alloc);
+    let found = list_found(&longest, Form::Lines, &mut values, &mut out, &mut NoWatch);
+    assert!(rt; found == Ok(3) && out.taken.as_slice() == LONGEST);
+}
+
+/// A writer with room for two lines and one byte takes these, and then nothing.
+#[test]
+fn a_list_stops_in_its_midst(rt: HostRuntime) {
+    let alloc = rt.alloc();
+    let mut values = tables(&rt, &alloc);
+    let wanted = search(Theme::Zugzwang, Some(Side::White));
+    assert!(rt; count_found(&wanted, &mut values, &mut NoWatch) == Ok(80));
+    let room = ZUGZWANGS.len() + 1;
+    let mut out = MemoryWriter::with_room(&alloc, room, WhenFull::Fail);
+    let stopped = list_found(&wanted, Form::Lines, &mut values, &mut out, &mut NoWatch);
+    assert!(rt; stopped == Err(Stop::WriteDevice));
+    assert!(rt; out.taken.len() == room && out.taken.as_slice().starts_with(ZUGZWANGS));
+}
+
+/// The numbers from one on and below another.
+fn numbers(from: u32, to: u32) -> Numbers {
+    Numbers { from, to }
+}
+
+/// The lists of two ranges, one after the other, are the list of both, and the counts are theirs.
+#[test]
+fn ranges_join(rt: HostRuntime) {
+    let alloc = rt.alloc();
+    let mut values = tables(&rt, &alloc);
+    let wanted = search(Theme::Zugzwang, Some(Side::White));
+    let mut out = MemoryWriter::new(&alloc);
+    for part in [numbers(0, 20_000), numbers(20_000, 50_000)] {
+        let found = list_numbers(
+            &wanted,
+            Form::Lines,
+            part,
+            &mut values,
+            &mut out,
+            &mut NoWatch,
+        );
+        let counted = count_numbers(&wanted, part, &mut values, &mut NoWatch);
+        let counted = counted.ok().expect(&rt, "a count");
+        assert!(rt; found == Ok(counted));
+    }
+    let mut both = MemoryWriter::new(&alloc);
+    let all = numbers(0, 50_000);
+    let found = list_numbers(
+        &wanted,
+        Form::Lines,
+        all,
+        &mut values,
+        &mut both,
+        &mut NoWatch,
+    );
+    assert!(rt; found.is_ok() && !both.taken.is_empty());
+    assert!(rt; both.taken.as_slice() == out.taken.as_slice());
+}
+
+/// 124,960 positions of KPK are won, more than a script holds: nothing is written.
+#[test]
+fn a_script_with_too_many_studies_is_refused(rt: HostRuntime) {
+    let alloc = rt.alloc();
+    let mut values = tables(&rt, &alloc);
+    let wanted = search(Theme::OnlyMoves(Outcome::Win, 0), None);
+    let mut out = MemoryWriter::new(&alloc);
+    let refused = list_found(&wanted, Form::Script, &mut values, &mut out, &mut NoWatch);
+    assert!(rt; refused == Err(Stop::TooManyStudies) && MAX_STUDIES == 25_000);
+    assert!(rt; out.taken.is_empty());
+}
+
+/// Without a table, and where one is not read, the list stops with the fault.
+#[test]
+fn a_table_is_not_there_or_not_read(rt: HostRuntime) {
+    let alloc = rt.alloc();
+    let wanted = search(Theme::Zugzwang, Some(Side::White));
+    let set = TableSet::new(&alloc).ok().expect(&rt, "a set");
+    let mut none = WholeTables::new(set);
+    let mut out = MemoryWriter::new(&alloc);
+    let stopped = list_found(&wanted, Form::Lines, &mut none, &mut out, &mut NoWatch);
+    assert!(rt; stopped == Err(Stop::Values(ProbeFault::NoTable(Class::KPK))));
+    let mut failing = FailingValues::new(tables(&rt, &alloc), 1000);
+    let stopped = list_found(&wanted, Form::Lines, &mut failing, &mut out, &mut NoWatch);
+    assert!(rt; stopped == Err(Stop::Values(ProbeFault::TableRead(SourceFault::Device))));
+    assert!(rt; out.taken.is_empty());
+}
