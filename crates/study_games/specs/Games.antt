@@ -12,9 +12,10 @@ use Rattle.study_games.specs.declared.gathering.Game.{Game as GameRead}
 
 -- ---- lines
 
--- a line with one byte more. Of a line no more than 1,048,577 bytes are looked at: with these its game is too large
+-- a line with one byte more. Of a line no more than 1,048,580 bytes are looked at: with these its game is too large, even where three of
+-- them are a byte order mark
 abbrev pub longer : List ℕ → ℕ → List ℕ
-longer line b = if nat_le 1048577 (length line) then line else line ++ b ∷ []
+longer line b = if nat_le 1048580 (length line) then line else line ++ b ∷ []
 
 -- the lines of a text, each with its line feed, where these bytes of the first one have been read
 abbrev pub lines_behind : List ℕ → List ℕ → List (List ℕ)

@@ -11,6 +11,9 @@ use study_text::Text;
 /// How many bytes a game has at most.
 pub const LARGEST_GAME: usize = 1_048_576;
 
+/// How many bytes of a line are looked at: more than a game has, even where three of them are a byte order mark.
+pub const LONGEST_LINE: usize = 1_048_580;
+
 /// The game at hand, and the number of the next line. Its bytes are not kept where they are too many.
 #[derive(Drop)]
 pub struct Gathering<'a, A: Allocator> {

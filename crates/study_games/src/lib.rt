@@ -20,7 +20,7 @@ mod words;
 pub use ascii::{LONGEST_TAG, short_text, spell_out};
 pub use characters::is_utf8;
 pub use games::{LineKind, Seen, begins_game, kind_of, seen_then, unmarked};
-pub use gathering::{Game, Gathering, LARGEST_GAME};
+pub use gathering::{Game, Gathering, LARGEST_GAME, LONGEST_LINE};
 pub use header::{HeaderFault, count_tags, header_fault, tag_value, unescape};
 pub use laws::games_are_isolated;
 pub use spelling::{LONGEST_SYMBOL, san_in};
