@@ -1,0 +1,8 @@
+pub mod Moved
+pub mod Played
+pub mod TokenByToken
+pub mod Counted
+pub mod Ended
+mod Apart
+pub mod Made
+pub mod Printed

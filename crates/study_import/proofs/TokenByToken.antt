@@ -1,0 +1,66 @@
+-- The moves of a game, one token after the other.
+use Rattle.std.proofs.Common.{◌≡◌, ℕ, suc, Bool, false, List, [], ◌∷◌, length, Option, Some, Result, Ok, Err, ap, ◌∙◌}
+use Rattle.std.specs.Prelude.{◌==◌, unwrap_or}
+use Rattle.study_import.specs.declared.lines.LineFault.TheVariants as line_fault
+use Rattle.study_import.specs.declared.moves.MoveFault.TheVariants as move_fault
+use Rattle.study_import.specs.declared.notes.Notes.{Notes}
+use Rattle.study_import.specs.declared.taking.Reason.{Reason}
+use Rattle.study_import.specs.declared.taking.Reason.TheVariants as reason
+use Rattle.study_import.specs.declared.movetext.MovesFault.{MovesFault}
+use Rattle.study_import.specs.declared.movetext.Stop.TheVariants as stop
+use Rattle.study_games.specs.declared.token.TokenFault.TheVariants.{Byte}
+use Rattle.study_import.specs.Reading.{Reading}
+use Rattle.study_import.specs.Taken.{Taken, Takes}
+use Rattle.study_import.specs.Notes.{GameRead, GameTaken, noted_on, game_taken}
+use Rattle.study_games.specs.Tokens.{Token, Lexed, lexed, token_at, begins_feed}
+use Rattle.study_import.specs.Movetext.{Ended, goes_on, on_token, read_moves}
+use Rattle.study_import.specs.MovesRead.{IsTold, TakesIn}
+
+abbrev lexed_or : Option Lexed → Lexed
+lexed_or o = unwrap_or o (Err Byte)
+
+module _ (n m : ℕ) (fresh : Bool) (r : GameRead) (t : Token) (behind : List ℕ) where
+  read_by : (b : ℕ) (bs : List ℕ) → n ≡ suc m → token_at fresh (b ∷ bs) ≡ Some (Ok (t, behind))
+      → read_moves n fresh (b ∷ bs) r ≡ goes_on (read_moves m (b == 10) behind) (length (b ∷ bs)) behind (game_taken r t)
+  read_by b bs e k =
+      let l : lexed fresh b bs ≡ Ok (t, behind) = ap lexed_or k in
+      ap (λ (i : ℕ). read_moves i fresh (b ∷ bs) r) e ∙ ap (on_token (read_moves m (b == 10)) (length (b ∷ bs)) r) l
+
+  pub step_on : (rest : List ℕ) (next : GameRead) → n ≡ suc m → token_at fresh rest ≡ Some (Ok (t, behind))
+      → game_taken r t ≡ Ok (record { game = next; ended = false }) → read_moves n fresh rest r ≡ read_moves m (begins_feed rest) behind next
+  step_on [] next e k h = absurd cc
+  step_on (b ∷ bs) next e k h = read_by b bs e k ∙ ap (goes_on (read_moves m (b == 10) behind) (length (b ∷ bs)) behind) h
+
+  pub stop_on : (rest : List ℕ) (why : Reason) → n ≡ suc m → token_at fresh rest ≡ Some (Ok (t, behind)) → game_taken r t ≡ Err why
+      → read_moves n fresh rest r ≡ Err (record { why = stop.Taking why; left = length rest })
+  stop_on [] why e k h = absurd cc
+  stop_on (b ∷ bs) why e k h = read_by b bs e k ∙ ap (goes_on (read_moves m (b == 10) behind) (length (b ∷ bs)) behind) h
+
+-- a reason that is told, or want of memory
+pub told_by : (why : Reason) (x : Result GameTaken Reason) (new : GameRead) (expected : Result Ended MovesFault) (left : ℕ) → TakesIn (Err why) x new
+    → (x ≡ Err why → expected ≡ Err (record { why = stop.Taking why; left = left })) → IsTold (stop.Taking why) expected left
+told_by (reason.Move move_fault.NoSuchNode) x new expected left h f = f h
+told_by (reason.Move (move_fault.San fault)) x new expected left h f = f h
+told_by (reason.Move move_fault.TooDeep) x new expected left h f = f h
+told_by (reason.Move move_fault.TreeFull) x new expected left h f = f h
+told_by (reason.Move move_fault.OutOfMemory) x new expected left h f = tt
+told_by (reason.Line line_fault.NoMoveBefore) x new expected left h f = f h
+told_by (reason.Line line_fault.TooNested) x new expected left h f = f h
+told_by (reason.Line line_fault.NotOpened) x new expected left h f = f h
+told_by (reason.Line line_fault.OutOfMemory) x new expected left h f = tt
+told_by reason.TagInMoves x new expected left h f = f h
+
+-- a token that was taken, with what is noted of it
+pub noted_takes : (answer : Result Bool Reason) (x : Result Taken Reason) (new : Reading) (n : Notes) → Takes answer x new
+    → TakesIn answer (noted_on n x) (record { reading = new; notes = n })
+noted_takes (Ok ended) x new n h = ap (noted_on n) h
+noted_takes (Err (reason.Move move_fault.NoSuchNode)) x new n h = ap (noted_on n) h
+noted_takes (Err (reason.Move (move_fault.San fault))) x new n h = ap (noted_on n) h
+noted_takes (Err (reason.Move move_fault.TooDeep)) x new n h = ap (noted_on n) h
+noted_takes (Err (reason.Move move_fault.TreeFull)) x new n h = ap (noted_on n) h
+noted_takes (Err (reason.Move move_fault.OutOfMemory)) x new n h = tt
+noted_takes (Err (reason.Line line_fault.NoMoveBefore)) x new n h = ap (noted_on n) h
+noted_takes (Err (reason.Line line_fault.TooNested)) x new n h = ap (noted_on n) h
+noted_takes (Err (reason.Line line_fault.NotOpened)) x new n h = ap (noted_on n) h
+noted_takes (Err (reason.Line line_fault.OutOfMemory)) x new n h = tt
+noted_takes (Err reason.TagInMoves) x new n h = ap (noted_on n) h

@@ -1,0 +1,11 @@
+use Rattle.std.specs.Prelude.{codes}
+use Rattle.std.proofs.lemmas.Result.{on_ok_weaker}
+use Rattle.study_import.specs.Blocks.{move_counts}
+use Rattle.study_import.proofs.Counted.{count_on}
+use Rattle.study_import.proofs.counts.add_tags.Goals as goal
+
+pub returns : goal.returns
+returns g c =
+    on_ok_weaker c.add_repeated.result
+    (count_on c.args.out.now c.add_count.new.out c.add_repeated.new.out c.args.first c.is_first.result (codes "tags") c.args.tags (move_counts c.args.notes.now c.args.repeated) c.in_ok-add_count.ensures c.is_first.ensures)
+    c.add_repeated.ensures

@@ -1,0 +1,8 @@
+use Rattle.std.proofs.Common.{length, true}
+use Rattle.study_import.specs.Blocks.{no_moves, game_read}
+use Rattle.study_import.proofs.Made.{moves_lead}
+use Rattle.study_import.proofs.laws.moves_are_accepted.Goals as goal
+
+pub returns : goal.returns
+unfolding game_read
+returns c = λ text start x is. moves_lead (Unit {0}) (length text) true text (no_moves start) x is

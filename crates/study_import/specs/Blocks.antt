@@ -1,0 +1,408 @@
+-- What is written of a game.
+use Rattle.std.specs.Prelude.{ℕ, ◌+◌, ◌-◌, ◌^◌, min, Bool, true, false, ◌&&◌, ◌||◌, ◌==◌, nat_le, List, [], ◌∷◌, ◌++◌, length, take, drop, map, codes, decimal, count_by}
+use Rattle.std.specs.Prelude.{Option, Some, None, Result, Ok, Err, if◌then◌else◌}
+use Rattle.std.specs.List.{flat_map}
+use Rattle.std.specs.Str.{bytes_eq}
+use Rattle.study_board.specs.declared.men.Side.{Side}
+use Rattle.study_board.specs.declared.men.Side.TheVariants.{White, Black}
+use Rattle.study_notation.specs.declared.start.Start.{Start}
+use Rattle.study_notation.specs.declared.fault.FenFault.{FenFault}
+use Rattle.study_notation.specs.declared.fault.FenFault.TheVariants as fen
+use Rattle.study_notation.specs.Fen.{start_of}
+use Rattle.study_notation.specs.FenSpelling.{fen_text}
+use Rattle.study_tree.specs.Forest.{none}
+use Rattle.study_tree.specs.Tree.{size_of}
+use Rattle.study_marks.specs.declared.stipulation.Goal.{Goal}
+use Rattle.study_marks.specs.declared.stipulation.Goal.TheVariants.{Win, Draw, MateIn}
+use Rattle.study_marks.specs.declared.stipulation.Stipulation.{Stipulation}
+use Rattle.study_marks.specs.declared.tag.TagName.{TagName}
+use Rattle.study_marks.specs.declared.tag.TagName.TheVariants as tag_named
+use Rattle.study_marks.specs.Study.{tag_name}
+use Rattle.study_marks.specs.Edits.{Plainly, is_printable}
+use Rattle.study_reply.specs.Names.{fen_name, san_name}
+use Rattle.study_games.specs.Bytes.{is_blank, is_letter, is_symbol_byte}
+use Rattle.study_games.specs.Tokens.{front, behind}
+use Rattle.study_games.specs.Words.{first_word, trimmed}
+use Rattle.study_games.specs.Games.{Game, one_more}
+use Rattle.study_games.specs.Header.{Pair, tags_of, header_fault, value_of, unescaped}
+use Rattle.study_games.specs.Ascii.{spelled_out, short_text}
+use Rattle.study_games.specs.declared.header.HeaderFault.{HeaderFault}
+use Rattle.study_games.specs.declared.symbols.Outcome.{Outcome}
+use Rattle.study_games.specs.declared.token.TokenFault.{TokenFault}
+use Rattle.study_games.specs.declared.token.TokenFault.TheVariants as token
+use Rattle.study_import.specs.declared.lines.LineFault.{LineFault}
+use Rattle.study_import.specs.declared.lines.LineFault.TheVariants as line_fault
+use Rattle.study_import.specs.declared.moves.MoveFault.{MoveFault}
+use Rattle.study_import.specs.declared.moves.MoveFault.TheVariants as move_fault
+use Rattle.study_import.specs.declared.taking.Reason.{Reason}
+use Rattle.study_import.specs.declared.taking.Reason.TheVariants as reason
+use Rattle.study_import.specs.declared.movetext.MovesFault.{MovesFault}
+use Rattle.study_import.specs.declared.movetext.Stop.{Stop}
+use Rattle.study_import.specs.declared.movetext.Stop.TheVariants as stop
+use Rattle.study_import.specs.declared.aims.Aim.{Aim}
+use Rattle.study_import.specs.declared.aims.AimSource.TheVariants.{Comment, StipulationTag, ResultTag, Result as EndResult, Given}
+use Rattle.study_import.specs.declared.notes.Notes.{Notes}
+use Rattle.study_import.specs.declared.block.Told.{Told as ToldRead}
+use Rattle.study_import.specs.declared.importer.Choice.{Choice}
+use Rattle.study_import.specs.declared.places.Place.{Place}
+use Rattle.study_import.specs.declared.places.Entry.{Entry as EntryRead}
+use Rattle.study_import.specs.Aims.{from_source, or_aim, aim_of_result, aim_of_tag, outcome_of_tag, source_words}
+use Rattle.study_import.specs.Notes.{GameRead, none_yet}
+use Rattle.study_import.specs.Taken.{reading_of}
+use Rattle.study_import.specs.Movetext.{Ended, read_moves}
+
+-- ---- places
+
+abbrev pub moved_on : Place → ℕ → Place
+moved_on p b = if b == 10 then record { line = one_more p.line; column = 1 } else record { line = p.line; column = one_more p.column }
+
+-- the place behind a text that begins at a place; columns are counted in bytes
+abbrev pub place_behind : Place → List ℕ → Place
+place_behind p [] = p
+place_behind p (b ∷ bs) = place_behind (moved_on p b) bs
+
+-- a game of a file: its number, the number of its first line, and its bytes
+pub record Entry : Type 0 where
+  pub number : ℕ
+  pub line : ℕ
+  pub text : List ℕ
+
+-- what a contract sees of it
+abbrev pub entry_seen : EntryRead → Entry
+entry_seen e = record { number = e.number; line = e.line; text = e.text.now }
+
+-- what stands from a place on, of which so many bytes are left
+abbrev pub text_at : Entry → ℕ → List ℕ
+text_at e left = drop (length e.text - left) e.text
+
+abbrev pub place_in : Entry → ℕ → Place
+place_in e left = place_behind (record { line = e.line; column = 1 }) (take (length e.text - left) e.text)
+
+-- ---- names of faults
+
+abbrev pub token_name : TokenFault → List ℕ
+token_name token.OpenComment = codes "OpenComment"
+token_name token.TagForm = codes "TagForm"
+token_name token.OpenString = codes "OpenString"
+token_name token.Byte = codes "Byte"
+
+abbrev pub move_name : MoveFault → List ℕ
+move_name move_fault.NoSuchNode = codes "NoSuchNode"
+move_name (move_fault.San fault) = san_name fault
+move_name move_fault.TooDeep = codes "TooDeep"
+move_name move_fault.TreeFull = codes "TreeFull"
+move_name move_fault.OutOfMemory = codes "OutOfMemory"
+
+abbrev pub line_name : LineFault → List ℕ
+line_name line_fault.NoMoveBefore = codes "NoMoveBefore"
+line_name line_fault.TooNested = codes "TooNested"
+line_name line_fault.NotOpened = codes "NotOpened"
+line_name line_fault.OutOfMemory = codes "OutOfMemory"
+
+abbrev pub reason_name : Reason → List ℕ
+reason_name (reason.Move fault) = move_name fault
+reason_name (reason.Line fault) = line_name fault
+reason_name reason.TagInMoves = codes "TagInMoves"
+
+abbrev pub stop_name : Stop → List ℕ
+stop_name (stop.Token fault) = token_name fault
+stop_name (stop.Taking why) = reason_name why
+stop_name stop.OpenVariation = codes "OpenVariation"
+
+-- a move that is not read is told with its symbol, 40 bytes at most
+abbrev pub symbol_words : Stop → List ℕ → List ℕ
+symbol_words (stop.Taking (reason.Move (move_fault.San fault))) text = codes " at " ++ take 40 (front is_symbol_byte text)
+symbol_words other text = []
+
+-- ---- lines of remarks
+
+abbrev pub game_words : ℕ → List ℕ
+game_words number = codes "# game " ++ decimal number
+
+-- `# game N, line L: WORDS`, and an empty line
+unfoldable pub left_out : Entry → List ℕ → List ℕ
+left_out e words = game_words e.number ++ (codes ", line " ++ (decimal e.line ++ (codes ": " ++ (words ++ codes "\n\n"))))
+
+-- `line L, column C`
+unfoldable pub place_words : Place → List ℕ
+place_words p = codes "line " ++ (decimal p.line ++ (codes ", column " ++ decimal p.column))
+
+-- `# game N, line L, column C: NAME at SYMBOL`, and an empty line
+unfoldable pub fault_words : ℕ → Place → List ℕ → List ℕ → List ℕ
+fault_words number p name symbol = game_words number ++ (codes ", " ++ (place_words p ++ (codes ": " ++ (name ++ (symbol ++ codes "\n\n")))))
+
+-- what is written of a game, and whether it is a study
+pub record Block : Type 0 where
+  pub text : List ℕ
+  pub is_study : Bool
+
+abbrev pub no_study : List ℕ → Block
+no_study text = record { text = text; is_study = false }
+
+-- ---- counts
+
+-- ` NAME N`, behind a comma if it is not the first
+abbrev pub count_words : Bool → List ℕ → ℕ → List ℕ
+count_words first name n = if n == 0 then [] else (if first then codes " " else codes ", ") ++ (name ++ (codes " " ++ decimal n))
+
+abbrev pub counts_words : Bool → List (List ℕ × ℕ) → List ℕ
+counts_words first [] = []
+counts_words first (c ∷ cs) = count_words first c.0 c.1 ++ counts_words (first && c.1 == 0) cs
+
+abbrev pub counts_line : List ℕ → List ℕ
+counts_line words = if length words == 0 then [] else codes "# not taken over:" ++ (words ++ codes "\n")
+
+-- tags that have no place in a study, and those behind the first of their name
+abbrev pub known_names : List (List ℕ)
+known_names = codes "Event" ∷ codes "Site" ∷ codes "Date" ∷ codes "Round" ∷ codes "White" ∷ codes "Black"
+    ∷ codes "FEN" ∷ codes "SetUp" ∷ codes "Result" ∷ codes "Stipulation" ∷ []
+
+abbrev pub found_count : Option (List ℕ) → ℕ
+found_count None = 0
+found_count (Some value) = 1
+
+abbrev pub known_count : List (List ℕ) → List Pair → ℕ
+known_count [] tags = 0
+known_count (name ∷ names) tags = found_count (value_of name tags) + known_count names tags
+
+-- as a u32 can hold it
+abbrev pub at_most : ℕ → ℕ
+at_most n = min n (2 ^ 32 - 1)
+
+abbrev pub other_tags : List Pair → ℕ
+other_tags tags = at_most (length tags - known_count known_names tags)
+
+-- moves that were played and are no new node
+abbrev pub repeated_moves : Notes → Plainly → ℕ
+repeated_moves n s = n.moves - (size_of s.tree - 1)
+
+abbrev pub move_counts : Notes → ℕ → List (List ℕ × ℕ)
+move_counts n repeated = (codes "repeated", repeated) ∷ (codes "null moves", n.null_moves) ∷ (codes "moves behind", n.moves_behind) ∷ []
+
+unfoldable pub counted_words : Notes → ℕ → ℕ → List ℕ
+counted_words n tags repeated =
+    counts_words true ((codes "comments", n.comments) ∷ (codes "NAGs", n.asides) ∷ (codes "tags", tags) ∷ move_counts n repeated)
+
+-- what follows the result is not read, and told by its place
+unfoldable pub behind_line : Entry → List ℕ → List ℕ
+behind_line e text =
+    if length (behind is_blank text) == 0 then []
+    else codes "# behind the result: " ++ (place_words (place_in e (length (behind is_blank text))) ++ codes "\n")
+
+-- ---- tags
+
+abbrev pub six_names : List TagName
+six_names = tag_named.Event ∷ tag_named.Site ∷ tag_named.Date ∷ tag_named.Round ∷ tag_named.White ∷ tag_named.Black ∷ []
+
+-- a byte of an original in a remark
+abbrev pub shown : ℕ → ℕ
+shown b = if nat_le b 31 || b == 127 then 32 else b
+
+-- the text that the script can hold
+abbrev pub tag_text : List ℕ → List ℕ
+tag_text value = short_text (spelled_out value)
+
+-- `# NAME was: VALUE`, where the text is another than the value without spaces at its ends; 255 bytes of it at most
+abbrev pub was_words : TagName → List ℕ → List ℕ → List ℕ
+was_words name value text =
+    if bytes_eq text (trimmed value) then []
+    else codes "# " ++ (tag_name name ++ (codes " was: " ++ (map shown (take 255 value) ++ codes "\n")))
+
+abbrev pub was_text : TagName → List ℕ → List ℕ
+was_text name value = was_words name value (tag_text value)
+
+abbrev pub was_of : TagName → Option (List ℕ) → List ℕ
+was_of name None = []
+was_of name (Some value) = was_text name (unescaped value)
+
+unfoldable pub was_line : List Pair → TagName → List ℕ
+was_line tags name = was_of name (value_of (tag_name name) tags)
+
+abbrev pub unknown_text : TagName → List ℕ
+unknown_text tag_named.Date = codes "????.??.??"
+unknown_text other = codes "?"
+
+abbrev pub text_or_unknown : TagName → List ℕ → List ℕ
+text_or_unknown name text = if length text == 0 then unknown_text name else text
+
+abbrev pub tag_value_text : TagName → Option (List ℕ) → List ℕ
+tag_value_text name None = unknown_text name
+tag_value_text name (Some value) = text_or_unknown name (tag_text (unescaped value))
+
+-- `tag NAME TEXT`
+unfoldable pub tag_line : List Pair → TagName → List ℕ
+tag_line tags name = codes "tag " ++ (tag_name name ++ (codes " " ++ (tag_value_text name (value_of (tag_name name) tags) ++ codes "\n")))
+
+-- ---- a block
+
+abbrev pub side_text : Side → List ℕ
+side_text White = codes "white "
+side_text Black = codes "black "
+
+abbrev pub goal_text : Goal → List ℕ
+goal_text Win = codes "win\n"
+goal_text Draw = codes "draw\n"
+goal_text (MateIn count) = codes "mate " ++ (decimal count ++ codes "\n")
+
+unfoldable pub stipulation_line : Stipulation → List ℕ
+stipulation_line s = codes "stipulate " ++ (side_text s.hero ++ goal_text s.goal)
+
+unfoldable pub head_line : Entry → Aim → List ℕ
+head_line e aim = game_words e.number ++ (codes ", line " ++ (decimal e.line ++ (codes ": stipulated by " ++ (source_words aim.source ++ codes "\n"))))
+
+unfoldable pub position_line : Start → List ℕ
+position_line start = codes "position " ++ (fen_text start ++ codes "\n")
+
+-- what was read of a game, but for its start: what was noted, how many moves were played that are no new node, the text behind the result,
+-- and the lines that make the tree
+pub record Told : Type 0 where
+  pub notes : Notes
+  pub repeated : ℕ
+  pub behind : List ℕ
+  pub inserts : List ℕ
+
+abbrev pub told_of : Ended → Told
+told_of x = record {
+  notes = x.game.notes;
+  repeated = repeated_moves x.game.notes x.game.reading.study;
+  behind = x.behind;
+  inserts = x.game.reading.inserts;
+}
+
+abbrev pub told_seen : ToldRead → Told
+told_seen t = record { notes = t.notes; repeated = t.repeated; behind = t.behind.now; inserts = t.inserts.now }
+
+unfoldable pub remark_lines : Entry → Told → List ℕ
+remark_lines e t =
+    counts_line (counted_words t.notes (other_tags (tags_of e.text)) t.repeated)
+    ++ (behind_line e t.behind ++ flat_map (was_line (tags_of e.text)) six_names)
+
+unfoldable pub study_lines : Entry → Start → Stipulation → List ℕ → List ℕ
+study_lines e start stipulation inserts =
+    position_line start ++ (stipulation_line stipulation ++ (flat_map (tag_line (tags_of e.text)) six_names ++ (inserts ++ codes "pgn\n\n")))
+
+unfoldable pub block_lines : Entry → Start → Aim → Told → List ℕ
+block_lines e start aim t = head_line e aim ++ (remark_lines e t ++ study_lines e start aim.stipulation t.inserts)
+
+-- ---- a game
+
+abbrev pub tag_aim : Side → Option (List ℕ) → Option Aim
+tag_aim to_move None = None
+tag_aim to_move (Some value) = from_source StipulationTag (aim_of_tag (unescaped value) to_move)
+
+abbrev pub result_of : Option (List ℕ) → Option Outcome
+result_of None = None
+result_of (Some value) = outcome_of_tag value
+
+-- the first that says a stipulation: the opening comment, the tag Stipulation, the tag Result, the result, the caller
+unfoldable pub aim_of_game : Option Stipulation → List Pair → Side → Notes → Option Aim
+aim_of_game given tags to_move n =
+    or_aim (from_source Comment n.opening)
+    (or_aim (tag_aim to_move (value_of (codes "Stipulation") tags))
+    (or_aim (aim_of_result ResultTag (result_of (value_of (codes "Result") tags)))
+    (or_aim (aim_of_result EndResult n.outcome)
+    (from_source Given given))))
+
+abbrev pub aimed_block : Entry → Start → Told → Option Aim → Block
+aimed_block e start t None = no_study (left_out e (codes "NoStipulation"))
+aimed_block e start t (Some aim) = record { text = block_lines e start aim t; is_study = true }
+
+abbrev pub stopped_block : Entry → MovesFault → Block
+stopped_block e fault = no_study (fault_words e.number (place_in e fault.left) (stop_name fault.why) (symbol_words fault.why (text_at e fault.left)))
+
+abbrev pub read_block : Option Stipulation → Entry → Start → Result Ended MovesFault → Block
+read_block given e start (Err fault) = stopped_block e fault
+read_block given e start (Ok x) = aimed_block e start (told_of x) (aim_of_game given (tags_of e.text) start.position.to_move x.game.notes)
+
+-- before the first move. The stipulation says nothing here
+abbrev pub no_moves : Start → GameRead
+no_moves start = record {
+  reading = reading_of (record {
+    start = start;
+    stipulation = record { hero = White; goal = Win };
+    tags = None ∷ None ∷ None ∷ None ∷ None ∷ None ∷ [];
+    tree = record { label = tt; below = none };
+  }) [] 0 [] 0 [];
+  notes = none_yet;
+}
+
+unfoldable pub game_read : List ℕ → Start → Result Ended MovesFault
+game_read text start = read_moves (length text) true text (no_moves start)
+
+-- how many men a FEN places
+abbrev pub men_in : Option (List ℕ × List ℕ) → ℕ
+men_in None = 0
+men_in (Some found) = count_by is_letter found.0
+
+abbrev pub fen_words : List ℕ → FenFault → List ℕ
+fen_words text fen.TooManyMen = codes "left out: " ++ (decimal (at_most (men_in (first_word text))) ++ codes " men")
+fen_words text fault = fen_name fault
+
+abbrev pub start_block : Option Stipulation → Entry → List ℕ → Result Start FenFault → Block
+start_block given e text (Err fault) = no_study (left_out e (fen_words text fault))
+start_block given e text (Ok start) = read_block given e start (game_read e.text start)
+
+-- a byte that does not print is read as `?`, which no field of a FEN has
+abbrev pub printed : ℕ → ℕ
+printed b = if is_printable b then b else 63
+
+abbrev pub fen_in : List ℕ → List ℕ
+fen_in value = map printed (unescaped value)
+
+abbrev pub fen_block : Option Stipulation → Entry → Option (List ℕ) → Block
+fen_block given e None = no_study (left_out e (codes "left out: no FEN, so 32 men"))
+fen_block given e (Some value) = start_block given e (fen_in value) (start_of (fen_in value))
+
+abbrev pub tagged_block : Option Stipulation → Entry → List Pair → Block
+tagged_block given e tags = if length tags == 0 then no_study (left_out e (codes "left out: no tags")) else fen_block given e (value_of (codes "FEN") tags)
+
+abbrev pub header_block : Option Stipulation → Entry → Option HeaderFault → Block
+header_block given e (Some fault) = no_study (fault_words e.number (place_in e fault.left) (token_name fault.why) [])
+header_block given e None = tagged_block given e (tags_of e.text)
+
+abbrev pub sized_block : Option Stipulation → ℕ → ℕ → Option (List ℕ) → Block
+sized_block given number line None = no_study (fault_words number (record { line = line; column = 1 }) (codes "GameTooLarge") [])
+sized_block given number line (Some text) =
+    header_block given (record { number = number; line = line; text = text }) (header_fault text)
+
+-- what is written of the game with this number
+unfoldable pub block_of : Option Stipulation → ℕ → Game → Block
+block_of given number game = sized_block given number game.line game.text
+
+-- ---- a file
+
+unfoldable pub last_line : ℕ → ℕ → List ℕ
+last_line games studies = codes "# games " ++ (decimal games ++ (codes ", studies " ++ (decimal studies ++ codes "\n")))
+
+abbrev pub one_if : Bool → ℕ → ℕ
+one_if is_study n = if is_study then one_more n else n
+
+-- the games with these numbers are told
+abbrev pub is_chosen : Choice → ℕ → Bool
+is_chosen c number = nat_le c.from number && nat_le number c.to
+
+-- how many games came before, how many of them were told, and how many of these are studies
+pub record Tally : Type 0 where
+  pub met : ℕ
+  pub told : ℕ
+  pub studies : ℕ
+
+-- the game that follows
+abbrev pub tallied : Choice → Tally → Game → Tally
+tallied c t g =
+    if is_chosen c (one_more t.met)
+    then record {
+      met = one_more t.met;
+      told = one_more t.told;
+      studies = one_if (block_of c.given (one_more t.met) g).is_study t.studies;
+    }
+    else record { met = one_more t.met; told = t.told; studies = t.studies }
+
+-- what is written of it
+abbrev pub told_text : Choice → Tally → Game → List ℕ
+told_text c t g = if is_chosen c (one_more t.met) then (block_of c.given (one_more t.met) g).text else []
+
+-- what is written of these games, and the last line
+abbrev pub blocks : Choice → Tally → List Game → List ℕ
+blocks c t [] = last_line t.told t.studies
+blocks c t (g ∷ gs) = told_text c t g ++ blocks c (tallied c t g) gs

@@ -1,0 +1,19 @@
+-- What was answered of a game.
+use Rattle.std.specs.Prelude.{◌≡◌, ℕ, Bool, true, false, List, ◌++◌, Result, Ok, Err}
+use Rattle.study_import.specs.declared.lines.LineFault.TheVariants as line_fault
+use Rattle.study_import.specs.declared.moves.MoveFault.TheVariants as move_fault
+use Rattle.study_import.specs.declared.taking.Reason.TheVariants as reason
+use Rattle.study_import.specs.declared.movetext.Stop.{Stop}
+use Rattle.study_import.specs.declared.movetext.Stop.TheVariants as stop
+use Rattle.study_import.specs.Blocks.{Block}
+
+-- want of memory
+abbrev pub is_of_memory : Stop → Bool
+is_of_memory (stop.Taking (reason.Move move_fault.OutOfMemory)) = true
+is_of_memory (stop.Taking (reason.Line line_fault.OutOfMemory)) = true
+is_of_memory other = false
+
+-- the block was added, unless there was no memory
+abbrev pub Adds : {E : Type 0} → Result Bool E → List ℕ → List ℕ → Block → Type 0
+Adds (Ok is_study) old new block = (new ≡ old ++ block.text) × (is_study ≡ block.is_study)
+Adds (Err error) old new block = Unit {0}

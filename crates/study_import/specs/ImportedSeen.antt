@@ -1,0 +1,6 @@
+-- What a contract sees of a tally.
+use Rattle.study_import.specs.declared.importer.Imported.{Imported}
+use Rattle.study_import.specs.Blocks.{Tally}
+
+abbrev pub tally_seen : Imported → Tally
+tally_seen t = record { met = t.met; told = t.told; studies = t.studies }

@@ -1,0 +1,32 @@
+-- The insertions of which a game's tree is made.
+use Rattle.std.specs.Prelude.{◌≡◌, ℕ, List, [], ◌∷◌, ◌++◌, Some, None}
+use Rattle.study_moves.specs.declared.moves.Move.{Move}
+use Rattle.study_marks.specs.Study.{position_at}
+use Rattle.study_marks.specs.Edits.{Plainly, inserted, insert_refusal}
+use Rattle.study_import.specs.Reading.{Reading, insert_line}
+
+-- the path of a node, and the move that is made there
+abbrev pub Insertion : Type 0
+Insertion = List ℕ × Move
+
+-- the study after these insertions
+abbrev pub made_by : Plainly → List Insertion → Plainly
+made_by s [] = s
+made_by s (i ∷ more) = made_by (inserted s i.0 i.1) more
+
+-- none of them is refused in its turn
+abbrev pub AllAccepted : Type 0 → Plainly → List Insertion → Type 0
+AllAccepted A s [] = Unit {0}
+AllAccepted A s (i ∷ more) = (insert_refusal {A = A} s i.0 i.1 ≡ None) × AllAccepted A (inserted s i.0 i.1) more
+
+-- the lines of the script that ask for them
+abbrev pub lines_for : Plainly → List Insertion → List ℕ
+lines_for s [] = []
+lines_for s (i ∷ more) = insert_line (position_at s i.0) i.0 (Some i.1) ++ lines_for (inserted s i.0 i.1) more
+
+-- from the first of these readings insertions lead to the second: none is refused, the study is what they make, and its lines ask for them
+pub record Leads (A : Type 0) (r now : Reading) : Type 0 where
+  pub insertions : List Insertion
+  pub accepted : AllAccepted A r.study insertions
+  pub study : now.study ≡ made_by r.study insertions
+  pub lines : now.inserts ≡ r.inserts ++ lines_for r.study insertions

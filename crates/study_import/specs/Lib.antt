@@ -1,0 +1,14 @@
+pub mod Lines
+pub mod Moves
+pub mod Reading
+pub mod Taken
+pub mod Aims
+pub mod Notes
+pub mod Movetext
+pub mod MovesRead
+pub mod Blocks
+pub mod BlocksRead
+pub mod Imported
+pub mod ImportedSeen
+pub mod Laws
+pub mod Insertions

@@ -1,0 +1,568 @@
+//! What is written of a game.
+ghost use Rattle.std.specs.Prelude.{◌≡◌, ◌≤◌, ◌++◌, ◌-◌, true, length, map, codes, count_by, OnOk, IfOk, IsErr};
+ghost use Rattle.std.specs.List.{list_all, prefix_len};
+ghost use Rattle.std.specs.Option.{option_map};
+ghost use Rattle.study_notation.specs.Fen.{start_of};
+ghost use Rattle.study_marks.specs.Edits.{is_printable};
+ghost use Rattle.study_marks.specs.Study.{plain_study};
+ghost use Rattle.study_marks.specs.BenchState.{marked};
+ghost use Rattle.study_games.specs.Bytes.{is_blank, is_letter};
+ghost use Rattle.study_games.specs.Words.{first_word};
+ghost use Rattle.study_games.specs.Games.{game_seen};
+ghost use Rattle.study_games.specs.Header.{tags_of, header_fault, value_of};
+ghost use Rattle.study_import.specs.Notes.{game_of};
+ghost use Rattle.study_import.specs.Aims.{source_words, from_source, or_aim, aim_of_result};
+ghost use Rattle.study_import.specs.Blocks.{entry_seen, repeated_moves, behind_line, side_text, goal_text, stipulation_line, head_line, position_line, remark_lines, study_lines, block_lines};
+ghost use Rattle.study_import.specs.Blocks.{tag_aim, result_of, aim_of_game, told_seen, aimed_block, stopped_block, read_block, no_moves, game_read, at_most, men_in, no_study, left_out, fen_words, start_block, printed, fen_in, fen_block, header_block, block_of};
+ghost use Rattle.study_import.specs.BlocksRead.{is_of_memory, Adds};
+
+use crate::aims::{Aim, AimSource, aim_of_outcome, aim_of_tag, outcome_of_tag, source_words};
+use crate::counts::{add_counted, add_counts_line, other_tags};
+use crate::faults::{add_fault, add_game_words, add_left_out, add_stop, is_of_memory, token_name};
+use crate::lines::Lines;
+use crate::movetext::{GameReading, MovesFault};
+use crate::notes::Notes;
+use crate::places::{Entry, Place, add_place, at_most, place_in};
+use crate::reading::Reading;
+use crate::tags::{add_tag_lines, add_was_lines};
+use crate::values::NoValues;
+use std::alloc::{AllocError, Allocator};
+use study_board::Side;
+use study_command::as_text;
+use study_games::bytes::{is_blank, is_letter};
+use study_games::{Game, Outcome, count_tags, header_fault, next_word, tag_value, unescape};
+use study_marks::{Bench, Goal, Stipulation};
+use study_notation::{FenFault, Start, read_fen, write_fen};
+use study_reply::Refusal;
+use study_text::Text;
+
+fn side_text(side: Side) -> &'static [u8]
+    ensures { result.now ≡ side_text side }
+{
+    match side {
+        Side::White => b"white ",
+        Side::Black => b"black ",
+    }
+}
+
+fn add_goal<A: Allocator>(out: &mut Text<'_, A>, goal: Goal) -> Result<(), AllocError>
+    ensures { OnOk result (out.new ≡ out.old ++ goal_text goal) }
+{
+    match goal {
+        Goal::Win => out.add(b"win\n"),
+        Goal::Draw => out.add(b"draw\n"),
+        Goal::MateIn(moves) => {
+            out.add(b"mate ")?;
+            out.add_number(moves.count() as u32)?;
+            out.add(b"\n")
+        }
+    }
+}
+
+#[tactic(auto, unfolding(crate::specs::Blocks::stipulation_line))]
+fn add_stipulation<A: Allocator>(
+    out: &mut Text<'_, A>,
+    stipulation: &Stipulation,
+) -> Result<(), AllocError>
+    ensures { OnOk result (out.new ≡ out.old ++ stipulation_line stipulation.now) }
+{
+    out.add(b"stipulate ")?;
+    out.add(side_text(stipulation.hero))?;
+    add_goal(out, stipulation.goal)
+}
+
+#[tactic(auto, unfolding(crate::specs::Blocks::head_line))]
+fn add_head<A: Allocator>(
+    out: &mut Text<'_, A>,
+    entry: &Entry<'_>,
+    aim: &Aim,
+) -> Result<(), AllocError>
+    ensures { OnOk result (out.new ≡ out.old ++ head_line (entry_seen entry.now) aim.now) }
+{
+    add_game_words(out, entry.number)?;
+    out.add(b", line ")?;
+    out.add_number(entry.line)?;
+    out.add(b": stipulated by ")?;
+    add_source(out, aim.source)
+}
+
+fn add_source<A: Allocator>(out: &mut Text<'_, A>, source: AimSource) -> Result<(), AllocError>
+    ensures { OnOk result (out.new ≡ out.old ++ (source_words source ++ codes "\n")) }
+{
+    out.add(source_words(source))?;
+    out.add(b"\n")
+}
+
+#[tactic(auto, unfolding(crate::specs::Blocks::position_line))]
+fn add_position<A: Allocator>(out: &mut Text<'_, A>, start: &Start) -> Result<(), AllocError>
+    ensures { OnOk result (out.new ≡ out.old ++ position_line start.now) }
+{
+    out.add(b"position ")?;
+    out.add(write_fen(start).as_str().as_bytes())?;
+    out.add(b"\n")
+}
+
+fn blanks_len(text: &[u8]) -> usize
+    ensures value { result ≡ prefix_len is_blank text.now }
+    ensures within { result ≤ length text.now }
+{
+    text.iter().take_while(|b| is_blank(**b)).count()
+}
+
+/// Adds the place of what follows the result, where anything does.
+#[tactic(auto, unfolding(crate::specs::Blocks::behind_line))]
+fn add_behind<A: Allocator>(
+    out: &mut Text<'_, A>,
+    entry: &Entry<'_>,
+    behind: &[u8],
+) -> Result<(), AllocError>
+    ensures { OnOk result (out.new ≡ out.old ++ behind_line (entry_seen entry.now) behind.now) }
+{
+    let (_, unread) = behind.split_at(blanks_len(behind));
+    if unread.is_empty() {
+        return Ok(());
+    }
+    out.add(b"# behind the result: ")?;
+    add_place(out, place_in(entry, unread.len()))?;
+    out.add(b"\n")
+}
+
+/// What was read of a game, but for its start.
+#[derive(Clone, Copy)]
+pub struct Told<'t> {
+    pub notes: Notes,
+    /// How many moves were played that are no new node.
+    pub repeated: u32,
+    /// The text behind the result.
+    pub behind: &'t [u8],
+    /// The lines that make the tree.
+    pub inserts: &'t [u8],
+}
+
+/// How many moves were played that are no new node.
+fn repeated_moves<'a, A: Allocator>(notes: &Notes, bench: &Bench<'a, A>) -> u32
+    ensures { result ≡ repeated_moves notes.now (plain_study (marked bench.now)) }
+{
+    notes.moves.saturating_sub(new_nodes(bench.size()))
+}
+
+/// How many nodes of a tree are not its root.
+fn new_nodes(size: usize) -> u32
+    requires { size ≤ 4096 }
+    ensures { result ≡ size - 1 }
+{
+    if size == 0 { 0 } else { size as u32 - 1 }
+}
+
+#[tactic(auto, unfolding(crate::specs::Blocks::remark_lines))]
+fn add_remarks<'a, A: Allocator>(
+    alloc: &'a A,
+    out: &mut Text<'_, A>,
+    entry: &Entry<'_>,
+    told: &Told<'_>,
+) -> Result<(), AllocError>
+    ensures { OnOk result (out.new ≡ out.old ++ remark_lines (entry_seen entry.now) (told_seen told.now)) }
+{
+    let mut words = Text::new(alloc);
+    add_counted(
+        &mut words,
+        &told.notes,
+        other_tags(entry.text),
+        told.repeated,
+    )?;
+    add_counts_line(out, words.as_slice())?;
+    add_behind(out, entry, told.behind)?;
+    add_was_lines(alloc, out, entry.text)
+}
+
+#[tactic(auto, unfolding(crate::specs::Blocks::study_lines))]
+fn add_study<'a, A: Allocator>(
+    alloc: &'a A,
+    out: &mut Text<'_, A>,
+    entry: &Entry<'_>,
+    start: &Start,
+    stipulation: &Stipulation,
+    inserts: &[u8],
+) -> Result<(), AllocError>
+    ensures { OnOk result (out.new ≡ out.old ++ study_lines (entry_seen entry.now) start.now stipulation.now inserts.now) }
+{
+    add_position(out, start)?;
+    add_stipulation(out, stipulation)?;
+    add_tag_lines(alloc, out, entry.text)?;
+    out.add(inserts)?;
+    out.add(b"pgn\n\n")
+}
+
+/// The stipulation of a tag Stipulation.
+fn tag_aim<'a, A: Allocator>(
+    alloc: &'a A,
+    to_move: Side,
+    raw: Option<&[u8]>,
+) -> Result<Option<Aim>, AllocError>
+    ensures { IfOk result (λ aim. aim ≡ tag_aim to_move (option_map (λ v. v.now) raw.entry)) }
+{
+    match raw {
+        None => Ok(None),
+        Some(raw) => {
+            let value = unescape(alloc, raw)?;
+            Ok(from_source(
+                AimSource::StipulationTag,
+                aim_of_tag(value.as_slice(), to_move),
+            ))
+        }
+    }
+}
+
+fn from_source(source: AimSource, stipulation: Option<Stipulation>) -> Option<Aim>
+    ensures { result ≡ from_source source stipulation }
+{
+    match stipulation {
+        Some(stipulation) => Some(Aim {
+            stipulation,
+            source,
+        }),
+        None => None,
+    }
+}
+
+fn aim_of_result(source: AimSource, outcome: Option<Outcome>) -> Option<Aim>
+    ensures { result ≡ aim_of_result source outcome }
+{
+    match outcome {
+        Some(outcome) => Some(Aim {
+            stipulation: aim_of_outcome(outcome),
+            source,
+        }),
+        None => None,
+    }
+}
+
+fn result_of(raw: Option<&[u8]>) -> Option<Outcome>
+    ensures { result ≡ result_of (option_map (λ v. v.now) raw.entry) }
+{
+    match raw {
+        Some(value) => outcome_of_tag(value),
+        None => None,
+    }
+}
+
+fn or_aim(first: Option<Aim>, later: Option<Aim>) -> Option<Aim>
+    ensures { result ≡ or_aim first later }
+{
+    match first {
+        Some(aim) => Some(aim),
+        None => later,
+    }
+}
+
+/// The first stipulation that a game says.
+#[tactic(auto, unfolding(crate::specs::Blocks::aim_of_game))]
+fn aim_of_game<'a, A: Allocator>(
+    alloc: &'a A,
+    given: Option<Stipulation>,
+    game: &[u8],
+    to_move: Side,
+    notes: &Notes,
+) -> Result<Option<Aim>, AllocError>
+    ensures { IfOk result (λ aim. aim ≡ aim_of_game given (tags_of game.now) to_move notes.now) }
+{
+    let by_tag = tag_aim(alloc, to_move, tag_value(game, b"Stipulation"))?;
+    let by_result = aim_of_result(AimSource::ResultTag, result_of(tag_value(game, b"Result")));
+    let by_end = or_aim(
+        aim_of_result(AimSource::Result, notes.outcome),
+        from_source(AimSource::Given, given),
+    );
+    let later = or_aim(by_tag, or_aim(by_result, by_end));
+    Ok(or_aim(from_source(AimSource::Comment, notes.opening), later))
+}
+
+#[tactic(auto, unfolding(crate::specs::Blocks::block_lines))]
+fn add_block<'a, A: Allocator>(
+    alloc: &'a A,
+    out: &mut Text<'_, A>,
+    entry: &Entry<'_>,
+    start: &Start,
+    aim: &Aim,
+    told: &Told<'_>,
+) -> Result<(), AllocError>
+    ensures { OnOk result (out.new ≡ out.old ++ block_lines (entry_seen entry.now) start.now aim.now (told_seen told.now)) }
+{
+    add_head(out, entry, aim)?;
+    add_remarks(alloc, out, entry, told)?;
+    add_study(alloc, out, entry, start, &aim.stipulation, told.inserts)
+}
+
+/// What the caller knows of a game before its moves are read.
+#[derive(Clone, Copy, Debug)]
+pub struct Setting<'t> {
+    /// The stipulation of a game that says none.
+    pub given: Option<Stipulation>,
+    pub entry: Entry<'t>,
+}
+
+/// Adds the block of a game whose moves are read, or that it has no stipulation.
+fn add_aimed<'a, A: Allocator>(
+    alloc: &'a A,
+    out: &mut Text<'_, A>,
+    setting: &Setting<'_>,
+    start: &Start,
+    told: &Told<'_>,
+) -> Result<bool, AllocError>
+    ensures { Adds result out.old out.new (aimed_block (entry_seen setting.now.entry) start.now (told_seen told.now)
+        (aim_of_game setting.now.given (tags_of setting.now.entry.text.now) start.now.position.to_move told.now.notes)) }
+{
+    let entry = &setting.entry;
+    let to_move = start.position.to_move();
+    match aim_of_game(alloc, setting.given, entry.text, to_move, &told.notes)? {
+        Some(aim) => {
+            add_block(alloc, out, entry, start, &aim, told)?;
+            Ok(true)
+        }
+        None => {
+            add_left_out(out, entry, b"NoStipulation")?;
+            Ok(false)
+        }
+    }
+}
+
+/// A game before its first move.
+fn begin_game<'a, A: Allocator>(
+    alloc: &'a A,
+    start: Start,
+) -> Result<GameReading<'a, A>, AllocError>
+    ensures { IfOk result (λ g. game_of (plain_study (marked g.reading.bench)) g.reading.lines.path.items g.reading.lines.begun
+        g.reading.lines.waiting.items g.reading.lines.cut g.reading.inserts g.notes ≡ no_moves start) }
+{
+    let any = Stipulation {
+        hero: Side::White,
+        goal: Goal::Win,
+    };
+    match Bench::new(alloc, start, any, &mut NoValues { asked: 0 }) {
+        Ok(bench) => Ok(GameReading {
+            reading: Reading {
+                alloc,
+                bench,
+                lines: Lines::new(alloc),
+                inserts: Text::new(alloc),
+            },
+            notes: Notes::new(),
+        }),
+        Err(_) => Err(AllocError),
+    }
+}
+
+/// Adds the block of a game with this start, or its first fault.
+#[tactic(auto, unfolding(crate::specs::Blocks::game_read))]
+fn add_read<'a, A: Allocator>(
+    alloc: &'a A,
+    out: &mut Text<'_, A>,
+    setting: &Setting<'_>,
+    start: &Start,
+) -> Result<bool, AllocError>
+    ensures { Adds result out.old out.new (read_block setting.now.given (entry_seen setting.now.entry) start.now
+        (game_read setting.now.entry.text.now start.now)) }
+{
+    let mut game = begin_game(alloc, start.copied())?;
+    match game.read(setting.entry.text, true) {
+        Ok(behind) => {
+            let told = Told {
+                notes: game.notes,
+                repeated: repeated_moves(&game.notes, &game.reading.bench),
+                behind,
+                inserts: game.reading.inserts.as_slice(),
+            };
+            add_aimed(alloc, out, setting, start, &told)
+        }
+        Err(fault) => add_stopped(alloc, out, setting, &fault),
+    }
+}
+
+/// Adds the first fault of a game's moves, unless it is want of memory.
+fn add_stopped<'a, A: Allocator>(
+    alloc: &'a A,
+    out: &mut Text<'_, A>,
+    setting: &Setting<'_>,
+    fault: &MovesFault,
+) -> Result<bool, AllocError>
+    ensures told { Adds result out.old out.new (stopped_block (entry_seen setting.now.entry) fault.now) }
+    ensures memory { is_of_memory fault.now.why ≡ true → IsErr result }
+{
+    if is_of_memory(fault.why) {
+        return Err(AllocError);
+    }
+    add_stop(alloc, out, &setting.entry, fault)?;
+    Ok(false)
+}
+
+/// How many men the first field of a FEN places.
+fn men_in(fen: &[u8]) -> u32
+    ensures { result ≡ at_most (men_in (first_word fen.now)) }
+{
+    match next_word(fen) {
+        None => 0,
+        Some((placement, _)) => at_most(letters_in(placement)),
+    }
+}
+
+fn letters_in(text: &[u8]) -> usize
+    ensures { result ≡ count_by is_letter text.now }
+{
+    let mut n: usize = 0;
+    let mut rest = text;
+    while let [first, more @ ..] = rest {
+        if is_letter(*first) {
+            n += 1;
+        }
+        rest = more;
+    }
+    n
+}
+
+/// Adds that a game's FEN is refused.
+fn add_fen_fault<'a, A: Allocator>(
+    alloc: &'a A,
+    out: &mut Text<'_, A>,
+    entry: &Entry<'_>,
+    fen: &[u8],
+    fault: FenFault,
+) -> Result<bool, AllocError>
+    ensures { Adds result out.old out.new (no_study (left_out (entry_seen entry.now) (fen_words fen.now fault))) }
+{
+    let mut words = Text::new(alloc);
+    add_fen_words(&mut words, fen, fault)?;
+    add_left_out(out, entry, words.as_slice())?;
+    Ok(false)
+}
+
+fn add_fen_words<A: Allocator>(
+    out: &mut Text<'_, A>,
+    fen: &[u8],
+    fault: FenFault,
+) -> Result<(), AllocError>
+    ensures { OnOk result (out.new ≡ out.old ++ fen_words fen.now fault) }
+{
+    if fault != FenFault::TooManyMen {
+        return out.add(Refusal::Fen(fault).name());
+    }
+    out.add(b"left out: ")?;
+    out.add_number(men_in(fen))?;
+    out.add(b" men")
+}
+
+/// Adds the block of a game with this FEN, or why there is none.
+fn add_start<'a, A: Allocator>(
+    alloc: &'a A,
+    out: &mut Text<'_, A>,
+    setting: &Setting<'_>,
+    fen: &[u8],
+) -> Result<bool, AllocError>
+    requires { list_all is_printable fen.now ≡ true }
+    ensures { Adds result out.old out.new (start_block setting.now.given (entry_seen setting.now.entry) fen.now (start_of fen.now)) }
+{
+    match read_fen(as_text(fen)) {
+        Ok(start) => add_read(alloc, out, setting, &start),
+        Err(fault) => add_fen_fault(alloc, out, &setting.entry, fen, fault),
+    }
+}
+
+/// A byte that prints, or `?`.
+fn printed(byte: u8) -> u8
+    ensures { result ≡ printed byte }
+{
+    if 32 <= byte && byte <= 126 {
+        byte
+    } else {
+        b'?'
+    }
+}
+
+/// Adds bytes, with `?` for each that does not print.
+fn add_printed<A: Allocator>(out: &mut Text<'_, A>, bytes: &[u8]) -> Result<(), AllocError>
+    ensures { OnOk result (out.new ≡ out.old ++ map printed bytes.now) }
+{
+    let mut rest = bytes;
+    while let [first, more @ ..] = rest {
+        out.add(&[printed(*first)])?;
+        rest = more;
+    }
+    Ok(())
+}
+
+/// The FEN that a tag's value spells.
+#[tactic(auto, using(crate::proofs::Printed::all_printed))]
+fn fen_in<'a, A: Allocator>(alloc: &'a A, raw: &[u8]) -> Result<Text<'a, A>, AllocError>
+    ensures text { IfOk result (λ fen. fen ≡ fen_in raw.now) }
+    ensures prints { IfOk result (λ fen. list_all is_printable fen ≡ true) }
+{
+    let value = unescape(alloc, raw)?;
+    let mut out = Text::new(alloc);
+    add_printed(&mut out, value.as_slice())?;
+    Ok(out)
+}
+
+/// Adds the block of a game that has tags, or why there is none.
+fn add_tagged<'a, A: Allocator>(
+    alloc: &'a A,
+    out: &mut Text<'_, A>,
+    setting: &Setting<'_>,
+) -> Result<bool, AllocError>
+    ensures { Adds result out.old out.new (fen_block setting.now.given (entry_seen setting.now.entry)
+        (value_of (codes "FEN") (tags_of setting.now.entry.text.now))) }
+{
+    match tag_value(setting.entry.text, b"FEN") {
+        None => {
+            add_left_out(out, &setting.entry, b"left out: no FEN, so 32 men")?;
+            Ok(false)
+        }
+        Some(raw) => {
+            let fen = fen_in(alloc, raw)?;
+            add_start(alloc, out, setting, fen.as_slice())
+        }
+    }
+}
+
+/// Adds the block of a game, or why there is none.
+fn add_entry<'a, A: Allocator>(
+    alloc: &'a A,
+    out: &mut Text<'_, A>,
+    setting: &Setting<'_>,
+) -> Result<bool, AllocError>
+    ensures { Adds result out.old out.new (header_block setting.now.given (entry_seen setting.now.entry) (header_fault setting.now.entry.text.now)) }
+{
+    let entry = &setting.entry;
+    if let Some(fault) = header_fault(entry.text) {
+        let place = place_in(entry, fault.left);
+        add_fault(out, entry.number, place, token_name(fault.why), b"")?;
+        return Ok(false);
+    }
+    if count_tags(entry.text) == 0 {
+        add_left_out(out, entry, b"left out: no tags")?;
+        return Ok(false);
+    }
+    add_tagged(alloc, out, setting)
+}
+
+/// Adds the block of a game, or the line that tells why there is none; tells which.
+#[tactic(auto, unfolding(crate::specs::Blocks::block_of))]
+pub fn add_game<'a, A: Allocator>(
+    alloc: &'a A,
+    out: &mut Text<'_, A>,
+    given: Option<Stipulation>,
+    number: u32,
+    game: &Game<'_>,
+) -> Result<bool, AllocError>
+    ensures { Adds result out.old out.new (block_of given number (game_seen game.now)) }
+{
+    let line = game.line;
+    match game.text {
+        None => {
+            let place = Place { line, column: 1 };
+            add_fault(out, number, place, b"GameTooLarge", b"")?;
+            Ok(false)
+        }
+        Some(text) => {
+            let entry = Entry { number, line, text };
+            add_entry(alloc, out, &Setting { given, entry })
+        }
+    }
+}

@@ -1,0 +1,244 @@
+//! A file of games, as it comes in.
+ghost use Rattle.std.specs.Prelude.{◌≡◌, ◌++◌, ◌∷◌, [], ◌==◌, length, OnOk, IfOk};
+ghost use Rattle.study_games.specs.Games.{unmarked, kind_of, longer, with_next, game_seen};
+ghost use Rattle.study_import.specs.Blocks.{tallied, told_text, last_line};
+ghost use Rattle.study_import.specs.Imported.{script_of, all_games, nothing_held, still_written, still_tallied, written_of, tally_ahead, put_away, text_at_hand, TakesByte, KeepsTally, EndsLine, EndsLineTallied};
+ghost use Rattle.study_import.specs.ImportedSeen.{tally_seen};
+
+use crate::block::add_game;
+use std::alloc::{AllocError, Allocator};
+use std::marker::Model;
+use study_games::{Game, Gathering, LONGEST_LINE, LineKind, kind_of, unmarked};
+use study_marks::Stipulation;
+use study_text::Text;
+
+/// Which games are told, by their numbers, and the stipulation of those that say none.
+#[derive(Clone, Copy, Debug, PartialEq, Eq)]
+pub struct Choice {
+    pub given: Option<Stipulation>,
+    pub from: u32,
+    pub to: u32,
+}
+
+/// How many games came before, how many of them were told, and how many of these came to a study.
+#[derive(Clone, Copy, Debug, Default, PartialEq, Eq)]
+pub struct Imported {
+    pub met: u32,
+    pub told: u32,
+    pub studies: u32,
+}
+
+/// An import: the line and the game at hand, and what came before.
+#[derive(Drop)]
+pub struct Importer<'a, A: Allocator> {
+    alloc: &'a A,
+    choice: Choice,
+    line: Vec<u8, &'a A>,
+    gathering: Gathering<'a, A>,
+    tally: Imported,
+}
+
+impl<'a, A: Allocator> Model for Importer<'a, A> {
+    ghost use Rattle.study_import.specs.Imported.{Held};
+    ghost use Rattle.study_import.specs.ImportedSeen.{tally_seen};
+
+    ghost Value = { Held };
+
+    ghost view = { λ i. record { choice = i.choice; line = i.line.items; gathered = i.gathering; tally = tally_seen i.tally } };
+}
+
+impl<'a, A: Allocator> Importer<'a, A> {
+    /// Before the first byte.
+    pub fn new(alloc: &'a A, choice: Choice) -> Self
+        ensures { result ≡ nothing_held choice }
+    {
+        Importer {
+            alloc,
+            choice,
+            line: Vec::new(alloc),
+            gathering: Gathering::new(alloc),
+            tally: Imported::default(),
+        }
+    }
+
+    /// How many games have ended.
+    pub fn met(&self) -> u32
+        ensures { result ≡ self.now.tally.met }
+    {
+        self.tally.met
+    }
+
+    /// Takes the next byte. A game is written when the next one begins.
+    pub fn take(&mut self, byte: u8, out: &mut Text<'_, A>) -> Result<(), AllocError>
+        ensures written { OnOk result (TakesByte byte self.old out.old self.new out.new) }
+        ensures tally { OnOk result (KeepsTally byte self.old self.new) }
+    {
+        self.hold(byte)?;
+        if byte == b'\n' {
+            self.end_line(out)?;
+        }
+        Ok(())
+    }
+
+    /// The file ends: writes the last game, and how many there are.
+    #[tactic(auto, using(crate::proofs::Ended::written_at_end, crate::proofs::Ended::tally_at_end))]
+    pub fn finish(&mut self, out: &mut Text<'_, A>) -> Result<Imported, AllocError>
+        ensures written { OnOk result (out.new ≡ out.old ++ still_written self.old []) }
+        ensures tally { IfOk result (λ imported. tally_seen imported ≡ still_tallied self.old []) }
+    {
+        self.end_last_line(out)?;
+        self.end_game(out)?;
+        add_last_line(out, &self.tally)?;
+        Ok(self.tally)
+    }
+
+    /// The file ends: the line at hand is whole, if it has a byte.
+    fn end_last_line(&mut self, out: &mut Text<'_, A>) -> Result<(), AllocError>
+        ensures written { OnOk result (out.old ++ still_written self.old [] ≡ out.new ++ written_of self.new []) }
+        ensures tally { OnOk result (still_tallied self.old [] ≡ tally_ahead self.new []) }
+    {
+        if self.has_no_line() {
+            return Ok(());
+        }
+        self.end_line(out)
+    }
+
+    /// No byte of the line at hand was read.
+    fn has_no_line(&self) -> bool
+        ensures { result ≡ (length self.now.line == 0) }
+    {
+        self.line.as_slice().is_empty()
+    }
+
+    fn hold(&mut self, byte: u8) -> Result<(), AllocError>
+        ensures { OnOk result (self.new ≡ record self.old { line = longer self.old.line byte }) }
+    {
+        if self.line.len() < LONGEST_LINE {
+            self.line.push(byte)?;
+        }
+        Ok(())
+    }
+
+    fn kind(&self) -> LineKind
+        ensures { result ≡ kind_of (unmarked self.now.gathered.next self.now.line) }
+    {
+        kind_of(unmarked(self.gathering.next(), self.line.as_slice()))
+    }
+
+    /// The line at hand is whole.
+    fn end_line(&mut self, out: &mut Text<'_, A>) -> Result<(), AllocError>
+        ensures written { OnOk result (EndsLine self.old out.old self.new out.new) }
+        ensures tally { OnOk result (EndsLineTallied self.old self.new) }
+        ensures line { OnOk result (self.new.line ≡ []) }
+    {
+        let kind = self.kind();
+        if self.gathering.ends_before(kind) {
+            self.end_game(out)?;
+        }
+        self.add_line(kind)
+    }
+
+    /// Adds the line at hand to the game at hand.
+    fn add_line(&mut self, kind: LineKind) -> Result<(), AllocError>
+        ensures { OnOk result (self.new ≡ record self.old {
+          line = [];
+          gathered = with_next self.old.gathered (unmarked self.old.gathered.next self.old.line) kind;
+        }) }
+    {
+        let line = unmarked(self.gathering.next(), self.line.as_slice());
+        self.gathering.add_line(line, kind)?;
+        self.line.clear();
+        Ok(())
+    }
+
+    /// Writes the game at hand, if there is one and it is chosen, and puts it away.
+    fn end_game(&mut self, out: &mut Text<'_, A>) -> Result<(), AllocError>
+        ensures text { OnOk result (out.new ≡ out.old ++ text_at_hand self.old self.old.gathered.begun) }
+        ensures then { OnOk result (self.new ≡ put_away self.old) }
+    {
+        if let Some(game) = self.gathering.game() {
+            self.tally = tell_game(self.alloc, out, &self.choice, &self.tally, &game)?;
+        }
+        self.gathering.close();
+        Ok(())
+    }
+}
+
+/// Writes a game, if it is chosen.
+fn tell_game<'a, A: Allocator>(
+    alloc: &'a A,
+    out: &mut Text<'_, A>,
+    choice: &Choice,
+    tally: &Imported,
+    game: &Game<'_>,
+) -> Result<Imported, AllocError>
+    ensures text { OnOk result (out.new ≡ out.old ++ told_text choice.now (tally_seen tally.now) (game_seen game.now)) }
+    ensures then { IfOk result (λ t. tally_seen t ≡ tallied choice.now (tally_seen tally.now) (game_seen game.now)) }
+{
+    let number = tally.met.saturating_add(1);
+    if number < choice.from || choice.to < number {
+        return Ok(Imported {
+            met: number,
+            told: tally.told,
+            studies: tally.studies,
+        });
+    }
+    let is_study = add_game(alloc, out, choice.given, number, game)?;
+    Ok(Imported {
+        met: number,
+        told: tally.told.saturating_add(1),
+        studies: if is_study {
+            tally.studies.saturating_add(1)
+        } else {
+            tally.studies
+        },
+    })
+}
+
+/// Adds `# games N, studies M`.
+#[tactic(auto, unfolding(crate::specs::Blocks::last_line))]
+fn add_last_line<A: Allocator>(out: &mut Text<'_, A>, tally: &Imported) -> Result<(), AllocError>
+    ensures { OnOk result (out.new ≡ out.old ++ last_line tally.now.told tally.now.studies) }
+{
+    out.add(b"# games ")?;
+    out.add_number(tally.told)?;
+    out.add(b", studies ")?;
+    out.add_number(tally.studies)?;
+    out.add(b"\n")
+}
+
+/// The script of a file of PGN.
+#[tactic(auto, using(crate::proofs::Ended::script_is))]
+fn import_chosen<'a, A: Allocator>(
+    alloc: &'a A,
+    text: &[u8],
+    choice: Choice,
+) -> Result<Text<'a, A>, AllocError>
+    ensures { IfOk result (λ script. script ≡ script_of choice text.now) }
+{
+    let mut importer = Importer::new(alloc, choice);
+    let mut out = Text::new(alloc);
+    let mut rest = text;
+    while let [byte, more @ ..] = rest {
+        importer.take(*byte, &mut out)?;
+        rest = more;
+    }
+    importer.finish(&mut out)?;
+    Ok(out)
+}
+
+/// The script of a file of PGN: the blocks of its games, and how many there are. `given` is the stipulation of the games that say none.
+pub fn import<'a, A: Allocator>(
+    alloc: &'a A,
+    text: &[u8],
+    given: Option<Stipulation>,
+) -> Result<Text<'a, A>, AllocError>
+    ensures { IfOk result (λ script. script ≡ script_of (all_games given) text.now) }
+{
+    let choice = Choice {
+        given,
+        from: 1,
+        to: u32::MAX,
+    };
+    import_chosen(alloc, text, choice)
+}

@@ -1,0 +1,13 @@
+//! Laws of an import.
+ghost use Rattle.study_import.specs.Laws.{IsIsolated, AreAccepted};
+
+/// The blocks of a text that ends with a line of moves stay as they are, whatever file follows it; and what is written of that file
+/// depends on the text before it by numbers of games and of lines alone.
+pub fn blocks_are_isolated()
+    ensures { IsIsolated }
+{}
+
+/// The `insert` lines of a block are accepted by a bench, tables and memory apart, and make the tree that was read.
+pub fn moves_are_accepted()
+    ensures { AreAccepted }
+{}

@@ -1,0 +1,37 @@
+//! Studies from PGN: the games of a file as a script of studybench.
+//!
+//! `import` gives the script of a whole text, and `Importer` that of a file that comes in byte by byte, with one game in memory. What
+//! becomes of a game is `block_of` of `specs/Blocks.antt`: a block of lines that stands alone, or one line that tells why there is none.
+//! The moves are read by a `Bench` whose values nobody looks at, so that the call that accepts a move here is the one that accepts it
+//! in a script. (That `MoveFault::NoSuchNode` never comes is not proved; its name would be told.)
+#![tactic(auto)]
+
+mod aims;
+mod block;
+mod counts;
+mod faults;
+mod importer;
+mod insert_line;
+mod laws;
+mod lines;
+mod moves;
+mod movetext;
+mod notes;
+mod places;
+mod reading;
+mod tags;
+mod taking;
+mod values;
+
+pub use aims::{Aim, AimSource, aim_in, aim_of_outcome, aim_of_tag, outcome_of_tag};
+pub use block::{Setting, Told, add_game};
+pub use importer::{Choice, Imported, Importer, import};
+pub use laws::{blocks_are_isolated, moves_are_accepted};
+pub use lines::{LineFault, Lines, MAX_WAITING, Waiting};
+pub use moves::{MoveFault, Step, play};
+pub use movetext::{GameReading, MovesFault, Stop};
+pub use notes::Notes;
+pub use places::{Entry, Place};
+pub use reading::Reading;
+pub use taking::Reason;
+pub use values::NoValues;

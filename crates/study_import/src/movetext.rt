@@ -1,0 +1,124 @@
+//! The moves of a game.
+ghost use Rattle.std.specs.Prelude.{◌≡◌, [], length};
+ghost use Rattle.study_marks.specs.Study.{plain_study};
+ghost use Rattle.study_marks.specs.BenchState.{marked};
+ghost use Rattle.study_games.specs.Tokens.{token_seen};
+ghost use Rattle.study_import.specs.Notes.{game_of, is_header_tag, game_taken};
+ghost use Rattle.study_import.specs.Movetext.{at_end, read_moves};
+ghost use Rattle.study_import.specs.MovesRead.{Ends, TakesIn};
+
+use crate::notes::Notes;
+use crate::reading::Reading;
+use crate::taking::Reason;
+use std::alloc::Allocator;
+use study_games::{Token, TokenFault, begins_feed, read_token};
+
+/// Why the moves of a game are not read to their end.
+#[derive(Clone, Copy, Debug, PartialEq, Eq)]
+pub enum Stop {
+    Token(TokenFault),
+    Taking(Reason),
+    OpenVariation,
+}
+
+/// The first fault of the moves, and how many bytes of the text stand from its place on.
+#[derive(Clone, Copy, Debug, PartialEq, Eq)]
+pub struct MovesFault {
+    pub why: Stop,
+    pub left: usize,
+}
+
+/// What has been read of a game, and what was noted.
+#[derive(Drop)]
+pub struct GameReading<'a, A: Allocator> {
+    pub reading: Reading<'a, A>,
+    pub notes: Notes,
+}
+
+fn is_header_tag(notes: &Notes, token: Token<'_>) -> bool
+    ensures { result ≡ is_header_tag notes.now (token_seen token.entry) }
+{
+    match token {
+        Token::Tag(_, _) => notes.in_header,
+        _ => false,
+    }
+}
+
+impl<'a, A: Allocator> GameReading<'a, A> {
+    /// Takes a token; tells whether the game ends there.
+    #[tactic(auto, using(crate::proofs::TokenByToken::noted_takes))]
+    fn take(&mut self, token: Token<'_>) -> Result<bool, Reason>
+        ensures { TakesIn result (game_taken (game_of (plain_study (marked self.old.reading.bench)) self.old.reading.lines.path.items self.old.reading.lines.begun
+            self.old.reading.lines.waiting.items self.old.reading.lines.cut self.old.reading.inserts self.old.notes)
+            (token_seen token.entry)) (game_of (plain_study (marked self.new.reading.bench)) self.new.reading.lines.path.items self.new.reading.lines.begun
+            self.new.reading.lines.waiting.items self.new.reading.lines.cut self.new.reading.inserts self.new.notes) }
+    {
+        if is_header_tag(&self.notes, token) {
+            return Ok(false);
+        }
+        let cut = self.reading.lines.cut >= 1;
+        let waits = !self.reading.lines.waiting.is_empty();
+        self.notes = self.notes.noted(cut, waits, token);
+        self.reading.take(token)
+    }
+
+    fn end_text<'t>(&self, text: &'t [u8]) -> Result<&'t [u8], MovesFault>
+        requires { text.now ≡ [] }
+        ensures { Ends (λ t. t.now) result (at_end (game_of (plain_study (marked self.now.reading.bench)) self.now.reading.lines.path.items self.now.reading.lines.begun
+            self.now.reading.lines.waiting.items self.now.reading.lines.cut self.now.reading.inserts self.now.notes))
+            (game_of (plain_study (marked self.now.reading.bench)) self.now.reading.lines.path.items self.now.reading.lines.begun
+            self.now.reading.lines.waiting.items self.now.reading.lines.cut self.now.reading.inserts self.now.notes) }
+    {
+        if self.reading.lines.waiting.is_empty() {
+            Ok(text)
+        } else {
+            Err(MovesFault {
+                why: Stop::OpenVariation,
+                left: 0,
+            })
+        }
+    }
+
+    /// Reads a game from its first line up to its result or the end of the text, and gives what is behind.
+    pub fn read<'t>(&mut self, text: &'t [u8], fresh: bool) -> Result<&'t [u8], MovesFault>
+        ensures { Ends (λ t. t.now) result (read_moves (length text.now) fresh text.now (game_of (plain_study (marked self.old.reading.bench)) self.old.reading.lines.path.items self.old.reading.lines.begun
+            self.old.reading.lines.waiting.items self.old.reading.lines.cut self.old.reading.inserts self.old.notes))
+            (game_of (plain_study (marked self.new.reading.bench)) self.new.reading.lines.path.items self.new.reading.lines.begun
+            self.new.reading.lines.waiting.items self.new.reading.lines.cut self.new.reading.inserts self.new.notes) }
+    {
+        let mut rest = text;
+        let mut fresh = fresh;
+        let mut fuel = text.len();
+        while fuel > 0 {
+            let left = rest.len();
+            let Some(found) = read_token(rest, fresh) else {
+                break;
+            };
+            match found {
+                Err(fault) => {
+                    return Err(MovesFault {
+                        why: Stop::Token(fault),
+                        left,
+                    });
+                }
+                Ok(cut) => {
+                    match self.take(cut.token) {
+                        Ok(true) => return Ok(cut.rest),
+                        Ok(false) => {}
+                        Err(reason) => {
+                            return Err(MovesFault {
+                                why: Stop::Taking(reason),
+                                left,
+                            });
+                        }
+                    }
+                    fresh = begins_feed(rest);
+                    rest = cut.rest;
+                }
+            }
+            fuel -= 1;
+        }
+        let (_, none) = text.split_at(text.len());
+        self.end_text(none)
+    }
+}

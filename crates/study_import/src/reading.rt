@@ -1,0 +1,95 @@
+//! What has been read of a game's moves.
+ghost use Rattle.std.specs.Prelude.{◌≡◌, IfOk};
+ghost use Rattle.study_marks.specs.Study.{plain_study};
+ghost use Rattle.study_marks.specs.BenchState.{marked};
+ghost use Rattle.study_import.specs.Lines.{lines_of};
+ghost use Rattle.study_import.specs.Reading.{played, symbol_played, Reads};
+
+use crate::insert_line::add_step;
+use crate::lines::Lines;
+use crate::moves::{MoveFault, play};
+use std::alloc::{AllocError, Allocator};
+use study_command::as_text;
+use study_games::{LONGEST_SYMBOL, san_in};
+use study_marks::{Bench, is_printable};
+use study_notation::SanFault;
+use study_text::Text;
+use study_tree::Path;
+
+/// The study so far, the line at hand with those that wait, and the lines of the script that make the tree.
+#[derive(Drop)]
+pub struct Reading<'a, A: Allocator> {
+    pub alloc: &'a A,
+    pub bench: Bench<'a, A>,
+    pub lines: Lines<'a, A>,
+    pub inserts: Text<'a, A>,
+}
+
+/// The path with these places.
+fn path_of<'a, A: Allocator>(alloc: &'a A, steps: &[u16]) -> Result<Path<'a, A>, AllocError>
+    ensures { IfOk result (λ path. path ≡ steps.now) }
+{
+    let mut path = Path::root(alloc);
+    for step in steps {
+        path.push(*step)?;
+    }
+    Ok(path)
+}
+
+impl<'a, A: Allocator> Reading<'a, A> {
+    /// Reads a symbol that stands for a move.
+    #[tactic(auto, unfolding(crate::specs::Reading::symbol_played))]
+    pub fn play_symbol(&mut self, symbol: &[u8]) -> Result<(), MoveFault>
+        ensures { Reads result (symbol_played (record {
+          study = plain_study (marked self.old.bench);
+          lines = lines_of self.old.lines.path.items self.old.lines.begun self.old.lines.waiting.items self.old.lines.cut;
+          inserts = self.old.inserts;
+        }) symbol.now) (record {
+          study = plain_study (marked self.new.bench);
+          lines = lines_of self.new.lines.path.items self.new.lines.begun self.new.lines.waiting.items self.new.lines.cut;
+          inserts = self.new.inserts;
+        }) }
+    {
+        if self.lines.cut >= 1 {
+            return Ok(());
+        }
+        if symbol.len() > LONGEST_SYMBOL {
+            return Err(MoveFault::San(SanFault::NotSan));
+        }
+        let san = san_in(symbol);
+        let text = san.as_slice();
+        if is_printable(text) {
+            self.play(as_text(text))
+        } else {
+            Err(MoveFault::San(SanFault::NotSan))
+        }
+    }
+
+    /// Reads the text that stands for a move at the node at hand.
+    #[tactic(auto, unfolding(crate::specs::Reading::played))]
+    pub fn play(&mut self, san: &str) -> Result<(), MoveFault>
+        ensures { Reads result (played (record {
+          study = plain_study (marked self.old.bench);
+          lines = lines_of self.old.lines.path.items self.old.lines.begun self.old.lines.waiting.items self.old.lines.cut;
+          inserts = self.old.inserts;
+        }) san.now) (record {
+          study = plain_study (marked self.new.bench);
+          lines = lines_of self.new.lines.path.items self.new.lines.begun self.new.lines.waiting.items self.new.lines.cut;
+          inserts = self.new.inserts;
+        }) }
+    {
+        let path = path_of(self.alloc, self.lines.path.as_slice())?;
+        let Some(start) = self.bench.start_at(&path) else {
+            return Err(MoveFault::NoSuchNode);
+        };
+        let step = play(&mut self.bench, &path, san)?;
+        add_step(
+            &mut self.inserts,
+            path.steps(),
+            &start.position,
+            &step.added,
+        )?;
+        self.lines.go_on(step.place)?;
+        Ok(())
+    }
+}

@@ -1,0 +1,164 @@
+//! The six tags of a study.
+ghost use Rattle.std.specs.Prelude.{◌≡◌, ◌++◌, map, OnOk};
+ghost use Rattle.std.specs.List.{flat_map};
+ghost use Rattle.std.specs.Option.{option_map};
+ghost use Rattle.study_games.specs.Header.{tags_of};
+ghost use Rattle.study_import.specs.Blocks.{shown, was_words, was_line, six_names, unknown_text, text_or_unknown, tag_value_text, tag_line};
+
+use std::alloc::{AllocError, Allocator};
+use study_games::{short_text, shortened, spell_out, tag_value, trim_end, trim_start, unescape};
+use study_marks::{TagName, tag_name};
+use study_text::Text;
+
+/// How much of an original a remark has.
+const LONGEST_ORIGINAL: usize = 255;
+
+fn shown(byte: u8) -> u8
+    ensures { result ≡ shown byte }
+{
+    if byte <= 31 || byte == 127 {
+        b' '
+    } else {
+        byte
+    }
+}
+
+/// Adds bytes, with a space for each control byte.
+fn add_shown<A: Allocator>(out: &mut Text<'_, A>, bytes: &[u8]) -> Result<(), AllocError>
+    ensures { OnOk result (out.new ≡ out.old ++ map shown bytes.now) }
+{
+    let mut rest = bytes;
+    while let [first, more @ ..] = rest {
+        out.add(&[shown(*first)])?;
+        rest = more;
+    }
+    Ok(())
+}
+
+/// Adds the original of a tag, where the text is another.
+fn add_was<A: Allocator>(
+    out: &mut Text<'_, A>,
+    name: TagName,
+    value: &[u8],
+    text: &[u8],
+) -> Result<(), AllocError>
+    ensures { OnOk result (out.new ≡ out.old ++ was_words name value.now text.now) }
+{
+    if text == trim_end(trim_start(value)) {
+        return Ok(());
+    }
+    out.add(b"# ")?;
+    out.add(tag_name(name))?;
+    out.add(b" was: ")?;
+    add_shown(out, shortened(value, LONGEST_ORIGINAL))?;
+    out.add(b"\n")
+}
+
+#[tactic(auto, unfolding(crate::specs::Blocks::was_line))]
+fn add_was_line<'a, A: Allocator>(
+    alloc: &'a A,
+    out: &mut Text<'_, A>,
+    game: &[u8],
+    name: TagName,
+) -> Result<(), AllocError>
+    ensures { OnOk result (out.new ≡ out.old ++ was_line (tags_of game.now) name) }
+{
+    match tag_value(game, tag_name(name)) {
+        None => Ok(()),
+        Some(raw) => {
+            let value = unescape(alloc, raw)?;
+            let text = spell_out(alloc, value.as_slice())?;
+            add_was(out, name, value.as_slice(), short_text(text.as_slice()))
+        }
+    }
+}
+
+/// Adds the originals of the six tags, where their texts are others.
+pub fn add_was_lines<'a, A: Allocator>(
+    alloc: &'a A,
+    out: &mut Text<'_, A>,
+    game: &[u8],
+) -> Result<(), AllocError>
+    ensures { OnOk result (out.new ≡ out.old ++ flat_map (was_line (tags_of game.now)) six_names) }
+{
+    add_was_line(alloc, out, game, TagName::Event)?;
+    add_was_line(alloc, out, game, TagName::Site)?;
+    add_was_line(alloc, out, game, TagName::Date)?;
+    add_was_line(alloc, out, game, TagName::Round)?;
+    add_was_line(alloc, out, game, TagName::White)?;
+    add_was_line(alloc, out, game, TagName::Black)
+}
+
+/// The text of a tag that is not known.
+fn unknown_text(name: TagName) -> &'static [u8]
+    ensures { result.now ≡ unknown_text name }
+{
+    match name {
+        TagName::Date => b"????.??.??",
+        _ => b"?",
+    }
+}
+
+fn add_text_or_unknown<A: Allocator>(
+    out: &mut Text<'_, A>,
+    name: TagName,
+    text: &[u8],
+) -> Result<(), AllocError>
+    ensures { OnOk result (out.new ≡ out.old ++ text_or_unknown name text.now) }
+{
+    if text.is_empty() {
+        out.add(unknown_text(name))
+    } else {
+        out.add(text)
+    }
+}
+
+fn add_tag_value<'a, A: Allocator>(
+    alloc: &'a A,
+    out: &mut Text<'_, A>,
+    name: TagName,
+    raw: Option<&[u8]>,
+) -> Result<(), AllocError>
+    ensures { OnOk result (out.new ≡ out.old ++ tag_value_text name (option_map (λ v. v.now) raw.entry)) }
+{
+    match raw {
+        None => out.add(unknown_text(name)),
+        Some(raw) => {
+            let value = unescape(alloc, raw)?;
+            let text = spell_out(alloc, value.as_slice())?;
+            add_text_or_unknown(out, name, short_text(text.as_slice()))
+        }
+    }
+}
+
+#[tactic(auto, unfolding(crate::specs::Blocks::tag_line))]
+fn add_tag_line<'a, A: Allocator>(
+    alloc: &'a A,
+    out: &mut Text<'_, A>,
+    game: &[u8],
+    name: TagName,
+) -> Result<(), AllocError>
+    ensures { OnOk result (out.new ≡ out.old ++ tag_line (tags_of game.now) name) }
+{
+    out.add(b"tag ")?;
+    out.add(tag_name(name))?;
+    out.add(b" ")?;
+    add_tag_value(alloc, out, name, tag_value(game, tag_name(name)))?;
+    out.add(b"\n")
+}
+
+/// Adds the lines of the six tags.
+pub fn add_tag_lines<'a, A: Allocator>(
+    alloc: &'a A,
+    out: &mut Text<'_, A>,
+    game: &[u8],
+) -> Result<(), AllocError>
+    ensures { OnOk result (out.new ≡ out.old ++ flat_map (tag_line (tags_of game.now)) six_names) }
+{
+    add_tag_line(alloc, out, game, TagName::Event)?;
+    add_tag_line(alloc, out, game, TagName::Site)?;
+    add_tag_line(alloc, out, game, TagName::Date)?;
+    add_tag_line(alloc, out, game, TagName::Round)?;
+    add_tag_line(alloc, out, game, TagName::White)?;
+    add_tag_line(alloc, out, game, TagName::Black)
+}

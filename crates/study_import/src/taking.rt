@@ -1,0 +1,135 @@
+//! What a token makes of what has been read.
+ghost use Rattle.std.specs.Prelude.{◌≡◌, codes};
+ghost use Rattle.std.specs.Str.{bytes_eq};
+ghost use Rattle.study_marks.specs.Study.{plain_study};
+ghost use Rattle.study_marks.specs.BenchState.{marked};
+ghost use Rattle.study_import.specs.Lines.{begin_line, end_line};
+ghost use Rattle.study_import.specs.Reading.{symbol_played};
+ghost use Rattle.study_games.specs.Symbols.{said_of};
+ghost use Rattle.study_games.specs.Tokens.{token_seen};
+ghost use Rattle.study_import.specs.Taken.{reading_of, on_line, at_result, at_null_move, on_move, taken_symbol, taken_sign, taken, Takes};
+
+use crate::lines::LineFault;
+use crate::moves::MoveFault;
+use crate::reading::Reading;
+use std::alloc::Allocator;
+use study_games::{Said, Token, say};
+use thiserror::Error;
+
+/// Why the moves of a game are not read on.
+#[derive(Clone, Copy, Debug, PartialEq, Eq, Error)]
+pub enum Reason {
+    #[error("{0}")]
+    Move(MoveFault),
+    #[error("{0}")]
+    Line(LineFault),
+    #[error("a tag stands among the moves")]
+    TagInMoves,
+}
+
+impl<'a, A: Allocator> Reading<'a, A> {
+    fn take_begin(&mut self) -> Result<bool, Reason>
+        ensures { Takes result (on_line (reading_of (plain_study (marked self.old.bench)) self.old.lines.path.items self.old.lines.begun self.old.lines.waiting.items
+            self.old.lines.cut self.old.inserts) (begin_line ((reading_of (plain_study (marked self.old.bench)) self.old.lines.path.items self.old.lines.begun self.old.lines.waiting.items
+            self.old.lines.cut self.old.inserts)).lines))
+            (reading_of (plain_study (marked self.new.bench)) self.new.lines.path.items self.new.lines.begun self.new.lines.waiting.items
+            self.new.lines.cut self.new.inserts) }
+    {
+        match self.lines.begin() {
+            Ok(()) => Ok(false),
+            Err(fault) => Err(Reason::Line(fault)),
+        }
+    }
+
+    fn take_end(&mut self) -> Result<bool, Reason>
+        ensures { Takes result (on_line (reading_of (plain_study (marked self.old.bench)) self.old.lines.path.items self.old.lines.begun self.old.lines.waiting.items
+            self.old.lines.cut self.old.inserts) (end_line ((reading_of (plain_study (marked self.old.bench)) self.old.lines.path.items self.old.lines.begun self.old.lines.waiting.items
+            self.old.lines.cut self.old.inserts)).lines))
+            (reading_of (plain_study (marked self.new.bench)) self.new.lines.path.items self.new.lines.begun self.new.lines.waiting.items
+            self.new.lines.cut self.new.inserts) }
+    {
+        match self.lines.end() {
+            Ok(()) => Ok(false),
+            Err(fault) => Err(Reason::Line(fault)),
+        }
+    }
+
+    fn take_result(&mut self) -> Result<bool, Reason>
+        ensures { Takes result (at_result (reading_of (plain_study (marked self.old.bench)) self.old.lines.path.items self.old.lines.begun self.old.lines.waiting.items
+            self.old.lines.cut self.old.inserts))
+            (reading_of (plain_study (marked self.new.bench)) self.new.lines.path.items self.new.lines.begun self.new.lines.waiting.items
+            self.new.lines.cut self.new.inserts) }
+    {
+        Ok(self.lines.waiting.is_empty())
+    }
+
+    fn take_null_move(&mut self) -> Result<bool, Reason>
+        ensures { Takes result (at_null_move (reading_of (plain_study (marked self.old.bench)) self.old.lines.path.items self.old.lines.begun self.old.lines.waiting.items
+            self.old.lines.cut self.old.inserts))
+            (reading_of (plain_study (marked self.new.bench)) self.new.lines.path.items self.new.lines.begun self.new.lines.waiting.items
+            self.new.lines.cut self.new.inserts) }
+    {
+        if self.lines.cut < 1 {
+            self.lines.cut = 1;
+        }
+        Ok(false)
+    }
+
+    fn take_move(&mut self, symbol: &[u8]) -> Result<bool, Reason>
+        ensures { Takes result (on_move (symbol_played (reading_of (plain_study (marked self.old.bench)) self.old.lines.path.items self.old.lines.begun self.old.lines.waiting.items
+            self.old.lines.cut self.old.inserts) symbol.now))
+            (reading_of (plain_study (marked self.new.bench)) self.new.lines.path.items self.new.lines.begun self.new.lines.waiting.items
+            self.new.lines.cut self.new.inserts) }
+    {
+        match self.play_symbol(symbol) {
+            Ok(()) => Ok(false),
+            Err(fault) => Err(Reason::Move(fault)),
+        }
+    }
+
+    fn take_symbol(&mut self, symbol: &[u8]) -> Result<bool, Reason>
+        ensures { Takes result (taken_symbol (reading_of (plain_study (marked self.old.bench)) self.old.lines.path.items self.old.lines.begun self.old.lines.waiting.items
+            self.old.lines.cut self.old.inserts) symbol.now (said_of symbol.now))
+            (reading_of (plain_study (marked self.new.bench)) self.new.lines.path.items self.new.lines.begun self.new.lines.waiting.items
+            self.new.lines.cut self.new.inserts) }
+    {
+        match say(symbol) {
+            Said::Number => Ok(false),
+            Said::Result(_) => self.take_result(),
+            Said::NullMove => self.take_null_move(),
+            Said::Aside => Ok(false),
+            Said::Move => self.take_move(symbol),
+        }
+    }
+
+    fn take_sign(&mut self, text: &[u8]) -> Result<bool, Reason>
+        ensures { Takes result (taken_sign (reading_of (plain_study (marked self.old.bench)) self.old.lines.path.items self.old.lines.begun self.old.lines.waiting.items
+            self.old.lines.cut self.old.inserts) (bytes_eq text.now (codes "--")))
+            (reading_of (plain_study (marked self.new.bench)) self.new.lines.path.items self.new.lines.begun self.new.lines.waiting.items
+            self.new.lines.cut self.new.inserts) }
+    {
+        if text == b"--".as_slice() {
+            self.take_null_move()
+        } else {
+            Ok(false)
+        }
+    }
+
+    /// Takes a token; tells whether the game ends there.
+    pub fn take(&mut self, token: Token<'_>) -> Result<bool, Reason>
+        ensures { Takes result (taken (reading_of (plain_study (marked self.old.bench)) self.old.lines.path.items self.old.lines.begun self.old.lines.waiting.items
+            self.old.lines.cut self.old.inserts) (token_seen token.entry))
+            (reading_of (plain_study (marked self.new.bench)) self.new.lines.path.items self.new.lines.begun self.new.lines.waiting.items
+            self.new.lines.cut self.new.inserts) }
+    {
+        match token {
+            Token::Blank | Token::Aside | Token::Comment(_) | Token::Rest(_) => Ok(false),
+            Token::Open => self.take_begin(),
+            Token::Close => self.take_end(),
+            Token::Star => self.take_result(),
+            Token::Tag(_, _) => Err(Reason::TagInMoves),
+            Token::Sign(text) => self.take_sign(text),
+            Token::Symbol(text) => self.take_symbol(text),
+        }
+    }
+}

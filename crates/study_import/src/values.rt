@@ -1,0 +1,50 @@
+//! Values for a tree whose marks nobody reads.
+ghost use Rattle.std.specs.Prelude.{◌≡◌, ◌↔◌, ℕ, true, false, Ok, IfOk, IfErr, IsErrOf};
+ghost use Rattle.study_material.specs.declared.class.Class.{Class as AClass};
+ghost use Rattle.study_material.specs.Class.{IsOf};
+ghost use Rattle.study_values.specs.Game.{IsValueOf};
+ghost use Rattle.study_values.specs.declared.value.Value.TheVariants.{Draw};
+ghost use Rattle.study_text.specs.Counts.{counted};
+ghost use Rattle.study_values.specs.declared.fault.SourceFault.{SourceFault as ASourceFault};
+ghost use Rattle.study_values.specs.Values.{IsNotDamage, faults_after, page_number};
+
+use study_board::Position;
+use study_material::Class;
+use study_values::{ProbeFault, Value, Values};
+
+/// Each position is told as a draw, and no table is needed. These values are not the game's.
+#[derive(Drop)]
+pub struct NoValues {
+    pub asked: u64,
+}
+
+impl Values for NoValues {
+    ghost is_honest = { λ v. ⊥ };
+
+    ghost held = { λ v c. true };
+
+    ghost gives = { λ v p answer. answer ≡ Ok Draw };
+
+    ghost may_fail = { λ v c f. ⊥ };
+
+    ghost asked_of = { λ v. v.asked };
+
+    ghost failed_of = { λ v. 0 };
+
+    fn value(&mut self, p: &Position) -> Result<Value, ProbeFault> {
+        self.asked = self.asked.saturating_add(1);
+        Ok(Value::Draw)
+    }
+
+    fn holds(&self, class: Class) -> bool {
+        true
+    }
+
+    fn asked(&self) -> u64 {
+        self.asked
+    }
+
+    fn failures(&self) -> u64 {
+        0
+    }
+}
