@@ -1,0 +1,3 @@
+pub mod Status
+pub mod Streams
+pub mod Ended

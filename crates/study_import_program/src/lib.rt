@@ -1,0 +1,15 @@
+//! The program studyimport as a library: its command line, the reader that holds one game in memory, and the exit status.
+//!
+//! `studyimport` is all that the program does. `import_stream` does the same over whatever streams, so that tests see the exit status
+//! and what is told on standard error.
+#![tactic(auto)]
+
+mod options;
+mod program;
+mod status;
+mod streaming;
+
+pub use options::{Options, VERSION, read_words};
+pub use program::{import_stream, studyimport};
+pub use status::{put_games, put_stop, status_of, status_without_options};
+pub use streaming::{ImportFault, import_games};

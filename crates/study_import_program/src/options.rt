@@ -1,0 +1,107 @@
+//! The command line.
+
+use clap::{Arg, ArgAction, Command, Error, value_parser};
+use std::alloc::{AllocError, Global};
+use study_command::{Command as ScriptCommand, read_command};
+use study_import::Choice;
+use study_marks::Stipulation;
+use study_text::Text;
+
+/// The version, and the kit that it is proved with, as `studyimport --version` tells them.
+pub const VERSION: &str = "0.1.0 (kit rattle-kit-13f)";
+
+const ABOUT: &str =
+    "Turns games of PGN, from standard input, into a script of studybench and studyreport, to standard output.";
+
+const LINES: &str =
+    "Each game that begins with two to four men becomes a block of lines; of each other game one line tells why there is none.
+The stipulation of a game is the first of these that says one: the comment before its first move, as {White to win}, its tag
+Stipulation, its tag Result, the result behind its moves, --stipulate.
+
+Exit status: 0 each game has its block; 1 some has not; 2 the command line was refused; 3 the run stopped at a fault.";
+
+/// What the command line asks for.
+#[derive(Clone, Copy, Debug, PartialEq, Eq)]
+pub struct Options {
+    pub choice: Choice,
+    /// Whether standard error is told how many games were read, after every hundred.
+    pub progress: bool,
+}
+
+/// Reads the words of the command line, of which the first is the program's name; none where `--stipulate` has no stipulation.
+/// `--help` and `--version` are answered as errors whose exit code is 0.
+///
+/// No contract: clap has none on the words that it takes. The tests tell it.
+pub fn read_words(alloc: Global, words: &[String]) -> Result<Option<Options>, Error> {
+    let stipulate = Arg::new(alloc, "stipulate")
+        .long("stipulate")
+        .value_name("SIDE GOAL")
+        .num_args(2..=3)
+        .action(ArgAction::Set)
+        .help("The stipulation of a game that says none: white win, black draw, white mate 3");
+    let game = Arg::new(alloc, "game")
+        .long("game")
+        .value_name("N")
+        .action(ArgAction::Set)
+        .value_parser(value_parser!(u32).range(1..=4294967295))
+        .conflicts_with("from")?
+        .conflicts_with("to")?
+        .help("Takes game N alone, counted from 1");
+    let from = Arg::new(alloc, "from")
+        .long("from")
+        .value_name("N")
+        .action(ArgAction::Set)
+        .value_parser(value_parser!(u32).range(1..=4294967295))
+        .help("Takes the games from N on");
+    let to = Arg::new(alloc, "to")
+        .long("to")
+        .value_name("M")
+        .action(ArgAction::Set)
+        .value_parser(value_parser!(u32).range(1..=4294967295))
+        .help("Takes the games up to M");
+    let progress = Arg::new(alloc, "progress")
+        .long("progress")
+        .action(ArgAction::SetTrue)
+        .help("Tells on standard error, after every hundred games, how many were read");
+    let command = Command::new(alloc, "studyimport")
+        .version(VERSION)
+        .about(ABOUT)
+        .after_help(LINES)
+        .arg(stipulate)?
+        .arg(game)?
+        .arg(from)?
+        .arg(to)?
+        .arg(progress)?;
+    let matches = command.try_get_matches_from(words)?;
+    let given = match matches.get_strs("stipulate") {
+        None => None,
+        Some(words) => match stipulation_in(alloc, words)? {
+            Some(stipulation) => Some(stipulation),
+            None => return Ok(None),
+        },
+    };
+    let (from, to) = match matches.get_one::<u32>("game") {
+        Some(number) => (number, number),
+        None => (
+            matches.get_one::<u32>("from").unwrap_or(1),
+            matches.get_one::<u32>("to").unwrap_or(u32::MAX),
+        ),
+    };
+    let choice = Choice { given, from, to };
+    let progress = matches.get_flag("progress");
+    Ok(Some(Options { choice, progress }))
+}
+
+/// What a line `stipulate` of a script says with these words.
+fn stipulation_in(alloc: Global, words: &[&str]) -> Result<Option<Stipulation>, AllocError> {
+    let mut line = Text::new(&alloc);
+    line.add(b"stipulate")?;
+    for word in words {
+        line.add(b" ")?;
+        line.add(word.as_bytes())?;
+    }
+    Ok(match read_command(line.as_slice()) {
+        Ok(Some(ScriptCommand::Stipulate(stipulation))) => Some(stipulation),
+        _ => None,
+    })
+}

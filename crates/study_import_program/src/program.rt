@@ -1,0 +1,108 @@
+//! What the program does, over the streams of its process or over any others.
+ghost use Rattle.std.specs.Prelude.{◌≡◌};
+ghost use Rattle.study_import_program.specs.Status.{status_told, IsTold};
+ghost use Rattle.study_import_program.specs.Ended.{HasRun, EndsBy};
+
+use crate::options::{Options, read_words};
+use crate::status::{put_stop, status_of, status_without_options};
+use crate::streaming::{ImportFault, import_games};
+use clap::Error;
+use std::alloc::Allocator;
+use std::io::{BufReader, BufWriter, ErrorKind, Read, Write};
+use std::process::ExitCode;
+use std::{env, io};
+use study_import::Imported;
+
+/// Reads games of PGN from standard input and writes their script to standard output.
+///
+/// The exit status is 0 where each game has its block, 1 where some has not, 2 where the command line was refused, and 3 where the run
+/// stopped at a fault, whose name then goes to standard error.
+///
+/// No contract: of the streams and the words of a process no clause can say what they hold. `import_stream` has one.
+pub fn studyimport(rt: &HostRuntime) -> ExitCode {
+    let words = match words_of(rt) {
+        Ok(words) => words,
+        Err(error) => return ExitCode::from(not_read(rt, &error)),
+    };
+    match read_words(rt.alloc(), words.as_slice()) {
+        Ok(Some(options)) => ExitCode::from(import_streams(rt, &options)),
+        Ok(None) => ExitCode::from(no_stipulation(rt)),
+        Err(error) => ExitCode::from(answered(rt, &error)),
+    }
+}
+
+/// The words of the command line, of which the first is the program's name.
+fn words_of(rt: &HostRuntime) -> io::Result<Vec<String>> {
+    Ok(env::args(rt)?.collect(rt.alloc())?)
+}
+
+/// The words of the command line are not known.
+fn not_read(rt: &HostRuntime, error: &io::Error) -> u8 {
+    if error.kind() == ErrorKind::OutOfMemory {
+        return ended(&mut rt.stderr(), &Err(ImportFault::OutOfMemory));
+    }
+    let _ = eprintln!(rt; "error: a word of the command line is not UTF-8");
+    2
+}
+
+fn no_stipulation(rt: &HostRuntime) -> u8 {
+    let _ = eprintln!(rt;
+        "error: --stipulate wants a side and a goal: white win, black draw, white mate 3"
+    );
+    2
+}
+
+/// Help, the version, or why the words are refused.
+fn answered(rt: &HostRuntime, error: &Error) -> u8 {
+    if error.kind() == clap::error::ErrorKind::OutOfMemory {
+        return ended(&mut rt.stderr(), &Err(ImportFault::OutOfMemory));
+    }
+    let printed = error.print(rt).is_ok();
+    let status = status_without_options(error, printed);
+    if status == 3 {
+        return ended(&mut rt.stderr(), &Err(ImportFault::WriteDevice));
+    }
+    status
+}
+
+fn import_streams(rt: &HostRuntime, options: &Options) -> u8 {
+    let alloc = rt.alloc();
+    let mut errors = rt.stderr();
+    let Ok(mut games) = BufReader::new(alloc, rt.stdin()) else {
+        return ended(&mut errors, &Err(ImportFault::OutOfMemory));
+    };
+    let Ok(mut out) = BufWriter::new(alloc, rt.stdout()) else {
+        return ended(&mut errors, &Err(ImportFault::OutOfMemory));
+    };
+    import_stream(&alloc, options, &mut games, &mut out, &mut errors)
+}
+
+/// Imports the games of a reader, tells on `errors` why the run stopped, if it did, and answers the exit status.
+pub fn import_stream<A: Allocator, R: Read, W: Write, E: Write>(
+    alloc: &A,
+    options: &Options,
+    games: &mut R,
+    out: &mut W,
+    errors: &mut E,
+) -> u8
+    ensures { EndsBy (HasRun options.now.choice (R.remaining games.old) (W.contents out.old) (W.contents out.new)) result options.now.progress
+        (E.contents errors.old) (E.contents errors.new) }
+{
+    let mut answer = import_games(alloc, games, out, errors, options.choice, options.progress);
+    // What is left in a buffer of the writer are blocks too.
+    if out.flush().is_err() {
+        answer = Err(ImportFault::WriteDevice);
+    }
+    ended(errors, &answer)
+}
+
+/// Tells why a run stopped, if it did. Nobody can be told that standard error failed.
+fn ended<E: Write>(errors: &mut E, answer: &Result<Imported, ImportFault>) -> u8
+    ensures status { result ≡ status_told answer.now }
+    ensures told { IsTold answer.now (E.contents errors.old) (E.contents errors.new) }
+{
+    if let Err(fault) = answer {
+        let _ = put_stop(errors, *fault);
+    }
+    status_of(answer)
+}

@@ -1,0 +1,65 @@
+//! The exit status of the program, and what it tells on standard error.
+ghost use Rattle.std.specs.Prelude.{◌≡◌, ◌++◌, codes, decimal, OnOk, OnErr};
+ghost use Rattle.std.specs.Io.KnownBytes.{Appends};
+ghost use Rattle.clap.specs.Values.{kind_of};
+ghost use Rattle.study_text.specs.Taken.{TakesPrefix};
+ghost use Rattle.study_import_program.specs.Status.{status_told, status_unread, stop_text};
+
+use crate::streaming::ImportFault;
+use clap::Error;
+use clap::error::ErrorKind;
+use itoa::Buffer;
+use std::io::Write;
+use study_import::Imported;
+use study_text::{DeviceFailed, write_text};
+
+/// The exit status after a run.
+pub fn status_of(answer: &Result<Imported, ImportFault>) -> u8
+    ensures { result ≡ status_told answer.now }
+{
+    match answer {
+        Ok(imported) if imported.told == imported.studies => 0,
+        Ok(_) => 1,
+        Err(_) => 3,
+    }
+}
+
+/// The exit status where the words of the command line give no options, by what clap says of them and whether that was printed.
+pub fn status_without_options(error: &Error, printed: bool) -> u8
+    ensures { result ≡ status_unread (kind_of error.now) printed }
+{
+    match error.kind() {
+        ErrorKind::OutOfMemory => 3,
+        ErrorKind::DisplayHelp | ErrorKind::DisplayVersion => { if printed { 0 } else { 3 } }
+        _ => 2,
+    }
+}
+
+/// Tells why a run stopped, in a line of its own: `studyimport: ReadDevice`.
+pub fn put_stop<W: Write>(out: &mut W, fault: ImportFault) -> Result<(), DeviceFailed>
+    ensures ok { OnOk result (Appends (W.contents out.old) (W.contents out.new) (stop_text fault)) }
+    ensures err { OnErr result (TakesPrefix (W.contents out.old) (W.contents out.new) (stop_text fault)) }
+{
+    match fault {
+        ImportFault::ReadDevice => write_text(out, b"studyimport: ReadDevice\n"),
+        ImportFault::WriteDevice => write_text(out, b"studyimport: WriteDevice\n"),
+        ImportFault::OutOfMemory => write_text(out, b"studyimport: OutOfMemory\n"),
+    }
+}
+
+/// Tells how many games were read, in a line of its own: `300 games`.
+pub fn put_games<W: Write>(out: &mut W, count: u32) -> Result<(), DeviceFailed>
+    ensures ok { OnOk result (Appends (W.contents out.old) (W.contents out.new) (decimal count ++ codes " games\n")) }
+    ensures err { OnErr result (TakesPrefix (W.contents out.old) (W.contents out.new) (decimal count ++ codes " games\n")) }
+{
+    let mut buffer = Buffer::new();
+    put_both(out, buffer.format(count).as_bytes(), b" games\n")
+}
+
+fn put_both<W: Write>(out: &mut W, front: &[u8], back: &[u8]) -> Result<(), DeviceFailed>
+    ensures ok { OnOk result (Appends (W.contents out.old) (W.contents out.new) (front.now ++ back.now)) }
+    ensures err { OnErr result (TakesPrefix (W.contents out.old) (W.contents out.new) (front.now ++ back.now)) }
+{
+    write_text(out, front)?;
+    write_text(out, back)
+}
