@@ -6,3 +6,4 @@ pub mod Ended
 mod Apart
 pub mod Made
 pub mod Printed
+pub mod TextAgain

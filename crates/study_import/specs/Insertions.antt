@@ -1,6 +1,8 @@
 -- The insertions of which a game's tree is made.
-use Rattle.std.specs.Prelude.{◌≡◌, ℕ, List, [], ◌∷◌, ◌++◌, Some, None}
+use Rattle.std.specs.Prelude.{◌≡◌, ℕ, List, [], ◌∷◌, ◌++◌, Some, None, Ok}
 use Rattle.study_moves.specs.declared.moves.Move.{Move}
+use Rattle.study_notation.specs.Matching.{move_of}
+use Rattle.study_notation.specs.Written.{move_text}
 use Rattle.study_marks.specs.Study.{position_at}
 use Rattle.study_marks.specs.Edits.{Plainly, inserted, insert_refusal}
 use Rattle.study_import.specs.Reading.{Reading, insert_line}
@@ -18,6 +20,11 @@ made_by s (i ∷ more) = made_by (inserted s i.0 i.1) more
 abbrev pub AllAccepted : Type 0 → Plainly → List Insertion → Type 0
 AllAccepted A s [] = Unit {0}
 AllAccepted A s (i ∷ more) = (insert_refusal {A = A} s i.0 i.1 ≡ None) × AllAccepted A (inserted s i.0 i.1) more
+
+-- the text of each move, as the lines have it, is read in its turn as that move
+abbrev pub AllReadAgain : Plainly → List Insertion → Type 0
+AllReadAgain s [] = Unit {0}
+AllReadAgain s (i ∷ more) = (move_of (position_at s i.0) (move_text (position_at s i.0) i.1) ≡ Ok i.1) × AllReadAgain (inserted s i.0 i.1) more
 
 -- the lines of the script that ask for them
 abbrev pub lines_for : Plainly → List Insertion → List ℕ

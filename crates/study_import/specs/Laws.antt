@@ -1,11 +1,12 @@
 -- Laws of an import.
 use Rattle.std.specs.Prelude.{◌≡◌, ℕ, List, [], ◌∷◌, ◌++◌, None, Ok}
+use Rattle.study_board.specs.Position.{IsValid}
 use Rattle.study_notation.specs.declared.start.Start.{Start}
 use Rattle.study_games.specs.Games.{Game, games_of, games_from}
 use Rattle.study_games.specs.Laws.{number_behind, EndsWithMoves, BeginsWithTag, lines_of}
 use Rattle.study_import.specs.declared.importer.Choice.{Choice}
 use Rattle.study_import.specs.Blocks.{Tally, tallied, told_text, blocks, no_moves, game_read}
-use Rattle.study_import.specs.Insertions.{Leads}
+use Rattle.study_import.specs.Insertions.{Leads, AllReadAgain}
 use Rattle.study_import.specs.Movetext.{Ended}
 use Rattle.study_import.specs.Imported.{no_game, script_of, tally_of}
 
@@ -23,6 +24,9 @@ IsIsolated =
     → script_of c (a ++ b) ≡ told_texts c no_game (games_of a) ++ blocks c (tally_of c a) (games_from (number_behind 1 (lines_of a)) None (lines_of b))
 
 -- where the moves of a game are read to their end, its tree is made of insertions into the bare start, one after another: none of them is
--- refused in its turn, tables and memory apart, and the lines of the game's block ask for them in this order
+-- refused in its turn, tables and memory apart, the lines of the game's block ask for them in this order, and the text of each move in
+-- them is read in its turn as that move
 abbrev pub AreAccepted : Type 0
-AreAccepted = (text : List ℕ) → (start : Start) → (x : Ended) → game_read text start ≡ Ok x → Leads (Unit {0}) (no_moves start).reading x.game.reading
+AreAccepted =
+    (text : List ℕ) → (start : Start) → (x : Ended) → game_read text start ≡ Ok x
+    → (l : Leads (Unit {0}) (no_moves start).reading x.game.reading) × (IsValid start.position → AllReadAgain (no_moves start).reading.study l.insertions)

@@ -7,7 +7,8 @@ pub fn blocks_are_isolated()
     ensures { IsIsolated }
 {}
 
-/// The `insert` lines of a block are accepted by a bench, tables and memory apart, and make the tree that was read.
+/// The `insert` lines of a block are accepted by a bench, tables and memory apart, make the tree that was read, and spell its moves so that
+/// each is read again.
 pub fn moves_are_accepted()
     ensures { AreAccepted }
 {}

@@ -23,15 +23,5 @@ mod tags;
 mod taking;
 mod values;
 
-pub use aims::{Aim, AimSource, aim_in, aim_of_outcome, aim_of_tag, outcome_of_tag};
-pub use block::{Setting, Told, add_game};
 pub use importer::{Choice, Imported, Importer, import};
 pub use laws::{blocks_are_isolated, moves_are_accepted};
-pub use lines::{LineFault, Lines, MAX_WAITING, Waiting};
-pub use moves::{MoveFault, Step, play};
-pub use movetext::{GameReading, MovesFault, Stop};
-pub use notes::Notes;
-pub use places::{Entry, Place};
-pub use reading::Reading;
-pub use taking::Reason;
-pub use values::NoValues;
