@@ -7,3 +7,5 @@ mod Apart
 pub mod Made
 pub mod Printed
 pub mod TextAgain
+pub mod TagTexts
+mod TagsTaken

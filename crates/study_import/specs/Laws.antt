@@ -2,10 +2,14 @@
 use Rattle.std.specs.Prelude.{◌≡◌, ℕ, List, [], ◌∷◌, ◌++◌, None, Ok}
 use Rattle.study_board.specs.Position.{IsValid}
 use Rattle.study_notation.specs.declared.start.Start.{Start}
+use Rattle.study_marks.specs.declared.tag.TagName.{TagName}
+use Rattle.study_marks.specs.Study.{tag_name}
+use Rattle.study_marks.specs.Edits.{tag_refusal}
+use Rattle.study_games.specs.Header.{Pair, value_of}
 use Rattle.study_games.specs.Games.{Game, games_of, games_from}
 use Rattle.study_games.specs.Laws.{number_behind, EndsWithMoves, BeginsWithTag, lines_of}
 use Rattle.study_import.specs.declared.importer.Choice.{Choice}
-use Rattle.study_import.specs.Blocks.{Tally, tallied, told_text, blocks, no_moves, game_read}
+use Rattle.study_import.specs.Blocks.{Tally, tallied, told_text, blocks, no_moves, game_read, tag_value_text}
 use Rattle.study_import.specs.Insertions.{Leads, AllReadAgain}
 use Rattle.study_import.specs.Movetext.{Ended}
 use Rattle.study_import.specs.Imported.{no_game, script_of, tally_of}
@@ -30,3 +34,7 @@ abbrev pub AreAccepted : Type 0
 AreAccepted =
     (text : List ℕ) → (start : Start) → (x : Ended) → game_read text start ≡ Ok x
     → (l : Leads (Unit {0}) (no_moves start).reading x.game.reading) × (IsValid start.position → AllReadAgain (no_moves start).reading.study l.insertions)
+
+-- the text of each tag line is one that a study takes: 1 to 60 bytes that print
+abbrev pub AreTaken : Type 0
+AreTaken = (tags : List Pair) → (name : TagName) → tag_refusal {A = Unit {0}} (tag_value_text name (value_of (tag_name name) tags)) ≡ None

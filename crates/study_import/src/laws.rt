@@ -1,5 +1,5 @@
 //! Laws of an import.
-ghost use Rattle.study_import.specs.Laws.{IsIsolated, AreAccepted};
+ghost use Rattle.study_import.specs.Laws.{IsIsolated, AreAccepted, AreTaken};
 
 /// The blocks of a text that ends with a line of moves stay as they are, whatever file follows it; and what is written of that file
 /// depends on the text before it by numbers of games and of lines alone.
@@ -11,4 +11,9 @@ pub fn blocks_are_isolated()
 /// each is read again.
 pub fn moves_are_accepted()
     ensures { AreAccepted }
+{}
+
+/// A study takes the text of each `tag` line of a block, whatever a tag of the game says.
+pub fn tags_are_taken()
+    ensures { AreTaken }
 {}
