@@ -3,8 +3,9 @@
 #
 #   tools/faults.sh            the built program: memory, reads, writes, opened files and places in them that fail, are cut
 #                              short or are broken off, then the deepest tree under limits of stack and addresses, whole
-#                              devices and tools/files.sh; then studyreport, with tools/report_faults.py; some minutes
+#                              devices and tools/files.sh; then studyreport, with tools/report_faults.py, and studyimport; some minutes
 #   tools/faults.sh report     studyreport alone
+#   tools/faults.sh import     studyimport alone
 #   tools/faults.sh try [N ..] `rt try --fail-alloc N` over the small scripts, for each N (default 3 19 35 51); slow
 #
 # FAULTS_RUNS=N bounds the runs of one script with one kind of fault (default 24): where there are more places for the fault,
@@ -88,7 +89,27 @@ reported() { # studyreport under the same faults, and its own cases
     python3 "$top/tools/faults.py" report; local swept=$?
     python3 "$top/tools/report_faults.py" "$work/tables" && [ $swept = 0 ]
 }
+imported() { # studyimport: a call that fails ends the run with its name, and what was written is a front of the script; else nothing is changed
+    local import=${STUDYIMPORT:-$top/crates/studyimport/out/studyimport} games="$top/examples/import/three_games.pgn" runs=0 bad=0 kind how at was name
+    [ -x "$import" ] || (cd "$top/crates/studyimport" && rt run < /dev/null) > /dev/null 2>&1 || { echo "studyimport is not built"; return 2; }
+    "$import" < "$games" > "$work/script"
+    for kind in alloc stdin stdout; do for how in fail short interrupt; do
+        [ $kind = alloc ] && [ $how != fail ] && continue
+        for at in $(seq 1 "$FAULTS_RUNS"); do
+            (cd "$work" && FAULT_KIND=$kind FAULT_HOW=$how FAULT_AT=$at FAULT_CHUNK=400 LD_PRELOAD="$work/fault.so" timeout 60 "$import" < "$games" > out 2> err)
+            was=$?; runs=$((runs + 1)); name=$(sed -n 's/^studyimport: //p' "$work/err")
+            case $was,$kind,$name in
+                0,*,) cmp -s "$work/out" "$work/script" ;;
+                3,alloc,OutOfMemory | 3,stdin,ReadDevice | 3,stdout,WriteDevice) cmp -s -n "$(stat -c %s "$work/out")" "$work/out" "$work/script" ;;
+                *) false ;;
+            esac || { bad=$((bad + 1)); echo "WRONG studyimport: $kind $how at $at: status $was, '$name'"; }
+        done
+    done; done
+    echo "$runs runs of studyimport, $bad wrong"
+    [ $bad = 0 ]
+}
 if [ "$1" = report ]; then reported; exit $?; fi
+if [ "$1" = import ]; then imported; exit $?; fi
 python3 "$top/tools/faults.py" sweep; swept=$?
 python3 "$top/tools/faults.py" squeeze; squeezed=$?
 
@@ -137,4 +158,5 @@ while_read "a byte turned" 'printf "\\377" | dd of="$work/live/KRK.dtm" bs=1 see
 echo "$cases cases of whole devices, $wrong wrong"
 "$top/tools/files.sh"; filed=$?
 reported; told=$?
-[ $swept = 0 ] && [ $squeezed = 0 ] && [ $wrong = 0 ] && [ $filed = 0 ] && [ $told = 0 ]
+imported; read=$?
+[ $swept = 0 ] && [ $squeezed = 0 ] && [ $wrong = 0 ] && [ $filed = 0 ] && [ $told = 0 ] && [ $read = 0 ]
