@@ -1,0 +1,164 @@
+//! Imports of texts. What each comes to was written down by hand, by the rules of docs/IMPORT.md.
+
+use linked_list_allocator::LocalHeap;
+use std::alloc::{AllocError, Allocator};
+use std::test::Fail;
+use study_board::Side;
+use study_import::{Choice, Importer, blocks_are_isolated, import, moves_are_accepted};
+use study_marks::{Goal, Stipulation};
+use study_text::Text;
+
+/// Two games: a variation, a move that is there already, a tag in Latin 1; and one that breaks off.
+const TWO: &[u8] = b"[Event \"A \"first\" one\"]
+[White \"R\xe9ti\"]
+[FEN \"8/8/8/4k3/8/4K3/4P3/8 w - - 0 1\"]
+[Result \"1/2-1/2\"]
+
+{Black to draw: of old} 1. Kd3 $1 (1. Kf3 Kf5) (1. Kd3 Kd5) 1... Kf5 1/2-1/2
+
+[Event \"e\"]
+[FEN \"8/8/8/4k3/8/4K3/4P3/8 w - - 0 1\"]
+
+1. Kd3 (1. Kb6 *
+";
+
+const TWO_TOLD: &[u8] = b"# game 1, line 1: stipulated by its comment
+# not taken over: comments 1, NAGs 1, repeated 1
+# White was: R\xe9ti
+position 8/8/8/4k3/8/4K3/4P3/8 w - - 0 1
+stipulate black draw
+tag Event A \"first\" one
+tag Site ?
+tag Date ????.??.??
+tag Round ?
+tag White Reti
+tag Black ?
+insert root Kd3
+insert root Kf3
+insert 1 Kf5
+insert 0 Kd5
+insert 0 Kf5
+pgn
+
+# game 2, line 11, column 12: NoSuchMove at Kb6
+
+# games 2, studies 1
+";
+
+/// Compares the script of a text.
+fn check<A: Allocator>(
+    alloc: &A,
+    text: &[u8],
+    given: Option<Stipulation>,
+    wanted: &[u8],
+) -> Result<bool, AllocError> {
+    let script = import(alloc, text, given)?;
+    Ok(script.as_slice() == wanted)
+}
+
+/// Each game comes to its block, or to the line of its first fault.
+#[test]
+fn games_come_to_their_blocks(rt: HostRuntime) -> Result<(), Fail> {
+    let alloc = rt.alloc();
+    assert!(rt; check(&alloc, TWO, None, TWO_TOLD)?);
+    assert!(rt; check(&alloc, b"", None, b"# games 0, studies 0\n")?);
+    Ok(())
+}
+
+/// A file that comes in byte by byte comes to the same script; a game is written when the next one begins, and all are counted.
+#[test]
+fn a_file_may_come_in_byte_by_byte(rt: HostRuntime) -> Result<(), Fail> {
+    let alloc = rt.alloc();
+    let choice = Choice {
+        given: None,
+        from: 1,
+        to: u32::MAX,
+    };
+    let mut importer = Importer::new(&alloc, choice);
+    let mut script = Text::new(&alloc);
+    for byte in TWO {
+        importer.take(*byte, &mut script)?;
+    }
+    assert!(rt; importer.met() == 1);
+    let imported = importer.finish(&mut script)?;
+    assert!(rt; script.as_slice() == TWO_TOLD);
+    assert!(rt; imported.met == 2 && imported.told == 2 && imported.studies == 1);
+    Ok(())
+}
+
+/// Games with other numbers than those that are chosen are counted, and not told.
+#[test]
+fn games_may_be_chosen(rt: HostRuntime) -> Result<(), Fail> {
+    let alloc = rt.alloc();
+    let choice = Choice {
+        given: None,
+        from: 2,
+        to: 2,
+    };
+    let mut importer = Importer::new(&alloc, choice);
+    let mut script = Text::new(&alloc);
+    for byte in TWO {
+        importer.take(*byte, &mut script)?;
+    }
+    let imported = importer.finish(&mut script)?;
+    let told = b"# game 2, line 11, column 12: NoSuchMove at Kb6\n\n# games 1, studies 0\n";
+    assert!(rt; script.as_slice() == told.as_slice());
+    assert!(rt; imported.met == 2 && imported.told == 1 && imported.studies == 0);
+    Ok(())
+}
+
+/// The laws can be called.
+#[test]
+fn laws_are_called(_rt: HostRuntime) -> Result<(), Fail> {
+    blocks_are_isolated();
+    moves_are_accepted();
+    Ok(())
+}
+
+/// A game that says no stipulation takes the caller's.
+#[test]
+fn the_stipulation_may_be_given(rt: HostRuntime) -> Result<(), Fail> {
+    let alloc = rt.alloc();
+    let text = b"[FEN \"8/8/8/4k3/8/4K3/4P3/8 w - - 0 1\"]\n\n*\n";
+    let none = b"# game 1, line 1: NoStipulation\n\n# games 1, studies 0\n";
+    assert!(rt; check(&alloc, text.as_slice(), None, none.as_slice())?);
+    let given = Some(Stipulation {
+        hero: Side::White,
+        goal: Goal::Win,
+    });
+    let told = b"# game 1, line 1: stipulated by the option
+position 8/8/8/4k3/8/4K3/4P3/8 w - - 0 1
+stipulate white win
+tag Event ?
+tag Site ?
+tag Date ????.??.??
+tag Round ?
+tag White ?
+tag Black ?
+pgn
+
+# games 1, studies 1
+";
+    assert!(rt; check(&alloc, text.as_slice(), given, told.as_slice())?);
+    Ok(())
+}
+
+/// Wherever memory ends, an import ends with it, and never answers another script.
+#[test]
+fn each_growth_may_be_refused(rt: HostRuntime) -> Result<(), Fail> {
+    let mut refused = 0usize;
+    let mut done = false;
+    for step in 0..400usize {
+        let heap = LocalHeap::new(rt.alloc(), 64 + step * 64)?;
+        match import(&heap, TWO, None) {
+            Ok(script) => {
+                assert!(rt; script.as_slice() == TWO_TOLD);
+                done = true;
+                break;
+            }
+            Err(_) => refused = refused.saturating_add(1),
+        }
+    }
+    assert!(rt; done && refused > 20);
+    Ok(())
+}

@@ -1,0 +1,7 @@
+//! Tests of study_import and of the program studyimport as a library.
+#![tactic(auto)]
+
+#[cfg(test)]
+mod games;
+#[cfg(test)]
+mod program;
