@@ -9,3 +9,4 @@ pub mod Printed
 pub mod TextAgain
 pub mod TagTexts
 mod TagsTaken
+mod Alike

@@ -1,5 +1,5 @@
 -- Laws of an import.
-use Rattle.std.specs.Prelude.{◌≡◌, ℕ, List, [], ◌∷◌, ◌++◌, None, Ok}
+use Rattle.std.specs.Prelude.{◌≡◌, ℕ, List, [], ◌∷◌, ◌++◌, Option, Some, None, Ok, true}
 use Rattle.study_board.specs.Position.{IsValid}
 use Rattle.study_notation.specs.declared.start.Start.{Start}
 use Rattle.study_marks.specs.declared.tag.TagName.{TagName}
@@ -9,8 +9,10 @@ use Rattle.study_games.specs.Header.{Pair, value_of}
 use Rattle.study_games.specs.Games.{Game, games_of, games_from}
 use Rattle.study_games.specs.Laws.{number_behind, EndsWithMoves, BeginsWithTag, lines_of}
 use Rattle.study_import.specs.declared.importer.Choice.{Choice}
-use Rattle.study_import.specs.Blocks.{Tally, tallied, told_text, blocks, no_moves, game_read, tag_value_text}
+use Rattle.study_import.specs.Blocks.{Tally, tallied, told_text, blocks, no_moves, game_read, tag_value_text, Entry, Told, block_lines, block_of}
 use Rattle.study_import.specs.Insertions.{Leads, AllReadAgain}
+use Rattle.study_import.specs.declared.aims.Aim.{Aim}
+use Rattle.study_marks.specs.declared.stipulation.Stipulation.{Stipulation}
 use Rattle.study_import.specs.Movetext.{Ended}
 use Rattle.study_import.specs.Imported.{no_game, script_of, tally_of}
 
@@ -38,3 +40,15 @@ AreAccepted =
 -- the text of each tag line is one that a study takes: 1 to 60 bytes that print
 abbrev pub AreTaken : Type 0
 AreTaken = (tags : List Pair) → (name : TagName) → tag_refusal {A = Unit {0}} (tag_value_text name (value_of (tag_name name) tags)) ≡ None
+
+abbrev pub entry_of : ℕ → ℕ → List ℕ → Entry
+entry_of number line text = record { number = number; line = line; text = text }
+
+-- a game that comes to a study comes to the same one under every number and at every line: its start, its stipulation and what was read
+-- are those of its text
+abbrev pub AreAlike : Type 0
+AreAlike =
+    (given : Option Stipulation) → (text : List ℕ) → (m k : ℕ) → (block_of given m (record { line = k; text = Some text })).is_study ≡ true
+    → (start : Start) × (aim : Aim) × (told : Told)
+    × ((number line : ℕ) → block_of given number (record { line = line; text = Some text })
+    ≡ record { text = block_lines (entry_of number line text) start aim told; is_study = true })

@@ -24,4 +24,4 @@ mod taking;
 mod values;
 
 pub use importer::{Choice, Imported, Importer, import};
-pub use laws::{blocks_are_isolated, moves_are_accepted, tags_are_taken};
+pub use laws::{blocks_are_isolated, moves_are_accepted, studies_are_alike, tags_are_taken};

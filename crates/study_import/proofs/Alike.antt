@@ -1,0 +1,55 @@
+-- What a game comes to depends on no number.
+use Rattle.std.proofs.Common.{◌≡◌, ℕ, Bool, true, false, List, length, Option, Some, None, Result, Ok, Err, refl}
+use Rattle.std.specs.Prelude.{◌==◌, codes, if◌then◌else◌}
+use Rattle.study_notation.specs.declared.start.Start.{Start}
+use Rattle.study_notation.specs.declared.fault.FenFault.{FenFault}
+use Rattle.study_notation.specs.Fen.{start_of}
+use Rattle.study_marks.specs.declared.stipulation.Stipulation.{Stipulation}
+use Rattle.study_games.specs.Header.{tags_of, header_fault, value_of}
+use Rattle.study_games.specs.declared.header.HeaderFault.{HeaderFault}
+use Rattle.study_import.specs.declared.aims.Aim.{Aim}
+use Rattle.study_import.specs.declared.movetext.MovesFault.{MovesFault}
+use Rattle.study_import.specs.Movetext.{Ended}
+use Rattle.study_import.specs.Blocks.{Block, Told, told_of, block_lines, no_study, left_out, aim_of_game, aimed_block, read_block, game_read, fen_in, start_block, fen_block, header_block, block_of}
+use Rattle.study_import.specs.Laws.{entry_of, AreAlike}
+
+module _ (given : Option Stipulation) (text : List ℕ) where
+  abbrev Alike : (ℕ → ℕ → Block) → Type 0
+  Alike make = (start : Start) × (aim : Aim) × (told : Told)
+      × ((number line : ℕ) → make number line ≡ record { text = block_lines (entry_of number line text) start aim told; is_study = true })
+
+  aimed_alike : (start : Start) (t : Told) (aim : Option Aim) (m k : ℕ) → (aimed_block (entry_of m k text) start t aim).is_study ≡ true
+      → Alike (λ number line. aimed_block (entry_of number line text) start t aim)
+  aimed_alike start t None m k e = absurd cc
+  aimed_alike start t (Some aim) m k e = (start, aim, t, λ number line. refl)
+
+  read_alike : (start : Start) (x : Result Ended MovesFault) (m k : ℕ) → (read_block given (entry_of m k text) start x).is_study ≡ true
+      → Alike (λ number line. read_block given (entry_of number line text) start x)
+  read_alike start (Err fault) m k e = absurd cc
+  read_alike start (Ok x) m k e = aimed_alike start (told_of x) (aim_of_game given (tags_of text) start.position.to_move x.game.notes) m k e
+
+  start_alike : (fen : List ℕ) (x : Result Start FenFault) (m k : ℕ) → (start_block given (entry_of m k text) fen x).is_study ≡ true
+      → Alike (λ number line. start_block given (entry_of number line text) fen x)
+  start_alike fen (Err fault) m k e = absurd cc
+  start_alike fen (Ok start) m k e = read_alike start (game_read text start) m k e
+
+  fen_alike : (value : Option (List ℕ)) (m k : ℕ) → (fen_block given (entry_of m k text) value).is_study ≡ true
+      → Alike (λ number line. fen_block given (entry_of number line text) value)
+  fen_alike None m k e = absurd cc
+  fen_alike (Some value) m k e = start_alike (fen_in value) (start_of (fen_in value)) m k e
+
+  tagged_alike : (none : Bool) (m k : ℕ)
+      → (if none then no_study (left_out (entry_of m k text) (codes "left out: no tags")) else fen_block given (entry_of m k text) (value_of (codes "FEN") (tags_of text))).is_study ≡ true
+      → Alike (λ number line. if none then no_study (left_out (entry_of number line text) (codes "left out: no tags"))
+      else fen_block given (entry_of number line text) (value_of (codes "FEN") (tags_of text)))
+  tagged_alike true m k e = absurd cc
+  tagged_alike false m k e = fen_alike (value_of (codes "FEN") (tags_of text)) m k e
+
+  header_alike : (fault : Option HeaderFault) (m k : ℕ) → (header_block given (entry_of m k text) fault).is_study ≡ true
+      → Alike (λ number line. header_block given (entry_of number line text) fault)
+  header_alike (Some fault) m k e = absurd cc
+  header_alike None m k e = tagged_alike (length (tags_of text) == 0) m k e
+
+pub alike : AreAlike
+unfolding block_of
+alike given text m k e = header_alike given text (header_fault text) m k e
