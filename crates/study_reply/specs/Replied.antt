@@ -24,7 +24,7 @@ reply_text (done.Mark steps mark) = mark_text steps mark
 reply_text (done.Moves start) = moves_text start.position
 reply_text (done.Fen start) = reply_line (codes "fen ") (fen_text start)
 reply_text (done.Solved plies) = solve_text plies
-reply_text (done.Pgn text) = text.items
+reply_text (done.Pgn game) = game.text.items
 reply_text (done.Table told) = table_text told
 
 abbrev pub refused_words : {A : Type 0} → Refused A → List ℕ

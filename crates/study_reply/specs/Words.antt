@@ -1,5 +1,5 @@
 -- The words of replies.
-use Rattle.std.specs.Prelude.{ℕ, ◌-◌, List, [], ◌∷◌, ◌++◌, length, Option, Some, None, codes, decimal, if◌then◌else◌}
+use Rattle.std.specs.Prelude.{ℕ, ◌-◌, ◌==◌, Bool, false, List, [], ◌∷◌, ◌++◌, length, Option, Some, None, codes, decimal, if◌then◌else◌}
 use Rattle.std.specs.List.{flat_map}
 use Rattle.study_board.specs.Position.{Position, in_check}
 use Rattle.study_moves.specs.declared.moves.Move.{Move}
@@ -22,6 +22,12 @@ use Rattle.study_tree.specs.Paths.{path_text}
 -- words and a line feed
 abbrev pub reply_line : List ℕ → List ℕ → List ℕ
 reply_line front back = front ++ (back ++ 10 ∷ [])
+
+-- the last byte is a line feed
+abbrev pub ends_line : List ℕ → Bool
+ends_line [] = false
+ends_line (b ∷ []) = b == 10
+ends_line (b ∷ c ∷ more) = ends_line (c ∷ more)
 
 abbrev pub side_word : Side → List ℕ
 side_word White = codes "White"

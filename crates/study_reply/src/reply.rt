@@ -6,6 +6,7 @@ ghost use Rattle.study_text.specs.Taken.{TakesPrefix};
 ghost use Rattle.study_reply.specs.Words.{reply_line, insert_text};
 ghost use Rattle.study_reply.specs.Replied.{reply_text, refused_words, answer_text};
 
+use crate::game::Game;
 use crate::path_written::{put_child, put_node, put_promoted};
 use crate::refusal::Refusal;
 use crate::table_reply::{TableReply, put_table_reply};
@@ -37,8 +38,7 @@ pub enum Reply<'a, A: Allocator> {
     Fen(Start),
     /// In plies.
     Solved(Option<u8>),
-    /// The whole game.
-    Pgn(Vec<u8, &'a A>),
+    Pgn(Game<'a, A>),
     Table(TableReply),
 }
 
@@ -107,7 +107,7 @@ fn put_reply<'a, W: Write, A: Allocator>(
         Reply::Moves(start) => list_moves(out, &start.position),
         Reply::Fen(start) => put_start(out, b"fen ", &start),
         Reply::Solved(plies) => put_solution(out, plies),
-        Reply::Pgn(text) => write_text(out, text.as_slice()),
+        Reply::Pgn(game) => write_text(out, game.text.as_slice()),
         Reply::Table(reply) => put_table_reply(out, reply),
     }
 }
