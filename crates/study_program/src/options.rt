@@ -31,7 +31,7 @@ const COMMANDS: &str = "Commands of a script, one a line:
   verify CLASS          checks each cell of a table against the rules of chess
 PATH is 'root', or places of children from the root on, counted from 0: '0.1' is the second child of the first.
 A line that begins with # and an empty one have no reply; a refused line has the reply 'error NAME' and changes nothing,
-but the file that a 'save' had begun when its device failed.
+but the file that a 'save' had begun when its device failed, and with --separate a 'position', which leaves no study.
 
 Exit status: 0 no line was refused; 1 some line was; 2 the command line was; 3 the run stopped at a fault.";
 
@@ -42,6 +42,8 @@ pub struct Options<'a> {
     pub tables: &'a str,
     /// How many pages of tables are kept, where they are read by pages: 1 to 4,096.
     pub pages: Option<u16>,
+    /// Whether a refused `position` leaves no study that the lines behind it could edit.
+    pub separate: bool,
     ghost named: { 0 < length tables.now },
     ghost range: { IfSome pages (λ n. (1 ≤ n) × (n ≤ 4096)) } by { Prim.hlevel props },
 }
@@ -64,16 +66,28 @@ pub fn read_words<'a>(alloc: Global, words: &'a [String]) -> Result<Options<'a>,
         .action(ArgAction::Set)
         .value_parser(value_parser!(u16).range(1..=4096))
         .help("Reads tables by pages of 4,096 cells and keeps N of them, 1 to 4096");
+    let separate = Arg::new(alloc, "separate")
+        .long("separate")
+        .action(ArgAction::SetTrue)
+        .help(
+            "Keeps studies apart: a refused 'position' leaves no position and no study until the next accepted one",
+        );
     let command = Command::new(alloc, "studybench")
         .version(VERSION)
         .about(ABOUT)
         .after_help(COMMANDS)
         .arg(tables)?
-        .arg(pages)?;
+        .arg(pages)?
+        .arg(separate)?;
     let matches = command.try_get_matches_from(words)?;
     let tables = folder_of(matches.get_str("tables"));
     let pages = pages_of(matches.get_one::<u16>("pages"));
-    Ok(Options { tables, pages })
+    let separate = matches.get_flag("separate");
+    Ok(Options {
+        tables,
+        pages,
+        separate,
+    })
 }
 
 /// So many pages, where it is a number of pages that can be kept.

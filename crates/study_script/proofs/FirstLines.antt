@@ -11,7 +11,7 @@ use Rattle.study_script.specs.declared.running.RunFault.TheVariants.{ReadDevice,
 use Rattle.study_command.specs.Lines.{script_lines, TakesLine, BeginsLong, GaveFeeds}
 use Rattle.study_command.proofs.LineTaken.{HasMore}
 use Rattle.study_script.specs.State.{State, Outside}
-use Rattle.study_script.specs.Replies.{Reply, Answer, IsReply, AreReplies, replies_text}
+use Rattle.study_script.specs.Replies.{Reply, Answer, IsReplyIn, AreReplies, replies_text}
 use Rattle.study_script.specs.Held.{Answered, BrokenOff}
 use Rattle.std.specs.List.{AllByRecursion}
 use Rattle.study_material.specs.declared.class.Class.{Class}
@@ -20,13 +20,13 @@ use Rattle.study_script.specs.Outcome.{AreShort, error_count, state_after, Outco
 
 -- ---- one reply more
 
-are-more : (s : State) (lines : List (List ℕ)) (replies : List Answer) (line : List ℕ) (o : Outside) (reply : Reply)
-    → AreReplies s lines replies → IsReply (state_after s replies) line o reply
-    → AreReplies s (lines ++ line ∷ []) (replies ++ (o, reply) ∷ [])
-are-more s [] [] line o reply h r = (r, tt)
-are-more s [] (x ∷ replies) line o reply h r = absurd h
-are-more s (l ∷ lines) [] line o reply h r = absurd h
-are-more s (l ∷ lines) (x ∷ replies) line o reply h r = (h.0, are-more x.1.state lines replies line o reply h.1 r)
+are-more : (separate : Bool) (s : State) (lines : List (List ℕ)) (replies : List Answer) (line : List ℕ) (o : Outside) (reply : Reply)
+    → AreReplies separate s lines replies → IsReplyIn separate (state_after s replies) line o reply
+    → AreReplies separate s (lines ++ line ∷ []) (replies ++ (o, reply) ∷ [])
+are-more separate s [] [] line o reply h r = (r, tt)
+are-more separate s [] (x ∷ replies) line o reply h r = absurd h
+are-more separate s (l ∷ lines) [] line o reply h r = absurd h
+are-more separate s (l ∷ lines) (x ∷ replies) line o reply h r = (h.0, are-more separate x.1.state lines replies line o reply h.1 r)
 
 state_after-more : (s : State) (replies : List Answer) (answer : Answer) → state_after s (replies ++ answer ∷ []) ≡ answer.1.state
 state_after-more s [] answer = refl
@@ -46,7 +46,7 @@ short-more (l ∷ lines) line h k = (h.0, short-more lines line h.1 k)
 
 -- ---- the first line that is left
 
-first_left : (all left : List (List ℕ)) (n : ℕ) (x : List ℕ) → drop n all ≡ x ∷ left → (n < length all)
+pub first_left : (all left : List (List ℕ)) (n : ℕ) (x : List ℕ) → drop n all ≡ x ∷ left → (n < length all)
     × (take (suc n) all ≡ take n all ++ x ∷ []) × (drop (suc n) all ≡ left) × (slice_get all n ≡ Some x)
 first_left [] left zero x e = absurd cc
 first_left [] left (suc n) x e = absurd cc
@@ -57,7 +57,7 @@ first_left (a ∷ all) left (suc n) x e =
     let lt = r.0 in
     (omega arith, ap (λ (xs : List (List ℕ)). a ∷ xs) r.1, r.2, r.3)
 
-none_left : (all : List (List ℕ)) (n : ℕ) → n ≤ length all → drop n all ≡ [] → (take n all ≡ all) × (n ≡ length all)
+pub none_left : (all : List (List ℕ)) (n : ℕ) → n ≤ length all → drop n all ≡ [] → (take n all ≡ all) × (n ≡ length all)
 none_left [] zero le e = (refl, refl)
 none_left [] (suc n) le e = absurd (omega arith)
 none_left (a ∷ all) zero le e = absurd cc
@@ -65,27 +65,27 @@ none_left (a ∷ all) (suc n) le e = let r = none_left all n (omega arith) e in 
 
 -- ---- the first n lines are answered
 
-pub record RanOver (all left : List (List ℕ)) (old new : Option (List ℕ)) (first : State) (s : State) (n refused : ℕ) : Type 0 where
+pub record RanOver (separate : Bool) (all left : List (List ℕ)) (old new : Option (List ℕ)) (first : State) (s : State) (n refused : ℕ) : Type 0 where
   pub left_is : drop n all ≡ left
   pub within : n ≤ length all
   pub short : AreShort (take n all)
   pub replies : List Answer
-  pub are : AreReplies first (take n all) replies
+  pub are : AreReplies separate first (take n all) replies
   pub written : Appends old new (replies_text replies)
   pub state_is : s ≡ state_after first replies
   pub refused_is : refused ≡ error_count replies
 
-abbrev pub RanKnown : Option (List ℕ) → Option (List ℕ) → Option (List ℕ) → Option (List ℕ) → State → State → ℕ → ℕ → Type 0
-RanKnown None now old new first s n refused = Unit {0}
-RanKnown (Some bs) None old new first s n refused = ⊥
-RanKnown (Some bs) (Some rest) old new first s n refused = RanOver (script_lines bs) (script_lines rest) old new first s n refused
+abbrev pub RanKnown : Bool → Option (List ℕ) → Option (List ℕ) → Option (List ℕ) → Option (List ℕ) → State → State → ℕ → ℕ → Type 0
+RanKnown separate None now old new first s n refused = Unit {0}
+RanKnown separate (Some bs) None old new first s n refused = ⊥
+RanKnown separate (Some bs) (Some rest) old new first s n refused = RanOver separate (script_lines bs) (script_lines rest) old new first s n refused
 
-pub record Ran (script now old new : Option (List ℕ)) (first : State) (s : State) (n refused : ℕ) : Type 0 where
-  pub known : RanKnown script now old new first s n refused
+pub record Ran (separate : Bool) (script now old new : Option (List ℕ)) (first : State) (s : State) (n refused : ℕ) : Type 0 where
+  pub known : RanKnown separate script now old new first s n refused
 
-pub ran_none : (script out : Option (List ℕ)) (first : State) → Ran script script out out first first 0 0
-ran_none None out first = record { known = tt }
-ran_none (Some bs) out first =
+pub ran_none : (separate : Bool) (script out : Option (List ℕ)) (first : State) → Ran separate script script out out first first 0 0
+ran_none separate None out first = record { known = tt }
+ran_none separate (Some bs) out first =
     record {
       known = record {
         left_is = refl;
@@ -99,15 +99,15 @@ ran_none (Some bs) out first =
       };
     }
 
-pub ran_more : (script now next old mid new : Option (List ℕ)) (first : State) (s : State) (line : List ℕ)
-    (o : Outside) (reply : Reply) (n refused refused' : ℕ) → Ran script now old mid first s n refused
+pub ran_more : (separate : Bool) (script now next old mid new : Option (List ℕ)) (first : State) (s : State) (line : List ℕ)
+    (o : Outside) (reply : Reply) (n refused refused' : ℕ) → Ran separate script now old mid first s n refused
     → TakesLine now next true line → length line ≤ 1024
-    → IsReply s line o reply → Appends mid new reply.text → refused' ≡ refused + cond reply.refused 1 0
-    → Ran script next old new first reply.state (n + 1) refused'
-ran_more None now next old mid new first s line o reply n refused refused' r t short is wrote k = record { known = tt }
-ran_more (Some bs) None next old mid new first s line o reply n refused refused' r t short is wrote k = absurd r.known
-ran_more (Some bs) (Some rest) None old mid new first s line o reply n refused refused' r t short is wrote k = absurd t
-ran_more (Some bs) (Some rest) (Some rest') old mid new first s line o reply n refused refused' r t short is wrote k =
+    → IsReplyIn separate s line o reply → Appends mid new reply.text → refused' ≡ refused + cond reply.refused 1 0
+    → Ran separate script next old new first reply.state (n + 1) refused'
+ran_more separate None now next old mid new first s line o reply n refused refused' r t short is wrote k = record { known = tt }
+ran_more separate (Some bs) None next old mid new first s line o reply n refused refused' r t short is wrote k = absurd r.known
+ran_more separate (Some bs) (Some rest) None old mid new first s line o reply n refused refused' r t short is wrote k = absurd t
+ran_more separate (Some bs) (Some rest) (Some rest') old mid new first s line o reply n refused refused' r t short is wrote k =
     let v = r.known in
     let all = script_lines bs in
     let f = first_left all (script_lines rest') n line (v.left_is ∙ t) in
@@ -120,7 +120,7 @@ ran_more (Some bs) (Some rest) (Some rest') old mid new first s line o reply n r
         within = omega arith;
         short = rw grown (short-more (take n all) line v.short short);
         replies = v.replies ++ (o, reply) ∷ [];
-        are = rw grown (are-more first (take n all) v.replies line o reply v.are (subst (λ (h : State). IsReply h line o reply) v.state_is is));
+        are = rw grown (are-more separate first (take n all) v.replies line o reply v.are (subst (λ (h : State). IsReplyIn separate h line o reply) v.state_is is));
         written = rw (text-more v.replies (o, reply)) (Appends-trans old mid new (replies_text v.replies) reply.text v.written wrote);
         state_is = sym (state_after-more first v.replies (o, reply));
         refused_is = k ∙ ap (λ i. i + cond reply.refused 1 0) v.refused_is ∙ sym (errors-more v.replies (o, reply));
@@ -129,57 +129,57 @@ ran_more (Some bs) (Some rest) (Some rest') old mid new first s line o reply n r
 
 -- ---- the ends of a run
 
-pub ran_ends : (left script now next old new : Option (List ℕ)) (first : State) (s : State) (line : List ℕ)
-    (n refused : ℕ) → Ran script now old new first s n refused → TakesLine now next false line → n ≤ 100000
-    → IfSome script (λ bytes. Outcome first bytes left old new (Ok (record { lines = n; refused = refused })))
-ran_ends left None now next old new first s line n refused r t le = tt
-ran_ends left (Some bs) None next old new first s line n refused r t le = absurd r.known
-ran_ends left (Some bs) (Some rest) None old new first s line n refused r t le = absurd t
-ran_ends left (Some bs) (Some rest) (Some rest') old new first s line n refused r t le =
+pub ran_ends : (separate : Bool) (left script now next old new : Option (List ℕ)) (first : State) (s : State) (line : List ℕ)
+    (n refused : ℕ) → Ran separate script now old new first s n refused → TakesLine now next false line → n ≤ 100000
+    → IfSome script (λ bytes. Outcome separate first bytes left old new (Ok (record { lines = n; refused = refused })))
+ran_ends separate left None now next old new first s line n refused r t le = tt
+ran_ends separate left (Some bs) None next old new first s line n refused r t le = absurd r.known
+ran_ends separate left (Some bs) (Some rest) None old new first s line n refused r t le = absurd t
+ran_ends separate left (Some bs) (Some rest) (Some rest') old new first s line n refused r t le =
     let v = r.known in
     let d = none_left (script_lines bs) n v.within (v.left_is ∙ t) in
     let e = d.1 in
-    (omega arith, subst AreShort d.0 v.short, v.replies, subst (λ (ls : List (List ℕ)). AreReplies first ls v.replies) d.0 v.are, v.written, e, v.refused_is)
+    (omega arith, subst AreShort d.0 v.short, v.replies, subst (λ (ls : List (List ℕ)). AreReplies separate first ls v.replies) d.0 v.are, v.written, e, v.refused_is)
 
-pub ran_long : (left script now old new : Option (List ℕ)) (first : State) (s : State) (n refused : ℕ)
-    → Ran script now old new first s n refused → BeginsLong now → n < 100000
-    → IfSome script (λ bytes. Outcome first bytes left old new (Err (LineTooLong (n + 1))))
-ran_long left None now old new first s n refused r t lt = tt
-ran_long left (Some bs) None old new first s n refused r t lt = absurd r.known
-ran_long left (Some bs) (Some rest) old new first s n refused r (line, more, is, long) lt =
+pub ran_long : (separate : Bool) (left script now old new : Option (List ℕ)) (first : State) (s : State) (n refused : ℕ)
+    → Ran separate script now old new first s n refused → BeginsLong now → n < 100000
+    → IfSome script (λ bytes. Outcome separate first bytes left old new (Err (LineTooLong (n + 1))))
+ran_long separate left None now old new first s n refused r t lt = tt
+ran_long separate left (Some bs) None old new first s n refused r t lt = absurd r.known
+ran_long separate left (Some bs) (Some rest) old new first s n refused r (line, more, is, long) lt =
     let v = r.known in
     let f = first_left (script_lines bs) more n line (v.left_is ∙ is) in
     let e : n + 1 - 1 ≡ n = omega arith in
     (omega arith, omega arith, rw (e, f.3) long, (rw e v.short, v.replies, rw e v.are, v.written))
 
-pub ran_read : (left script now old new : Option (List ℕ)) (first : State) (s : State) (n refused : ℕ)
-    → Ran script now old new first s n refused → n ≤ 100000 → GaveFeeds script left n → GaveFeeds now left 0
-    → IfSome script (λ bytes. Outcome first bytes left old new (Err ReadDevice))
-ran_read left None now old new first s n refused r le g h = tt
-ran_read left (Some bs) None old new first s n refused r le g h = absurd r.known
-ran_read left (Some bs) (Some rest) old new first s n refused r le g h =
+pub ran_read : (separate : Bool) (left script now old new : Option (List ℕ)) (first : State) (s : State) (n refused : ℕ)
+    → Ran separate script now old new first s n refused → n ≤ 100000 → GaveFeeds script left n → GaveFeeds now left 0
+    → IfSome script (λ bytes. Outcome separate first bytes left old new (Err ReadDevice))
+ran_read separate left None now old new first s n refused r le g h = tt
+ran_read separate left (Some bs) None old new first s n refused r le g h = absurd r.known
+ran_read separate left (Some bs) (Some rest) old new first s n refused r le g h =
     let v = r.known in (n, le, v.within, g, rest, v.left_is, h, (v.short, v.replies, v.are, v.written))
 
-more_left : (all left : List (List ℕ)) (n : ℕ) → drop n all ≡ left → 0 < length left → n < length all
+pub more_left : (all left : List (List ℕ)) (n : ℕ) → drop n all ≡ left → 0 < length left → n < length all
 more_left all left n e some = omega (arith, length-drop n all, ap length e)
 
-pub ran_many : (left script now old new : Option (List ℕ)) (first : State) (s : State) (refused : ℕ)
-    → Ran script now old new first s 100000 refused → HasMore now
-    → IfSome script (λ bytes. Outcome first bytes left old new (Err TooManyLines))
-ran_many left None now old new first s refused r t = tt
-ran_many left (Some bs) None old new first s refused r t = absurd r.known
-ran_many left (Some bs) (Some rest) old new first s refused r t =
+pub ran_many : (separate : Bool) (left script now old new : Option (List ℕ)) (first : State) (s : State) (refused : ℕ)
+    → Ran separate script now old new first s 100000 refused → HasMore now
+    → IfSome script (λ bytes. Outcome separate first bytes left old new (Err TooManyLines))
+ran_many separate left None now old new first s refused r t = tt
+ran_many separate left (Some bs) None old new first s refused r t = absurd r.known
+ran_many separate left (Some bs) (Some rest) old new first s refused r t =
     let v = r.known in
     (more_left (script_lines bs) (script_lines rest) 100000 v.left_is t, (v.short, v.replies, v.are, v.written))
 
-pub ran_write : (script now next old mid new : Option (List ℕ)) (first : State) (s : State) (line : List ℕ)
-    (n refused : ℕ) → Ran script now old mid first s n refused → TakesLine now next true line → length line ≤ 1024
+pub ran_write : (separate : Bool) (script now next old mid new : Option (List ℕ)) (first : State) (s : State) (line : List ℕ)
+    (n refused : ℕ) → Ran separate script now old mid first s n refused → TakesLine now next true line → length line ≤ 1024
     → n < 100000 → GaveFeeds script next (n + 1)
-    → BrokenOff (IsReply s line) mid new → IfSome script (λ bytes. Outcome first bytes next old new (Err WriteDevice))
-ran_write None now next old mid new first s line n refused r t short lt g p = tt
-ran_write (Some bs) None next old mid new first s line n refused r t short lt g p = absurd r.known
-ran_write (Some bs) (Some rest) None old mid new first s line n refused r t short lt g p = absurd t
-ran_write (Some bs) (Some rest) (Some rest') old mid new first s line n refused r t short lt g (o, reply, is, part) =
+    → BrokenOff (IsReplyIn separate s line) mid new → IfSome script (λ bytes. Outcome separate first bytes next old new (Err WriteDevice))
+ran_write separate None now next old mid new first s line n refused r t short lt g p = tt
+ran_write separate (Some bs) None next old mid new first s line n refused r t short lt g p = absurd r.known
+ran_write separate (Some bs) (Some rest) None old mid new first s line n refused r t short lt g p = absurd t
+ran_write separate (Some bs) (Some rest) (Some rest') old mid new first s line n refused r t short lt g (o, reply, is, part) =
     let v = r.known in
     let all = script_lines bs in
     let f = first_left all (script_lines rest') n line (v.left_is ∙ t) in
@@ -197,7 +197,7 @@ ran_write (Some bs) (Some rest) (Some rest') old mid new first s line n refused 
         v.written,
         o,
         reply,
-        subst (λ (h : State). IsReply h line o reply) v.state_is is,
+        subst (λ (h : State). IsReplyIn separate h line o reply) v.state_is is,
         part,
       ),
     )
@@ -205,19 +205,19 @@ ran_write (Some bs) (Some rest) (Some rest') old mid new first s line n refused 
 -- ---- what the loop of a run knows
 
 -- over a store that is honest: the lines so far are answered, what is held is their state, and the store is honest still
-pub record RanOn (holds : State → Type 0) (script now old new : Option (List ℕ)) (first : State) (n refused : ℕ) : Type 0 where
+pub record RanOn (separate : Bool) (holds : State → Type 0) (script now old new : Option (List ℕ)) (first : State) (n refused : ℕ) : Type 0 where
   pub state : State
-  pub ran : Ran script now old new first state n refused
+  pub ran : Ran separate script now old new first state n refused
   pub held : holds state
 
-pub RanOn-more : (holds holds' : State → Type 0) (script now next old mid new : Option (List ℕ)) (first : State)
-    (line : List ℕ) (n refused refused' : ℕ) (was_refused : Bool) (r : RanOn holds script now old mid first n refused)
+pub RanOn-more : (separate : Bool) (holds holds' : State → Type 0) (script now next old mid new : Option (List ℕ)) (first : State)
+    (line : List ℕ) (n refused refused' : ℕ) (was_refused : Bool) (r : RanOn separate holds script now old mid first n refused)
     → TakesLine now next true line → length line ≤ 1024
-    → Answered (IsReply r.state line) holds' mid new was_refused → refused' ≡ refused + cond was_refused 1 0
-    → RanOn holds' script next old new first (n + 1) refused'
-RanOn-more holds holds' script now next old mid new first line n refused refused' w r t short (o, reply, is, wrote, held, same) k = record {
+    → Answered (IsReplyIn separate r.state line) holds' mid new was_refused → refused' ≡ refused + cond was_refused 1 0
+    → RanOn separate holds' script next old new first (n + 1) refused'
+RanOn-more separate holds holds' script now next old mid new first line n refused refused' w r t short (o, reply, is, wrote, held, same) k = record {
   state = reply.state;
-  ran = ran_more script now next old mid new first r.state line o reply n refused refused' r.ran t short is wrote (k ∙ ap (λ b. refused + cond b 1 0) same);
+  ran = ran_more separate script now next old mid new first r.state line o reply n refused refused' r.ran t short is wrote (k ∙ ap (λ b. refused + cond b 1 0) same);
   held = held;
 }
 

@@ -15,3 +15,8 @@ pub mod PagedReplies
 pub mod MemoryFiles
 pub mod TablesFaults
 pub mod Executions
+pub mod PiecesWritten
+pub mod DonePieces
+pub mod Apart
+pub mod Games
+pub mod Behind

@@ -58,7 +58,7 @@ use Rattle.study_script.specs.Replies.{IsInserted, IsMoveReply, IsMoveReplyAt, I
 use Rattle.study_script.specs.Replies.{IsSolution, IsSolveReply, marked_reply, Annotated, IsStudyReply, IsStudyReplyAt}
 use Rattle.study_script.specs.Replies.{IsPgnReply, IsBuilt, built, too_far, IsBuildReply, IsLoadReply, IsOpenReply}
 use Rattle.study_script.specs.Replies.{IsLoadIn, IsTableReply, IsNamedReply, class_told, wants_whole, IsClassReplyIn}
-use Rattle.study_script.specs.Replies.{IsReplyTo, IsReplyWhere, AreReplies}
+use Rattle.study_script.specs.Replies.{IsReplyTo, IsReplyWhere, IsReplyIn, kept_apart, AreReplies}
 use Rattle.study_script.specs.Laws.{AreUnique}
 
 -- one reply, where each is that one
@@ -417,17 +417,22 @@ module _ (one_value : EachHasAtMostOneValue) (one_annotation : AnnotationsAreUni
   reply_once s o (Ok (Some asked)) a b h k = command_once s o asked a b h k
   reply_once s o (Err fault) a b h k = h ∙ sym k
 
+  in_mode_once : (separate : Bool) (s : State) (o : Outside) (line : List ℕ) (a b : Reply)
+      → IsReplyIn separate s line o a → IsReplyIn separate s line o b → a ≡ b
+  in_mode_once false s o line a b h k = reply_once s o (command_of line) a b h k
+  in_mode_once true s o line a b (c, h, e) (d, k, f) = e ∙ ap (kept_apart line) (reply_once s o (command_of line) c d h k) ∙ sym f
+
   pub replies-unique : AreUnique
-  replies-unique s [] [] [] e h k = refl
-  replies-unique s [] [] (b ∷ bs) e h k = absurd k
-  replies-unique s [] (a ∷ rest) bs e h k = absurd h
-  replies-unique s (line ∷ lines) [] bs e h k = absurd h
-  replies-unique s (line ∷ lines) (a ∷ rest) [] e h k = absurd k
-  replies-unique s (line ∷ lines) ((o, a) ∷ rest) ((p, b) ∷ bs) e h k =
+  replies-unique separate s [] [] [] e h k = refl
+  replies-unique separate s [] [] (b ∷ bs) e h k = absurd k
+  replies-unique separate s [] (a ∷ rest) bs e h k = absurd h
+  replies-unique separate s (line ∷ lines) [] bs e h k = absurd h
+  replies-unique separate s (line ∷ lines) (a ∷ rest) [] e h k = absurd k
+  replies-unique separate s (line ∷ lines) ((o, a) ∷ rest) ((p, b) ∷ bs) e h k =
       let outside : o ≡ p = ap (first_of o) e in
       let others : map (λ (x : Answer). x.0) rest ≡ map (λ (x : Answer). x.0) bs = ap behind e in
-      let same : a ≡ b = reply_once s o (command_of line) a b h.0 (subst (λ (x : Outside). IsReplyWhere s x (command_of line) b) (sym outside) k.0) in
-      let more = replies-unique a.state lines rest bs others h.1 (subst (λ (r : Reply). AreReplies r.state lines bs) (sym same) k.1) in
+      let same : a ≡ b = in_mode_once separate s o line a b h.0 (subst (λ (x : Outside). IsReplyIn separate s line x b) (sym outside) k.0) in
+      let more = replies-unique separate a.state lines rest bs others h.1 (subst (λ (r : Reply). AreReplies separate r.state lines bs) (sym same) k.1) in
       ap (λ (x : Outside). (x, a) ∷ rest) outside ∙ ap (λ (x : Reply). (p, x) ∷ rest) same ∙ ap (λ (xs : List Answer). (p, b) ∷ xs) more
     where
       first_of : Outside → List Outside → Outside

@@ -9,3 +9,4 @@ pub mod Session
 pub mod Laws
 pub mod Outcome
 pub mod Executed
+pub mod Written

@@ -9,7 +9,7 @@ use Rattle.study_script.specs.declared.running.RunFault.{RunFault}
 use Rattle.study_script.specs.declared.running.RunFault.TheVariants.{ReadDevice, WriteDevice, LineTooLong, TooManyLines, OutOfMemory}
 use Rattle.study_command.specs.Lines.{script_lines, GaveFeeds}
 use Rattle.study_script.specs.State.{State, empty, Shelf, Outside}
-use Rattle.study_script.specs.Replies.{Reply, Answer, IsReply, AreReplies, replies_text}
+use Rattle.study_script.specs.Replies.{Reply, Answer, IsReplyIn, AreReplies, replies_text}
 
 -- nothing is held before the first line
 abbrev pub begun_state : Shelf → Bool → State
@@ -24,8 +24,9 @@ abbrev pub error_count : List Answer → ℕ
 error_count replies = count_by (λ answer. answer.1.refused) replies
 
 -- the replies to the lines are written
-abbrev pub AreAnswered : State → List (List ℕ) → Option (List ℕ) → Option (List ℕ) → Type 0
-AreAnswered first lines old new = AreShort lines × (replies : List Answer) × AreReplies first lines replies × Appends old new (replies_text replies)
+abbrev pub AreAnswered : Bool → State → List (List ℕ) → Option (List ℕ) → Option (List ℕ) → Type 0
+AreAnswered separate first lines old new =
+    AreShort lines × (replies : List Answer) × AreReplies separate first lines replies × Appends old new (replies_text replies)
 
 -- what is held after replies
 abbrev pub state_after : State → List Answer → State
@@ -33,38 +34,39 @@ state_after s [] = s
 state_after s (answer ∷ more) = state_after answer.1.state more
 
 -- the replies to the lines are written, and then a prefix of the reply to one line more, of which at least a byte is left out
-abbrev pub AreBrokenOff : State → List (List ℕ) → List ℕ → Option (List ℕ) → Option (List ℕ) → Type 0
-AreBrokenOff first lines line old new =
-    AreShort lines × (length line ≤ 1024) × (replies : List Answer) × AreReplies first lines replies
+abbrev pub AreBrokenOff : Bool → State → List (List ℕ) → List ℕ → Option (List ℕ) → Option (List ℕ) → Type 0
+AreBrokenOff separate first lines line old new =
+    AreShort lines × (length line ≤ 1024) × (replies : List Answer) × AreReplies separate first lines replies
     × (mid : Option (List ℕ)) × Appends old mid (replies_text replies)
-    × (o : Outside) × (reply : Reply) × IsReply (state_after first replies) line o reply × TakesPrefix mid new reply.text
+    × (o : Outside) × (reply : Reply) × IsReplyIn separate (state_after first replies) line o reply × TakesPrefix mid new reply.text
 
 -- these lines are what a reader has left
 abbrev pub AreLeft : Option (List ℕ) → List (List ℕ) → Type 0
 AreLeft None lines = ⊥
 AreLeft (Some rest) lines = script_lines rest ≡ lines
 
--- what is held at the beginning, the bytes of a script, what the reader has left of them, what the writer had and has, and what the run answers
-abbrev pub Outcome : State → List ℕ → Option (List ℕ) → Option (List ℕ) → Option (List ℕ) → Result Summary RunFault → Type 0
-Outcome first script left old new (Ok summary) =
+-- whether studies are kept apart, what is held at the beginning, the bytes of a script, what the reader has left of them, what the writer had and
+-- has, and what the run answers
+abbrev pub Outcome : Bool → State → List ℕ → Option (List ℕ) → Option (List ℕ) → Option (List ℕ) → Result Summary RunFault → Type 0
+Outcome separate first script left old new (Ok summary) =
     (length (script_lines script) ≤ 100000) × AreShort (script_lines script)
-    × (replies : List Answer) × AreReplies first (script_lines script) replies × Appends old new (replies_text replies)
+    × (replies : List Answer) × AreReplies separate first (script_lines script) replies × Appends old new (replies_text replies)
     × (summary.lines ≡ length (script_lines script)) × (summary.refused ≡ error_count replies)
 -- exactly the lines whose ends were read are answered: the device failed within the one after them
-Outcome first script left old new (Err ReadDevice) = (n : ℕ) × (n ≤ 100000) × (n ≤ length (script_lines script))
+Outcome separate first script left old new (Err ReadDevice) = (n : ℕ) × (n ≤ 100000) × (n ≤ length (script_lines script))
     × GaveFeeds (Some script) left n
     × (rest : List ℕ) × (drop n (script_lines script) ≡ script_lines rest) × GaveFeeds (Some rest) left 0
-    × AreAnswered first (take n (script_lines script)) old new
+    × AreAnswered separate first (take n (script_lines script)) old new
 -- where the writer failed, the lines after the one whose reply it broke off are left
-Outcome first script left old new (Err WriteDevice) =
+Outcome separate first script left old new (Err WriteDevice) =
     (n : ℕ) × (n < 100000) × GaveFeeds (Some script) left (n + 1) × AreLeft left (drop (n + 1) (script_lines script))
-    × IsSomeAnd (slice_get (script_lines script) n) (λ line. AreBrokenOff first (take n (script_lines script)) line old new)
-Outcome first script left old new (Err (LineTooLong n)) = (0 < n) × (n ≤ 100000)
+    × IsSomeAnd (slice_get (script_lines script) n) (λ line. AreBrokenOff separate first (take n (script_lines script)) line old new)
+Outcome separate first script left old new (Err (LineTooLong n)) = (0 < n) × (n ≤ 100000)
     × IsSomeAnd (slice_get (script_lines script) (n - 1)) (λ line. 1024 < length line)
-    × AreAnswered first (take (n - 1) (script_lines script)) old new
-Outcome first script left old new (Err TooManyLines) = (100000 < length (script_lines script)) × AreAnswered first (take 100000 (script_lines script)) old new
+    × AreAnswered separate first (take (n - 1) (script_lines script)) old new
+Outcome separate first script left old new (Err TooManyLines) = (100000 < length (script_lines script)) × AreAnswered separate first (take 100000 (script_lines script)) old new
 -- memory is taken before anything is read or written
-Outcome first script left old new (Err OutOfMemory) = Keeps old new × (left ≡ Some script)
+Outcome separate first script left old new (Err OutOfMemory) = Keeps old new × (left ≡ Some script)
 
 -- the same without what is replied, of any interpreter and any store: the bytes of a script, what the reader has left of them, and what the run answers
 abbrev pub Shape : List ℕ → Option (List ℕ) → Result Summary RunFault → Type 0

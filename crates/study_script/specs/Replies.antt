@@ -3,6 +3,7 @@ use Rattle.std.specs.Prelude.{◌≡◌, ◌⊎◌, ℕ, ◌+◌, ◌-◌, ◌*�
 use Rattle.std.specs.Prelude.{◌++◌, find, Option, Some, None, Result, Ok, Err, if◌then◌else◌, codes}
 use Rattle.std.specs.List.{flat_map}
 use Rattle.std.specs.Str.{bytes_eq}
+use Rattle.study_text.specs.Words.{words}
 use Rattle.study_board.specs.Position.{Position}
 use Rattle.study_moves.specs.declared.moves.Move.{Move}
 use Rattle.study_moves.specs.Rules.{after}
@@ -371,16 +372,47 @@ IsReplyWhere s o (Err fault) reply = reply ≡ refused s (Form fault)
 abbrev pub IsReply : State → List ℕ → Outside → Reply → Type 0
 IsReply s line o reply = IsReplyWhere s o (command_of line) reply
 
+-- ---- studies that are kept apart
+
+abbrev pub names_position : List (List ℕ) → Bool
+names_position [] = false
+names_position (first ∷ more) = bytes_eq first (codes "position")
+
+-- the first word is `position`
+abbrev pub begins_position : List ℕ → Bool
+begins_position line = names_position (words line)
+
+-- neither a position nor a study any more; tables stay
+abbrev pub emptied : Bool → State → State
+emptied true s = record s { document = empty }
+emptied false s = s
+
+-- where it refuses a `position`, nothing is left that the lines behind it could edit
+abbrev pub kept_apart : List ℕ → Reply → Reply
+kept_apart line reply = record {
+  text = reply.text;
+  state = emptied (reply.refused && begins_position line) reply.state;
+  refused = reply.refused;
+}
+
+-- the reply to a line, where studies are kept apart or not
+abbrev pub IsReplyIn : Bool → State → List ℕ → Outside → Reply → Type 0
+IsReplyIn false s line o reply = IsReply s line o reply
+IsReplyIn true s line o reply = (plain : Reply) × IsReply s line o plain × (reply ≡ kept_apart line plain)
+
+-- ---- scripts
+
 -- a line's reply, and what the outside did at the line
 abbrev pub Answer : Type 0
 Answer = Outside × Reply
 
 -- the replies to lines, one for each, where each line finds what the one before it left
-abbrev pub AreReplies : State → List (List ℕ) → List Answer → Type 0
-AreReplies s [] [] = Unit {0}
-AreReplies s [] (answer ∷ more) = ⊥
-AreReplies s (line ∷ lines) [] = ⊥
-AreReplies s (line ∷ lines) (answer ∷ more) = IsReply s line answer.0 answer.1 × AreReplies answer.1.state lines more
+abbrev pub AreReplies : Bool → State → List (List ℕ) → List Answer → Type 0
+AreReplies separate s [] [] = Unit {0}
+AreReplies separate s [] (answer ∷ more) = ⊥
+AreReplies separate s (line ∷ lines) [] = ⊥
+AreReplies separate s (line ∷ lines) (answer ∷ more) =
+    IsReplyIn separate s line answer.0 answer.1 × AreReplies separate answer.1.state lines more
 
 -- the bytes of replies
 abbrev pub replies_text : List Answer → List ℕ

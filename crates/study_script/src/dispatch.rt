@@ -1,13 +1,15 @@
 //! What a line does: its reply, and what is held after it.
-ghost use Rattle.std.specs.Prelude.{Bool, IfOk, OnErr};
+ghost use Rattle.std.specs.Prelude.{◌≡◌, Bool, true, false, ◌&&◌, IfOk, OnErr};
 ghost use Rattle.study_command.specs.Parser.{command_seen};
 ghost use Rattle.study_script.specs.State.{State};
-ghost use Rattle.study_script.specs.Replies.{IsReply, IsReplyTo};
+ghost use Rattle.study_script.specs.Replies.{IsReply, IsReplyTo, IsReplyIn, begins_position};
+ghost use Rattle.study_script.specs.declared.document.Document.TheVariants as held;
 ghost use Rattle.study_script.specs.Held.{Answered, BrokenOff};
 ghost use Rattle.study_script.specs.Executed.{Executed};
 ghost use Rattle.study_script.specs.Session.{SessionHolds};
 ghost use Rattle.study_material.specs.declared.class.Class.{Class as AClass};
 ghost use Rattle.study_script.specs.Stores.{HonestOn, IsTrusted, IsTrustedAsked};
+ghost use Rattle.study_script.specs.Written.{IsWritten, IsCutOff};
 
 use crate::changes::{insert, node_command, set_tag};
 use crate::document::Document;
@@ -20,7 +22,7 @@ use std::alloc::Allocator;
 use std::io::Write;
 use study_command::{Command, read_command};
 use study_reply::{Answer, Refusal, refuse, write_reply};
-use study_text::DeviceFailed;
+use study_text::{DeviceFailed, next_word};
 
 /// Writes the reply to a line, keeps what is held after it, and tells whether the line was refused.
 pub fn answer<'a, W: Write, S: TableStore, A: Allocator>(
@@ -39,6 +41,8 @@ pub fn answer<'a, W: Write, S: TableStore, A: Allocator>(
     ensures err { (trusted : AClass → Bool) (s : State) → IsTrusted trusted line.now
         → SessionHolds S.Pages.honest S.Pages.gives (HonestOn trusted S.honest) S.files S.headers S.faults document.old tables.old store.old s
         → OnErr result (BrokenOff (IsReply s line.now) (W.contents out.old) (W.contents out.new)) }
+    ensures written { IfOk result (IsWritten line.now (W.contents out.old) (W.contents out.new)) }
+    ensures cut_off { OnErr result (IsCutOff line.now (W.contents out.old) (W.contents out.new)) }
 {
     match read_command(line) {
         Ok(None) => Ok(false),
@@ -50,6 +54,51 @@ pub fn answer<'a, W: Write, S: TableStore, A: Allocator>(
             refuse(out, Refusal::Form(fault))?;
             Ok(true)
         }
+    }
+}
+
+/// The same where studies are kept apart.
+pub fn answer_apart<'a, W: Write, S: TableStore, A: Allocator>(
+    alloc: &'a A,
+    document: &mut Document<'a, A>,
+    tables: &mut Tables<'a, S::Pages, A>,
+    store: &mut S,
+    line: &[u8],
+    out: &mut W,
+) -> Result<bool, DeviceFailed>
+    ensures ok { (trusted : AClass → Bool) (s : State) → IsTrusted trusted line.now
+        → SessionHolds S.Pages.honest S.Pages.gives (HonestOn trusted S.honest) S.files S.headers S.faults document.old tables.old store.old s
+        → IfOk result (Answered (IsReplyIn true s line.now)
+        (SessionHolds S.Pages.honest S.Pages.gives (HonestOn trusted S.honest) S.files S.headers S.faults document.new tables.new store.new)
+        (W.contents out.old) (W.contents out.new)) }
+    ensures err { (trusted : AClass → Bool) (s : State) → IsTrusted trusted line.now
+        → SessionHolds S.Pages.honest S.Pages.gives (HonestOn trusted S.honest) S.files S.headers S.faults document.old tables.old store.old s
+        → OnErr result (BrokenOff (IsReplyIn true s line.now) (W.contents out.old) (W.contents out.new)) }
+    ensures written { IfOk result (IsWritten line.now (W.contents out.old) (W.contents out.new)) }
+    ensures cut_off { OnErr result (IsCutOff line.now (W.contents out.old) (W.contents out.new)) }
+{
+    let refused = answer(alloc, document, tables, store, line, out)?;
+    clear_after(document, line, refused);
+    Ok(refused)
+}
+
+/// Leaves nothing in the document behind a refused `position`.
+fn clear_after<'a, A: Allocator>(document: &mut Document<'a, A>, line: &[u8], refused: bool)
+    ensures cleared { refused && begins_position line.now ≡ true → document.new ≡ held.Empty }
+    ensures kept { refused && begins_position line.now ≡ false → document.new ≡ document.old }
+{
+    if refused && begins_position(line) {
+        *document = Document::Empty;
+    }
+}
+
+/// Whether the first word of a line is `position`.
+fn begins_position(line: &[u8]) -> bool
+    ensures { result ≡ begins_position line.now }
+{
+    match next_word(line) {
+        Some((first, _)) => first == b"position".as_slice(),
+        None => false,
     }
 }
 

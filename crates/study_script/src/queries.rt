@@ -16,7 +16,7 @@ use study_marks::Bench;
 use study_moves::solve;
 use study_notation::Start;
 use study_pgn::write_pgn;
-use study_reply::{Answer, Refusal, Refused, Reply};
+use study_reply::{Answer, Game, Refusal, Refused, Reply};
 use study_tree::Path;
 
 /// Commands that take a node and nothing else, and need no study.
@@ -153,7 +153,7 @@ fn pgn_of<'a, A: Allocator>(alloc: &'a A, bench: &Bench<'a, A>) -> Answer<'a, A>
 {
     let mut text = Vec::new(alloc);
     match write_pgn(alloc, bench, &mut text) {
-        Ok(()) => Ok(Reply::Pgn(text)),
+        Ok(()) => Ok(Reply::Pgn(Game { text })),
         Err(_) => Err(Refused::Line(Refusal::OutOfMemory)),
     }
 }

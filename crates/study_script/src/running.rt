@@ -5,6 +5,7 @@ ghost use Rattle.study_script.specs.Outcome.{Outcome, Shape, begun_state};
 ghost use Rattle.study_material.specs.declared.class.Class.{Class as AClass};
 ghost use Rattle.study_script.specs.Stores.{shelf_of, HonestOn, AreTrusted};
 ghost use Rattle.study_script.specs.State.{State};
+ghost use Rattle.study_script.specs.Written.{Fits};
 
 use crate::document::Document;
 use crate::session::{Interpreter, Session};
@@ -18,11 +19,14 @@ use study_table::TableSet;
 use study_tablefile::PageSource;
 use thiserror::Error;
 
-/// How a run holds tables: whole, or so many pages of them.
+/// How a run holds tables, whole or so many pages of them, and whether it keeps studies apart.
 #[derive(Clone, Copy, Debug, PartialEq, Eq)]
 pub struct Settings {
     /// 1 to 4,096.
     pub pages: Option<u16>,
+    /// A refused line whose first word is `position` leaves neither a position nor a study until the next accepted one. Without it a refused
+    /// line changes nothing, so that the lines behind it edit the study before.
+    pub separate: bool,
 }
 
 /// What a run did: all lines, those without a reply too, and how many were refused.
@@ -64,8 +68,11 @@ pub fn run<'a, R: Read, W: Write, S: TableStore, A: Allocator>(
     ensures shape { IfSome (R.remaining script.old) (λ bytes. Shape bytes (R.remaining script.new) result) }
     ensures outcome { (trusted : AClass → Bool) → HonestOn trusted S.honest store.old (is_some settings.pages)
         → IfSome (R.remaining script.old)
-        (λ bytes. AreTrusted trusted bytes → Outcome (begun_state (shelf_of S.files S.headers S.faults store.old) (is_some settings.pages)) bytes
+        (λ bytes. AreTrusted trusted bytes → Outcome settings.separate
+        (begun_state (shelf_of S.files S.headers S.faults store.old) (is_some settings.pages)) bytes
         (R.remaining script.new) (W.contents out.old) (W.contents out.new) result) }
+    ensures fits { IfSome (R.remaining script.old)
+        (λ bytes. Fits bytes (R.remaining script.new) (W.contents out.old) (W.contents out.new) result) }
 {
     let Ok(mut line) = Line::new(alloc) else {
         return Err(RunFault::OutOfMemory);
@@ -78,6 +85,7 @@ pub fn run<'a, R: Read, W: Write, S: TableStore, A: Allocator>(
         document: Document::Empty,
         tables,
         store,
+        separate: settings.separate,
     };
     run_session(&mut line, script, out, &mut session)
 }
@@ -104,9 +112,11 @@ pub fn run_session<R: Read, W: Write, D: Interpreter, A: Allocator>(
     out: &mut W,
     interpreter: &mut D,
 ) -> Result<Summary, RunFault>
-    ensures outcome { (trusted : AClass → Bool) (first : State) → D.holds interpreter.old trusted first
+    ensures outcome { (trusted : AClass → Bool) (separate : Bool) (first : State) → D.holds interpreter.old trusted separate first
         → IfSome (R.remaining script.old)
-        (λ bytes. AreTrusted trusted bytes → Outcome first bytes (R.remaining script.new) (W.contents out.old) (W.contents out.new) result) }
+        (λ bytes. AreTrusted trusted bytes → Outcome separate first bytes (R.remaining script.new) (W.contents out.old) (W.contents out.new) result) }
+    ensures fits { IfSome (R.remaining script.old)
+        (λ bytes. Fits bytes (R.remaining script.new) (W.contents out.old) (W.contents out.new) result) }
     ensures shape { IfSome (R.remaining script.old) (λ bytes. Shape bytes (R.remaining script.new) result) }
     ensures takes_no_memory { ¬ (result ≡ Err RunFault.OutOfMemory) }
 {

@@ -10,6 +10,9 @@ use Rattle.study_script.specs.Replies.{accepted, refused, IsReplyTo, IsReplyWher
 use Rattle.study_script.proofs.Executions.{executed_answered, executed_broken}
 use Rattle.study_script.specs.Stores.{HonestOn, IsTrustedAsk}
 use Rattle.study_script.specs.Session.{SessionHolds}
+use Rattle.study_script.specs.Written.{IsPieceWhere, IsPiece, IsCutOff, silent, error_of}
+use Rattle.study_script.proofs.DonePieces.{answer-written, answer-cut-off}
+use Rattle.study_reply.specs.Names.{words_of}
 use Rattle.study_script.proofs.dispatch.answer.Goals as goal
 
 pub returns-in-Ok-None-clause-ok : goal.returns-in-Ok-None-clause-ok
@@ -72,3 +75,44 @@ returns-in-Ok-Some-clause-err g c = λ trusted s may d.
     c.execute-answer.result c.write_reply.result (g.W.Write.contents c.args.out.now) (g.W.Write.contents c.write_reply.new.out)
     (c.execute-answer.ensures trusted s (subst (λ (x : Asks). IsTrustedAsk trusted x) seen may) d)
     c.write_reply.ensures.err)
+
+pub returns-in-Ok-None-clause-written : goal.returns-in-Ok-None-clause-written
+returns-in-Ok-None-clause-written g c = (
+  silent,
+  subst (λ (x : Asks). IsPieceWhere x silent) c.read_command.ensures (subst (λ x. IsPieceWhere (line_seen x) silent) (sym c.in-Ok-None.is)
+      (subst (λ x. IsPieceWhere (line_seen (Ok x)) silent) (sym c.in-Ok-None.field-0-is) refl)),
+  Appends-nil (g.W.Write.contents c.args.out.now),
+  refl,
+)
+
+pub returns-in_ok-refuse-in-Err-clause-written : goal.returns-in_ok-refuse-in-Err-clause-written
+returns-in_ok-refuse-in-Err-clause-written g c =
+    let piece = error_of (words_of (Form c.in-Err.fault)) in (
+      piece,
+      subst (λ (x : Asks). IsPieceWhere x piece) c.read_command.ensures (subst (λ x. IsPieceWhere (line_seen x) piece) (sym c.in-Err.is) refl),
+      c.in_ok-refuse-in-Err.ensures.ok,
+      refl,
+    )
+
+pub returns-in_err-refuse-in-Err-clause-cut_off : goal.returns-in_err-refuse-in-Err-clause-cut_off
+returns-in_err-refuse-in-Err-clause-cut_off g c =
+    let piece = error_of (words_of (Form c.in-Err.fault)) in
+    let part : IsCutOff c.args.line.now (g.W.Write.contents c.args.out.now) (g.W.Write.contents c.refuse.new.out) = (
+      piece,
+      subst (λ (x : Asks). IsPieceWhere x piece) c.read_command.ensures (subst (λ x. IsPieceWhere (line_seen x) piece) (sym c.in-Err.is) refl),
+      c.in_err-refuse-in-Err.ensures.err,
+    ) in OnErr-known _ _ part
+
+pub returns-in-Ok-Some-clause-written : goal.returns-in-Ok-Some-clause-written
+returns-in-Ok-Some-clause-written g c =
+    let seen : command_of c.args.line.now ≡ Ok (Some (command_seen c.in-Ok-Some.command)) =
+    sym c.read_command.ensures ∙ ap line_seen (c.in-Ok-Some.is ∙ ap Ok c.in-Ok-Some.field-0-is) in
+    answer-written c.args.line.now (command_seen c.in-Ok-Some.command) c.execute-answer.result c.write_reply.result
+    (g.W.Write.contents c.args.out.now) (g.W.Write.contents c.write_reply.new.out) seen c.write_reply.ensures.ok c.write_reply.ensures.refused
+
+pub returns-in-Ok-Some-clause-cut_off : goal.returns-in-Ok-Some-clause-cut_off
+returns-in-Ok-Some-clause-cut_off g c =
+    let seen : command_of c.args.line.now ≡ Ok (Some (command_seen c.in-Ok-Some.command)) =
+    sym c.read_command.ensures ∙ ap line_seen (c.in-Ok-Some.is ∙ ap Ok c.in-Ok-Some.field-0-is) in
+    answer-cut-off c.args.line.now (command_seen c.in-Ok-Some.command) c.execute-answer.result c.write_reply.result
+    (g.W.Write.contents c.args.out.now) (g.W.Write.contents c.write_reply.new.out) seen c.write_reply.ensures.err

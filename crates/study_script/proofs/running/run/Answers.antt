@@ -6,9 +6,9 @@ use Rattle.study_script.proofs.running.run.Goals as goal
 
 pub returns-clause-outcome : goal.returns-clause-outcome
 returns-clause-outcome g c =
-    λ trusted honest. c.run_session.ensures.outcome trusted
+    λ trusted honest. c.run_session.ensures.outcome trusted c.args.settings.separate
     (begun_state (shelf_of g.S.TableStore.files g.S.TableStore.headers g.S.TableStore.faults c.args.store.now)
-    (is_some c.args.settings.pages)) (record {
+    (is_some c.args.settings.pages)) (refl, record {
       held =
           record {
             document = refl;
