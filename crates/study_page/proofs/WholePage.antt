@@ -7,7 +7,7 @@ use Rattle.study_review.specs.Made.{Grew}
 use Rattle.study_review.specs.Review.{paths_from, LinesOfEach, written_order}
 use Rattle.study_page.specs.declared.walk.Part.{Part}
 use Rattle.study_page.specs.Made.{RowsOf}
-use Rattle.study_page.specs.Page.{AreRows}
+use Rattle.study_page.specs.Page.{AreRows, page_text, IsEntry}
 
 pub all-rows : (part : Part) (s : Study Mark) (p old new : List ℕ) → p ≡ [] → old ≡ []
     → Grew (LinesOfEach (RowsOf part s) (p ∷ paths_from p 0 (below_at s.tree.below p))) old new → AreRows part s new
@@ -18,3 +18,8 @@ all-rows part s p old new pe e g =
 
 pub from-nothing : (old new text : List ℕ) → old ≡ [] → new ≡ old ++ text → new ≡ text
 from-nothing old new text e h = h ∙ ap (λ (u : List ℕ). u ++ text) e
+
+pub page-entry : (s : Study Mark) (number : ℕ) (faults duals tries defences ends text : List ℕ)
+    → text ≡ page_text s number faults duals tries defences ends → IsEntry number text
+unfolding page_text
+page-entry s number faults duals tries defences ends text e = (_, e)

@@ -93,6 +93,10 @@ IsPage s number text =
     × AreRows part.Ends s ends
     × (text ≡ page_text s number faults duals tries defences ends)
 
+-- each page is one element, the entry of its number, whatever the values are
+abbrev pub IsEntry : ℕ → List ℕ → Type 0
+IsEntry number text = (content : List ℕ) × (text ≡ inside (element.Entry number) content)
+
 -- the page of a plain study is that of its annotation
 abbrev pub IsPageOf : Study (Unit {0}) → ℕ → List ℕ → Type 0
 IsPageOf plain number text = (s : Study Mark) × (plain_study s ≡ plain) × IsAnnotated s × IsPage s number text

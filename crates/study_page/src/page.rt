@@ -12,7 +12,7 @@ ghost use Rattle.study_page.specs.Made.{HasAsked};
 ghost use Rattle.study_page.specs.Page.{AreRows, heads, table_part, full_table, cards_part, full_cards};
 ghost use Rattle.study_page.specs.Page.{tries_title, missing_title, ends_title};
 ghost use Rattle.study_page.specs.Tree.{solution_words};
-ghost use Rattle.study_page.specs.Page.{solution_part, duals_title, duals_note, foot_words, tables, top, page_text, IsPage, IsPageOf};
+ghost use Rattle.study_page.specs.Page.{solution_part, duals_title, duals_note, foot_words, tables, top, page_text, IsPage, IsPageOf, IsEntry};
 
 use crate::fault::NotMade;
 use crate::head::{put_figure, put_head};
@@ -302,6 +302,7 @@ fn page_of<'a, 'b, A: Allocator, B: Allocator, V: Values>(
     number: u32,
 ) -> Result<Html<'a, A>, NotMade>
     ensures text { V.is_honest values.old → IfOk result (IsPage (marked bench.now) number) }
+    ensures entry { IfOk result (IsEntry number) }
     ensures asked { HasAsked V.held (within (marked bench.now).start.position V.gives) V.may_fail V.asked_of V.failed_of V.is_honest values.old result values.new }
 {
     let mut html = Html::new(alloc);
@@ -326,6 +327,7 @@ pub fn write_page<'a, 'b, A: Allocator, B: Allocator, V: Values, W: Write>(
         × Appends (W.contents out.old) (W.contents out.new) text) }
     ensures plain { V.is_honest values.old → IsKeptRight bench.now → OnOk result ((text : List ℕ)
         × IsPageOf (plain_study (marked bench.now)) number text × Appends (W.contents out.old) (W.contents out.new) text) }
+    ensures entry { OnOk result ((text : List ℕ) × IsEntry number text × Appends (W.contents out.old) (W.contents out.new) text) }
     ensures nested { OnOk result ((text : List ℕ) × IsWellNested text × Appends (W.contents out.old) (W.contents out.new) text) }
     ensures device { V.is_honest values.old → result ≡ Err ReviewFault.Device → (text : List ℕ) × IsPage (marked bench.now) number text
         × TakesPrefix (W.contents out.old) (W.contents out.new) text }

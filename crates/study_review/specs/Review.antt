@@ -59,6 +59,10 @@ IsReview s number text =
     × LinesOfEach (NodeLines s) (written_order s) nodes
     × (text ≡ study_line s number ++ (stipulation_line s ++ (empty_line s ++ (faults ++ nodes))))
 
+-- how each review begins, whatever the values are: with its study's number
+abbrev pub BeginsReview : ℕ → List ℕ → Type 0
+BeginsReview number text = (rest : List ℕ) × (text ≡ codes "study " ++ (decimal number ++ (codes " " ++ rest)))
+
 -- a study has one review
 abbrev pub ReviewsAreUnique : Type 0
 ReviewsAreUnique = (s : Study Mark) (number : ℕ) (t u : List ℕ) → IsReview s number t → IsReview s number u → t ≡ u

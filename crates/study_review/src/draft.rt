@@ -5,7 +5,7 @@ use std::alloc::Allocator;
 use study_board::Position;
 use study_text::Text;
 
-/// The lines of the faults with those before them, the lines of the nodes, and the moves that were asked last.
+/// The lines of the faults, the lines of the nodes, and the moves that were asked last.
 #[derive(Drop)]
 pub struct Draft<'a, A: Allocator> {
     pub faults: Text<'a, A>,

@@ -10,7 +10,8 @@ ghost use Rattle.study_values.specs.declared.values.ProbeFault.{ProbeFault as AP
 ghost use Rattle.study_marks.specs.FaultSums.{skipped};
 ghost use Rattle.study_review.specs.Asked.{within};
 ghost use Rattle.study_review.specs.Made.{HasAsked};
-ghost use Rattle.study_review.specs.Review.{study_line, stipulation_line, empty_line, is_empty, none_below, IsReview, IsReviewOf, HasReviewed};
+ghost use Rattle.study_review.specs.Review.{study_line, stipulation_line, empty_line, is_empty, none_below};
+ghost use Rattle.study_review.specs.Review.{IsReview, IsReviewOf, BeginsReview, HasReviewed};
 
 use crate::draft::Draft;
 use crate::fault::{NotMade, ReviewFault};
@@ -114,11 +115,16 @@ fn add_head<'b, A: Allocator, B: Allocator>(
     add_empty(text, bench)
 }
 
-/// Two texts, one behind the other.
-fn join<'a, A: Allocator>(mut text: Text<'a, A>, rest: Text<'a, A>) -> Result<Text<'a, A>, NotMade>
-    ensures text { IfOk result (λ whole. whole ≡ text.entry ++ rest.entry) }
+/// Three texts, one behind the other.
+fn join<'a, A: Allocator>(
+    mut text: Text<'a, A>,
+    middle: Text<'a, A>,
+    rest: Text<'a, A>,
+) -> Result<Text<'a, A>, NotMade>
+    ensures text { IfOk result (λ whole. whole ≡ (text.entry ++ middle.entry) ++ rest.entry) }
     ensures memory { IfErr result (λ reason. reason ≡ NotMade.OutOfMemory) }
 {
+    text.add(middle.as_slice())?;
     text.add(rest.as_slice())?;
     Ok(text)
 }
@@ -131,17 +137,19 @@ fn text_of<'a, 'b, A: Allocator, B: Allocator, V: Values>(
     number: u32,
 ) -> Result<Text<'a, A>, NotMade>
     ensures text { V.is_honest values.old → IfOk result (IsReview (marked bench.now) number) }
+    ensures begins { IfOk result (BeginsReview number) }
     ensures asked { HasAsked V.held (within (marked bench.now).start.position V.gives) V.may_fail V.asked_of V.failed_of V.is_honest values.old result values.new }
 {
     let root = root_mark(bench);
+    let mut head = Text::new(alloc);
     let mut draft = Draft {
         faults: Text::new(alloc),
         nodes: Text::new(alloc),
         told: Vec::new(alloc),
     };
-    add_head(&mut draft.faults, bench, root, number)?;
+    add_head(&mut head, bench, root, number)?;
     add_all(alloc, &mut draft, bench, root, values)?;
-    join(draft.faults, draft.nodes)
+    join(head, draft.faults, draft.nodes)
 }
 
 /// Writes the review of a study, the one of this number.
@@ -160,6 +168,7 @@ pub fn write_review<'a, 'b, A: Allocator, B: Allocator, V: Values, W: Write>(
         × Appends (W.contents out.old) (W.contents out.new) text) }
     ensures plain { V.is_honest values.old → IsKeptRight bench.now → OnOk result ((text : List ℕ)
         × IsReviewOf (plain_study (marked bench.now)) number text × Appends (W.contents out.old) (W.contents out.new) text) }
+    ensures begins { OnOk result ((text : List ℕ) × BeginsReview number text × Appends (W.contents out.old) (W.contents out.new) text) }
     ensures device { V.is_honest values.old → result ≡ Err ReviewFault.Device → (text : List ℕ) × IsReview (marked bench.now) number text
         × TakesPrefix (W.contents out.old) (W.contents out.new) text }
     ensures memory { result ≡ Err ReviewFault.OutOfMemory → out.new ≡ out.old }

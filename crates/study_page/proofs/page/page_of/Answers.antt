@@ -1,4 +1,4 @@
-use Rattle.study_page.proofs.WholePage.{from-nothing}
+use Rattle.study_page.proofs.WholePage.{from-nothing, page-entry}
 use Rattle.study_page.proofs.page.page_of.Goals as goal
 
 pub returns-clause-text : goal.returns-clause-text
@@ -16,3 +16,6 @@ returns-clause-text g c h =
       p.4,
       from-nothing _ _ _ c.new-html.ensures c.in_ok-put_page.ensures,
     )
+
+pub returns-clause-entry : goal.returns-clause-entry
+returns-clause-entry g c = page-entry _ _ _ _ _ _ _ _ (from-nothing _ _ _ c.new-html.ensures c.in_ok-put_page.ensures)
