@@ -25,7 +25,7 @@ use Rattle.study_report.specs.declared.kind.Kind.{Kind}
 use Rattle.study_report.specs.declared.kind.Kind.TheVariants.{PassedOver, NoClass, Study, Checked}
 use Rattle.study_report.specs.Told.{Point, Added, IsAdded, IsAddedAs, IsPgnAfter, IsCheckedAfter, kind_in, refusal_count, study_count}
 use Rattle.study_report.specs.Told.{nothing_added, refusal_added, studies_on, listed_in, studies_in}
-use Rattle.study_report.specs.Outcome.{begun, AreAdded, report_text, refusals, point_after, IsFollowed, AreListed, Outcome, Shape}
+use Rattle.study_report.specs.Outcome.{begun, AreAdded, report_text, refusals, point_after, IsFollowed, AreListed, StoppedAfter, AreListedBefore, Outcome, Shape}
 use Rattle.study_report.specs.Written.{Adds, Stops}
 
 -- ---- the first line that is left
@@ -300,6 +300,68 @@ module _ (tells : Plainly → ℕ → List ℕ → Type 0) (refusal : ℕ → Li
   told_stops script now next old mid new first p line n refused (LineTooLong k) r t short lt g h = absurd h
   told_stops script now next old mid new first p line n refused TooManyLines r t short lt g h = absurd h
 
+  -- ---- the list of a run that stopped
+
+  -- the lines before the stop are those that were told
+  pub told_before : {Lists : List (Plainly × ℕ) → Type 0} (Has : List (Plainly × ℕ) → Type 0) (script now old new : Option (List ℕ)) (first : State)
+      (p : Point) (n refused : ℕ) (fault : RunFault) → HasTold Lists script now old new first p n refused
+      → ((more : List (Plainly × ℕ)) → Lists more → Has more)
+      → ((q : Point) (all : List (List ℕ)) (added : List Added) → Appends old new (report_text added)
+      → StoppedAfter tells refusal q all n added old new fault)
+      → IfSome script (λ bytes. AreListedBefore tells refusal first bytes old new Has fault)
+  told_before Has None now old new first p n refused fault r l stopped = tt
+  told_before Has (Some bs) None old new first p n refused fault r l stopped = absurd r.known
+  told_before Has (Some bs) (Some rest) old new first p n refused fault r l stopped =
+      let v = r.known in
+      (n, v.within, v.added, v.are, stopped (begun first) (script_lines bs) v.added v.written, l (studies_in v.added) v.listed)
+
+  told_before_write : {Lists : List (Plainly × ℕ) → Type 0} (Has : List (Plainly × ℕ) → Type 0) (script now next old mid new : Option (List ℕ))
+      (first : State) (p : Point) (line : List ℕ) (n refused : ℕ) → HasTold Lists script now old mid first p n refused → TakesLine now next true line
+      → ((more : List (Plainly × ℕ)) → Lists more → Has more) → (a : Added) × IsAdded tells refusal p line a × TakesPrefix mid new a.text
+      → IfSome script (λ bytes. AreListedBefore tells refusal first bytes old new Has WriteDevice)
+  told_before_write Has None now next old mid new first p line n refused r t l q = tt
+  told_before_write Has (Some bs) None next old mid new first p line n refused r t l q = absurd r.known
+  told_before_write Has (Some bs) (Some rest) None old mid new first p line n refused r t l q = absurd t
+  told_before_write Has (Some bs) (Some rest) (Some rest') old mid new first p line n refused r t l (a, is, part) =
+      let v = r.known in
+      let f = first_left (script_lines bs) (script_lines rest') n line (v.left_is ∙ t) in (
+        n,
+        v.within,
+        v.added,
+        v.are,
+        (mid, v.written, rw f.3 (a, subst (λ (h : Point). IsAdded tells refusal h line a) v.point_is is, part)),
+        l (studies_in v.added) v.listed,
+      )
+
+  told_before_memory : {Lists : List (Plainly × ℕ) → Type 0} (Has : List (Plainly × ℕ) → Type 0) (script now old mid new : Option (List ℕ))
+      (first : State) (p : Point) (n refused : ℕ) → HasTold Lists script now old mid first p n refused
+      → ((more : List (Plainly × ℕ)) → Lists more → Has more) → new ≡ mid
+      → IfSome script (λ bytes. AreListedBefore tells refusal first bytes old new Has OutOfMemory)
+  told_before_memory Has None now old mid new first p n refused r l same = tt
+  told_before_memory Has (Some bs) None old mid new first p n refused r l same = absurd r.known
+  told_before_memory Has (Some bs) (Some rest) old mid new first p n refused r l same =
+      let v = r.known in (
+        n,
+        v.within,
+        v.added,
+        v.are,
+        subst (λ (x : Option (List ℕ)). Appends old x (report_text v.added)) (sym same) v.written,
+        l (studies_in v.added) v.listed,
+      )
+
+  -- the run stopped within a line
+  pub told_before_stop : {Lists : List (Plainly × ℕ) → Type 0} (Has : List (Plainly × ℕ) → Type 0) (script now next old mid new : Option (List ℕ))
+      (first : State) (p : Point) (line : List ℕ) (n refused : ℕ) (fault : RunFault) → HasTold Lists script now old mid first p n refused
+      → TakesLine now next true line → ((more : List (Plainly × ℕ)) → Lists more → Has more) → Stops (IsAdded tells refusal p line) mid new fault
+      → IfSome script (λ bytes. AreListedBefore tells refusal first bytes old new Has fault)
+  told_before_stop Has script now next old mid new first p line n refused WriteDevice r t l h =
+      told_before_write Has script now next old mid new first p line n refused r t l h
+  told_before_stop Has script now next old mid new first p line n refused OutOfMemory r t l h =
+      told_before_memory Has script now old mid new first p n refused r l h
+  told_before_stop Has script now next old mid new first p line n refused ReadDevice r t l h = absurd h
+  told_before_stop Has script now next old mid new first p line n refused (LineTooLong k) r t l h = absurd h
+  told_before_stop Has script now next old mid new first p line n refused TooManyLines r t l h = absurd h
+
   -- ---- what the loop knows
 
   -- the lines so far are told, what is held is their state, and the counts are theirs
@@ -382,3 +444,11 @@ pub few-told : (told : Told) → (refusal_count told ≤ 1) × (study_count told
 few-told Nothing = (omega arith, omega arith)
 few-told AStudy = (omega arith, omega arith)
 few-told ARefusal = (omega arith, omega arith)
+
+-- there is no memory for the first line
+pub none_before : (tells : Plainly → ℕ → List ℕ → Type 0) (refusal : ℕ → List ℕ → List ℕ → List ℕ) (Has : List (Plainly × ℕ) → Type 0)
+    (told : List (Plainly × ℕ)) (script out : Option (List ℕ)) (first : State) → Has told
+    → IfSome script (λ bytes. AreListedBefore tells refusal first bytes out out (λ more. Has (told ++ more)) OutOfMemory)
+none_before tells refusal Has told None out first h = tt
+none_before tells refusal Has told (Some bytes) out first h =
+    (0, omega arith, [], tt, Appends-nil out, subst Has (sym (append-nil told)) h)

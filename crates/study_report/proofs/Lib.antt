@@ -3,3 +3,4 @@ pub mod Reviewed
 pub mod TablesReviewed
 pub mod LineKinds
 pub mod LineAdds
+pub mod PartsWritten

@@ -10,7 +10,7 @@ use Rattle.study_reply.specs.declared.refusal.Refusal.{Refusal}
 use Rattle.study_script.specs.declared.running.RunFault.{RunFault}
 use Rattle.study_script.specs.declared.running.RunFault.TheVariants.{ReadDevice, WriteDevice, LineTooLong, TooManyLines, OutOfMemory}
 use Rattle.study_script.specs.State.{State, Document, study, Outside}
-use Rattle.study_script.specs.Replies.{Reply, refused, IsReply}
+use Rattle.study_script.specs.Replies.{Reply, refused, IsReplyIn}
 use Rattle.study_script.specs.Held.{Answered}
 use Rattle.study_report.specs.declared.kind.Kind.TheVariants.{Study, Checked}
 use Rattle.study_report.specs.declared.told.Told.{Told}
@@ -117,23 +117,23 @@ module _ (tells : Plainly → ℕ → List ℕ → Type 0) (refusal : ℕ → Li
 
   -- ---- after the script's reply
 
-  pub checked-refused : (p : Point) (line : List ℕ) (o : Outside) (reply : Reply) → IsReply p.state line o reply → reply.refused ≡ true
+  pub checked-refused : (p : Point) (line : List ℕ) (o : Outside) (reply : Reply) → IsReplyIn true p.state line o reply → reply.refused ≡ true
       → IsAddedAs tells refusal Checked p line (refusal_added tells refusal p line reply)
   checked-refused p line o reply is e = let a = refusal_added tells refusal p line reply in
       (o, reply, is, subst (λ b. IsCheckedAfter tells refusal p line reply b a) (sym e) refl)
 
-  pub pgn-refused : (p : Point) (line : List ℕ) (o : Outside) (reply : Reply) → IsReply p.state line o reply → reply.refused ≡ true
+  pub pgn-refused : (p : Point) (line : List ℕ) (o : Outside) (reply : Reply) → IsReplyIn true p.state line o reply → reply.refused ≡ true
       → IsAddedAs tells refusal Study p line (refusal_added tells refusal p line reply)
   pgn-refused p line o reply is e = let a = refusal_added tells refusal p line reply in
       (o, reply, is, subst (λ b. IsPgnAfter tells refusal p line reply b a) (sym e) refl)
 
-  pub pgn-told : (p : Point) (line : List ℕ) (o : Outside) (reply : Reply) (a : Added) → IsReply p.state line o reply → reply.refused ≡ false
+  pub pgn-told : (p : Point) (line : List ℕ) (o : Outside) (reply : Reply) (a : Added) → IsReplyIn true p.state line o reply → reply.refused ≡ false
       → IsStudyTold tells refusal p reply.state line a → IsAddedAs tells refusal Study p line a
   pgn-told p line o reply a is e h = (o, reply, is, subst (λ b. IsPgnAfter tells refusal p line reply b a) (sym e) h)
 
   pub replied-adds : (I : Added → Type 0) (H : State → Type 0) (p : Point) (line : List ℕ) (number : ℕ) (bytes : List ℕ) (was : Bool)
       (r : Result Told RunFault) (old new : Option (List ℕ))
-      → ((o : Outside) (reply : Reply) → IsReply p.state line o reply → reply.refused ≡ true → I (refusal_added tells refusal p line reply))
+      → ((o : Outside) (reply : Reply) → IsReplyIn true p.state line o reply → reply.refused ≡ true → I (refusal_added tells refusal p line reply))
       → number ≡ suc p.lines → was ≡ true → IsReplied p.state line H bytes was
       → IfOk r (RefusalWritten (refusal number line bytes) old new) → IfOk r (Adds I H old new)
   replied-adds I H p line number bytes was r old new so n was-true (o, reply, is, b, held, same) h =
@@ -141,7 +141,7 @@ module _ (tells : Plainly → ℕ → List ℕ → Type 0) (refusal : ℕ → Li
 
   pub replied-stops : (I : Added → Type 0) (H : State → Type 0) (p : Point) (line : List ℕ) (number : ℕ) (bytes : List ℕ) (was : Bool)
       (r : Result Told RunFault) (old new : Option (List ℕ))
-      → ((o : Outside) (reply : Reply) → IsReply p.state line o reply → reply.refused ≡ true → I (refusal_added tells refusal p line reply))
+      → ((o : Outside) (reply : Reply) → IsReplyIn true p.state line o reply → reply.refused ≡ true → I (refusal_added tells refusal p line reply))
       → number ≡ suc p.lines → was ≡ true → IsReplied p.state line H bytes was
       → IfErr r (StopsIn (refusal number line bytes) old new) → IfErr r (Stops I old new)
   replied-stops I H p line number bytes was r old new so n was-true (o, reply, is, b, held, same) h =
@@ -155,6 +155,6 @@ module _ (tells : Plainly → ℕ → List ℕ → Type 0) (refusal : ℕ → Li
 
 -- the reply that a session wrote into memory
 pub replied : (H : State → Type 0) (s : State) (line old taken : List ℕ) (was : Bool) → old ≡ []
-    → Answered (IsReply s line) H (Some old) (Some taken) was → IsReplied s line H taken was
+    → Answered (IsReplyIn true s line) H (Some old) (Some taken) was → IsReplied s line H taken was
 replied H s line old taken was none (o, reply, is, wrote, held, same) =
     (o, reply, is, wrote ∙ ap (λ (t : List ℕ). t ++ reply.text) none, held, same)

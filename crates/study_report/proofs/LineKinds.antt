@@ -1,5 +1,5 @@
 -- What is known of a line by what is done with it.
-use Rattle.std.proofs.Common.{◌≡◌, ℕ, true, false, List, Option, Some, None, Ok, Err, refl, sym, ap, ◌∙◌}
+use Rattle.std.proofs.Common.{◌≡◌, ℕ, Bool, true, false, ◌&&◌, List, Option, Some, None, Ok, Err, refl, sym, ap, ◌∙◌}
 use Rattle.std.specs.Prelude.{IfSome}
 use Rattle.study_material.specs.declared.class.Class.{Class}
 use Rattle.study_command.specs.declared.command.TableCommand.TheVariants.{Build, Load, Save, Verify}
@@ -10,7 +10,7 @@ use Rattle.study_reply.specs.declared.refusal.Refusal.{Refusal}
 use Rattle.study_reply.specs.declared.refusal.Refusal.TheVariants.{NoStudy, OutOfMemory}
 use Rattle.study_script.specs.State.{State, Document, empty, start, study, Outside, quiet, no_path, no_room, no_room_for, unread, unopened}
 use Rattle.study_script.specs.State.{cut_off, file, header}
-use Rattle.study_script.specs.Replies.{Reply, refused, class_told, IsPgnReply, IsReplyWhere}
+use Rattle.study_script.specs.Replies.{Reply, refused, class_told, IsPgnReply, IsReplyWhere, IsReplyIn, begins_position, emptied, kept_apart}
 use Rattle.study_report.specs.declared.kind.Kind.TheVariants.{PassedOver, Study, Checked}
 use Rattle.study_report.specs.Told.{kind_in, class_kind}
 use Rattle.study_report.specs.Written.{none_trusted}
@@ -86,3 +86,11 @@ pgn-finds s (unopened fault) (study old) reply r f = found-study s old reply r
 pgn-finds s cut_off (study old) reply r f = found-study s old reply r
 pgn-finds s (file bytes) (study old) reply r f = found-study s old reply r
 pgn-finds s (header told) (study old) reply r f = found-study s old reply r
+
+-- the same where studies are kept apart
+pub study-finds : (s : State) (line : List ℕ) (o : Outside) (reply : Reply) → kind_in (command_of line) ≡ Study → IsReplyIn true s line o reply
+    → reply.refused ≡ false → Finds s s.document reply
+study-finds s line o reply kind (plain, is, e) was =
+    let accepted : plain.refused ≡ false = sym (ap (λ (r : Reply). r.refused) e) ∙ was in
+    let found = pgn-finds s o s.document plain (pgn-asked s o plain (command_of line) kind is) accepted in
+    (found.0, ap (λ (r : Reply). r.state) e ∙ ap (λ (b : Bool). emptied (b && begins_position line) plain.state) accepted ∙ found.1)

@@ -2,3 +2,4 @@ pub mod Lines
 pub mod Told
 pub mod Written
 pub mod Outcome
+pub mod Parts

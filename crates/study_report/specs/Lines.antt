@@ -1,6 +1,11 @@
 -- A report in lines of plain text.
 use Rattle.std.specs.Prelude.{ℕ, List, ◌++◌, drop, codes, decimal}
+use Rattle.study_review.specs.Review.{BeginsReview}
 
 -- `refused 7 NoTable KRK`: the number of the line, and the script's reply without `error `
 abbrev pub refusal_line : ℕ → List ℕ → List ℕ
 refusal_line number reply = codes "refused " ++ (decimal number ++ (codes " " ++ drop 6 reply))
+
+-- each review begins with the number of its study, and so is no refusal
+abbrev pub IsReviewForm : ℕ → List ℕ → Type 0
+IsReviewForm number text = BeginsReview number text

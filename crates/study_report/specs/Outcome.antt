@@ -69,6 +69,22 @@ module _ (tells : Plainly → ℕ → List ℕ → Type 0) (refusal : ℕ → Li
   AreListed first script old new Lists = (added : List Added) × AreAdded (begun first) (script_lines script) added
       × Appends old new (report_text added) × Lists (studies_in added)
 
+  -- what the first n lines added is written, and the run stopped for this fault after them; where the writer failed, a prefix of what the next
+  -- line adds is written too
+  abbrev pub StoppedAfter : Point → List (List ℕ) → ℕ → List Added → Option (List ℕ) → Option (List ℕ) → RunFault → Type 0
+  StoppedAfter p lines n added old new WriteDevice =
+      (mid : Option (List ℕ)) × Appends old mid (report_text added)
+      × IsSomeAnd (slice_get lines n) (λ line. (a : Added) × IsAdded tells refusal (point_after p added) line a × TakesPrefix mid new a.text)
+  StoppedAfter p lines n added old new (LineTooLong k) = (k ≡ n + 1) × Appends old new (report_text added)
+  StoppedAfter p lines n added old new TooManyLines = (n ≡ 100000) × Appends old new (report_text added)
+  StoppedAfter p lines n added old new fault = Appends old new (report_text added)
+
+  -- after a run that stopped for this fault: this is true of the studies that the lines before the stop told
+  abbrev pub AreListedBefore : State → List ℕ → Option (List ℕ) → Option (List ℕ) → (List (Plainly × ℕ) → Type 0) → RunFault → Type 0
+  AreListedBefore first script old new Lists fault = (n : ℕ) × (n ≤ length (script_lines script)) × (added : List Added)
+      × AreAdded (begun first) (take n (script_lines script)) added
+      × StoppedAfter (begun first) (script_lines script) n added old new fault × Lists (studies_in added)
+
   -- what is held at the beginning, the bytes of a script, what the reader has left of them, what the writer had and has, and the answer
   abbrev pub Outcome : State → List ℕ → Option (List ℕ) → Option (List ℕ) → Option (List ℕ) → Result Summary RunFault → Type 0
   Outcome first script left old new (Ok summary) =

@@ -12,7 +12,7 @@ use Rattle.study_reply.specs.declared.refusal.Refusal.{Refusal}
 use Rattle.study_reply.specs.declared.refusal.Refusal.TheVariants.{NotAClass, OutOfMemory}
 use Rattle.study_reply.specs.Names.{of_probe}
 use Rattle.study_script.specs.State.{State, Document, empty, start, study, Outside, is_among}
-use Rattle.study_script.specs.Replies.{Reply, IsReply, refused, class_told}
+use Rattle.study_script.specs.Replies.{Reply, IsReplyIn, refused, class_told}
 use Rattle.study_report.specs.declared.kind.Kind.{Kind}
 use Rattle.study_report.specs.declared.kind.Kind.TheVariants.{PassedOver, NoClass, Study, Checked}
 use Rattle.study_report.specs.declared.told.Place.{Place}
@@ -83,6 +83,11 @@ abbrev pub IsLeftOut : State → Plainly → Refusal → Type 0
 IsLeftOut s plain why =
     (why ≡ OutOfMemory) ⊎ ((fault : ProbeFault) × IsUntoldIn s plain.start.position fault × (why ≡ of_probe fault))
 
+abbrev pub lacks_study : Document → Bool
+lacks_study empty = true
+lacks_study (start s) = true
+lacks_study (study plain) = false
+
 -- the study in a document, with its number, where there is one
 abbrev pub studies_on : Document → ℕ → List (Plainly × ℕ)
 studies_on empty number = []
@@ -124,11 +129,14 @@ module _ (tells : Plainly → ℕ → List ℕ → Type 0) (refusal : ℕ → Li
   IsCheckedAfter p line reply true added = added ≡ refusal_added p line reply
   IsCheckedAfter p line reply false added = added ≡ nothing_added p reply.state
 
+  -- by what is done with it; a report keeps studies apart, so that no line behind a refused `position` edits the study before
   abbrev pub IsAddedAs : Kind → Point → List ℕ → Added → Type 0
   IsAddedAs PassedOver p line added = added ≡ nothing_added p p.state
   IsAddedAs NoClass p line added = added ≡ refusal_added p line (refused p.state NotAClass)
-  IsAddedAs Study p line added = (o : Outside) × (reply : Reply) × IsReply p.state line o reply × IsPgnAfter p line reply reply.refused added
-  IsAddedAs Checked p line added = (o : Outside) × (reply : Reply) × IsReply p.state line o reply × IsCheckedAfter p line reply reply.refused added
+  IsAddedAs Study p line added =
+      (o : Outside) × (reply : Reply) × IsReplyIn true p.state line o reply × IsPgnAfter p line reply reply.refused added
+  IsAddedAs Checked p line added =
+      (o : Outside) × (reply : Reply) × IsReplyIn true p.state line o reply × IsCheckedAfter p line reply reply.refused added
 
   -- what a line adds
   abbrev pub IsAdded : Point → List ℕ → Added → Type 0

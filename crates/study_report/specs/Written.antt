@@ -1,5 +1,5 @@
 -- What a line leaves behind.
-use Rattle.std.specs.Prelude.{◌≡◌, ℕ, Bool, false, List, Option}
+use Rattle.std.specs.Prelude.{◌≡◌, ℕ, Bool, true, false, List, Option}
 use Rattle.std.specs.Io.KnownBytes.{Appends}
 use Rattle.study_text.specs.Taken.{TakesPrefix}
 use Rattle.study_material.specs.declared.class.Class.{Class}
@@ -7,7 +7,7 @@ use Rattle.study_marks.specs.Edits.{Plainly}
 use Rattle.study_script.specs.declared.running.RunFault.{RunFault}
 use Rattle.study_script.specs.declared.running.RunFault.TheVariants.{WriteDevice, OutOfMemory}
 use Rattle.study_script.specs.State.{State, Document, empty, start, study, Outside}
-use Rattle.study_script.specs.Replies.{Reply, IsReply}
+use Rattle.study_script.specs.Replies.{Reply, IsReplyIn}
 use Rattle.study_report.specs.declared.told.Told.{Told}
 use Rattle.study_report.specs.Told.{Added}
 
@@ -44,5 +44,5 @@ IsSectionPart tells (study plain) number old new = (text : List ℕ) × tells pl
 
 -- these bytes are the text of the reply to a line, what is held after it is its state, and the line was refused as it says
 abbrev pub IsReplied : State → List ℕ → (State → Type 0) → List ℕ → Bool → Type 0
-IsReplied s line HoldsIt bytes was_refused = (o : Outside) × (reply : Reply) × IsReply s line o reply × (bytes ≡ reply.text) × HoldsIt reply.state
-    × (was_refused ≡ reply.refused)
+IsReplied s line HoldsIt bytes was_refused = (o : Outside) × (reply : Reply) × IsReplyIn true s line o reply × (bytes ≡ reply.text)
+    × HoldsIt reply.state × (was_refused ≡ reply.refused)

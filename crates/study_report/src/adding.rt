@@ -12,16 +12,17 @@ ghost use Rattle.study_script.specs.Session.{SessionHolds};
 ghost use Rattle.study_script.specs.Stores.{HonestOn, IsTrusted};
 ghost use Rattle.study_report.specs.Told.{Point, kind_in, IsAdded, IsAddedAs, IsAt, IsStudyTold, study_count, listed_in};
 ghost use Rattle.study_report.specs.Written.{none_trusted, Adds, StopsIn, Stops, IsReplied};
+ghost use Rattle.study_report.specs.Parts.{IsReplyPiece, IsPart, IsPartAs, WritesPart};
 
 use crate::kind::{Kind, kind_of};
 use crate::report::{NotTold, Report};
-use crate::section::add_section;
+use crate::section::{add_section, lacks_study};
 use crate::told::{Place, Told};
 use std::alloc::Allocator;
 use std::io::Write;
 use study_reply::{Refusal, of_probe, refuse};
 use study_review::ReviewFault;
-use study_script::{Document, Interpreter, RunFault, Session, TableStore, Tables};
+use study_script::{Document, RunFault, Session, TableStore, Tables};
 use study_tablefile::PageSource;
 use study_text::MemoryWriter;
 
@@ -32,7 +33,7 @@ struct Replied<'a, A: Allocator> {
     refused: bool,
 }
 
-/// Answers a line as a script does.
+/// Answers a line as a script does where studies are kept apart.
 fn reply_to<'a, 's, S: TableStore, A: Allocator>(
     session: &mut Session<'a, 's, S, A>,
     line: &[u8],
@@ -44,10 +45,11 @@ fn reply_to<'a, 's, S: TableStore, A: Allocator>(
         (SessionHolds S.Pages.honest S.Pages.gives (HonestOn none_trusted S.honest) S.files S.headers S.faults
         session.new.document session.new.tables session.new.store.now)
         r.text.taken.items r.refused) }
+    ensures written { IfOk result (λ r. IsReplyPiece line.now r.text.taken.items r.refused) }
     ensures err { IfErr result (λ e. e ≡ OutOfMemory) }
 {
     let mut text = MemoryWriter::new(session.alloc);
-    match session.answer(line, &mut text) {
+    match session.answer_apart(line, &mut text) {
         Ok(refused) => Ok(Replied { text, refused }),
         Err(_) => Err(RunFault::OutOfMemory),
     }
@@ -121,6 +123,8 @@ fn add_checked<'a, 's, S: TableStore, A: Allocator, W: Write, T: Report>(
         → IfErr result (Stops (IsAddedAs T.tells T.refusal Kind.Checked p line.now) (W.contents out.old) (W.contents out.new)) }
     ensures listed { (told : List (Plainly × ℕ)) → T.lists report.old told → T.lists report.new told }
     ensures told_none { IfOk result (λ t. study_count t ≡ 0) }
+    ensures written { (next : ℕ) → IfOk result (WritesPart (IsPartAs T.form T.refusal Kind.Checked number next line.now)
+        (W.contents out.old) (W.contents out.new)) }
     ensures stops { IfErr result (λ e. (e ≡ WriteDevice) ⊎ (e ≡ OutOfMemory)) }
 {
     let reply = reply_to(session, line)?;
@@ -151,8 +155,14 @@ fn tell_study<'a, P: PageSource, A: Allocator, W: Write, T: Report>(
         → IfErr result (Stops (IsStudyTold T.tells T.refusal p s line.now) (W.contents out.old) (W.contents out.new)) }
     ensures listed { (s : State) (told : List (Plainly × ℕ)) → Holds P.honest P.gives document.now tables.old s → T.lists report.old told
         → IfOk result (λ t. T.lists report.new (told ++ listed_in t s.document (at.studies + 1))) }
+    ensures unlisted { (told : List (Plainly × ℕ)) → T.lists report.old told → IfErr result (λ e. T.lists report.new told) }
+    ensures written { IfOk result (WritesPart (IsPartAs T.form T.refusal Kind.Study at.line (at.studies + 1) line.now)
+        (W.contents out.old) (W.contents out.new)) }
     ensures stops { IfErr result (λ e. (e ≡ WriteDevice) ⊎ (e ≡ OutOfMemory)) }
 {
+    if lacks_study(document) {
+        return refuse_line(alloc, report, at.line, line, Refusal::NoStudy, out);
+    }
     match add_section(alloc, document, tables, report, at.studies + 1, out) {
         Ok(()) => Ok(Told::Study),
         Err(ReviewFault::Device) => Err(RunFault::WriteDevice),
@@ -192,6 +202,9 @@ fn add_pgn<'a, 's, S: TableStore, A: Allocator, W: Write, T: Report>(
         session.old.document session.old.tables session.old.store.now p.state
         → T.lists report.old told
         → IfOk result (λ t. T.lists report.new (told ++ listed_in t (document_seen session.new.document) (at.studies + 1))) }
+    ensures unlisted { (told : List (Plainly × ℕ)) → T.lists report.old told → IfErr result (λ e. T.lists report.new told) }
+    ensures written { IfOk result (WritesPart (IsPartAs T.form T.refusal Kind.Study at.line (at.studies + 1) line.now)
+        (W.contents out.old) (W.contents out.new)) }
     ensures stops { IfErr result (λ e. (e ≡ WriteDevice) ⊎ (e ≡ OutOfMemory)) }
 {
     let alloc = session.alloc;
@@ -238,6 +251,9 @@ pub fn add_line<'a, 's, S: TableStore, A: Allocator, W: Write, T: Report>(
         session.old.document session.old.tables session.old.store.now p.state
         → T.lists report.old told
         → IfOk result (λ t. T.lists report.new (told ++ listed_in t (document_seen session.new.document) (at.studies + 1))) }
+    ensures unlisted { (told : List (Plainly × ℕ)) → T.lists report.old told → IfErr result (λ e. T.lists report.new told) }
+    ensures written { IfOk result (WritesPart (IsPart T.form T.refusal at.line (at.studies + 1) line.now)
+        (W.contents out.old) (W.contents out.new)) }
     ensures stops { IfErr result (λ e. (e ≡ WriteDevice) ⊎ (e ≡ OutOfMemory)) }
 {
     match kind_of(line) {

@@ -1,12 +1,13 @@
 //! A report over a whole script.
-ghost use Rattle.std.specs.Prelude.{◌≡◌, ℕ, List, ◌++◌, IfSome, OnOk};
+ghost use Rattle.std.specs.Prelude.{◌≡◌, ℕ, List, ◌++◌, IfSome, IfErr, OnOk};
 ghost use Rattle.study_material.specs.declared.class.Class.{Class as AClass};
 ghost use Rattle.study_marks.specs.Edits.{Plainly};
 ghost use Rattle.study_script.specs.State.{State, is_among};
 ghost use Rattle.study_script.specs.Held.{tables_honest, tables_held, are_paged};
 ghost use Rattle.study_script.specs.Session.{SessionHolds};
 ghost use Rattle.study_script.specs.Stores.{HonestOn};
-ghost use Rattle.study_report.specs.Outcome.{IsFollowed, AreListed, Outcome, Shape, over_tables};
+ghost use Rattle.study_report.specs.Outcome.{IsFollowed, AreListed, AreListedBefore, Outcome, Shape, over_tables};
+ghost use Rattle.study_report.specs.Parts.{Fits};
 ghost use Rattle.study_report.specs.Written.{none_trusted};
 
 use crate::adding::add_line;
@@ -20,6 +21,7 @@ use study_script::{Document, RunFault, Session, Summary, TableStore, Tables};
 use study_tablefile::PageSource;
 
 /// Follows a script from what a session holds, and has its studies and its refused lines told. The session holds what the script leaves.
+/// Studies are kept apart, whatever the session's setting: a refused `position` leaves none that the lines behind it could edit.
 pub fn follow<'a, 's, R: Read, W: Write, S: TableStore, A: Allocator, T: Report>(
     line: &mut Line<'_, A>,
     script: &mut R,
@@ -43,7 +45,14 @@ pub fn follow<'a, 's, R: Read, W: Write, S: TableStore, A: Allocator, T: Report>
         → T.lists report.old told
         → OnOk result (IfSome (R.remaining script.old) (λ bytes. AreListed T.tells T.refusal first bytes (W.contents out.old) (W.contents out.new)
         (λ more. T.lists report.new (told ++ more)))) }
+    ensures listed_before { (first : State) (told : List (Plainly × ℕ)) → SessionHolds S.Pages.honest S.Pages.gives (HonestOn none_trusted S.honest)
+        S.files S.headers S.faults session.old.document session.old.tables session.old.store.now first
+        → T.lists report.old told
+        → IfErr result (λ fault. IfSome (R.remaining script.old) (λ bytes. AreListedBefore T.tells T.refusal first bytes
+        (W.contents out.old) (W.contents out.new) (λ more. T.lists report.new (told ++ more)) fault)) }
     ensures shape { IfSome (R.remaining script.old) (λ bytes. Shape bytes (R.remaining script.new) result) }
+    ensures fits { IfSome (R.remaining script.old) (λ bytes. Fits T.form T.refusal bytes (R.remaining script.new)
+        (W.contents out.old) (W.contents out.new) result) }
 {
     let mut refused = 0u32;
     let mut studies = 0u32;
@@ -92,7 +101,13 @@ pub fn follow_script<'a, R: Read, W: Write, P: PageSource, A: Allocator, T: Repo
         → ((c : AClass) → tables_held tables.entry c ≡ is_among classes c) → T.lists report.old told
         → OnOk result (IfSome (R.remaining script.old) (λ bytes. AreListed T.tells T.refusal (over_tables classes (are_paged tables.entry)) bytes
         (W.contents out.old) (W.contents out.new) (λ more. T.lists report.new (told ++ more)))) }
+    ensures listed_before { (classes : List AClass) (told : List (Plainly × ℕ)) → tables_honest P.honest tables.entry
+        → ((c : AClass) → tables_held tables.entry c ≡ is_among classes c) → T.lists report.old told
+        → IfErr result (λ fault. IfSome (R.remaining script.old) (λ bytes. AreListedBefore T.tells T.refusal (over_tables classes (are_paged tables.entry))
+        bytes (W.contents out.old) (W.contents out.new) (λ more. T.lists report.new (told ++ more)) fault)) }
     ensures shape { IfSome (R.remaining script.old) (λ bytes. Shape bytes (R.remaining script.new) result) }
+    ensures fits { IfSome (R.remaining script.old) (λ bytes. Fits T.form T.refusal bytes (R.remaining script.new)
+        (W.contents out.old) (W.contents out.new) result) }
 {
     let mut store = NoFiles::new();
     follow_over(alloc, script, out, report, tables, &mut store)
@@ -116,7 +131,14 @@ pub fn follow_over<'a, R: Read, W: Write, S: TableStore, A: Allocator, T: Report
         → T.lists report.old told
         → OnOk result (IfSome (R.remaining script.old) (λ bytes. AreListed T.tells T.refusal first bytes (W.contents out.old) (W.contents out.new)
         (λ more. T.lists report.new (told ++ more)))) }
+    ensures listed_before { (first : State) (told : List (Plainly × ℕ)) → SessionHolds S.Pages.honest S.Pages.gives (HonestOn none_trusted S.honest)
+        S.files S.headers S.faults Document.Empty tables.entry store.old first
+        → T.lists report.old told
+        → IfErr result (λ fault. IfSome (R.remaining script.old) (λ bytes. AreListedBefore T.tells T.refusal first bytes
+        (W.contents out.old) (W.contents out.new) (λ more. T.lists report.new (told ++ more)) fault)) }
     ensures shape { IfSome (R.remaining script.old) (λ bytes. Shape bytes (R.remaining script.new) result) }
+    ensures fits { IfSome (R.remaining script.old) (λ bytes. Fits T.form T.refusal bytes (R.remaining script.new)
+        (W.contents out.old) (W.contents out.new) result) }
 {
     let Ok(mut line) = Line::new(alloc) else {
         return Err(RunFault::OutOfMemory);
@@ -126,6 +148,7 @@ pub fn follow_over<'a, R: Read, W: Write, S: TableStore, A: Allocator, T: Report
         document: Document::Empty,
         tables,
         store,
+        separate: true,
     };
     follow(&mut line, script, out, report, &mut session)
 }

@@ -19,8 +19,11 @@ pub struct Lines;
 
 impl Report for Lines {
     ghost use Rattle.study_review.specs.Review.{IsReviewOf};
+    ghost use Rattle.study_report.specs.Lines.{IsReviewForm};
 
     ghost tells = { λ plain number text. IsReviewOf plain number text };
+
+    ghost form = { λ number text. IsReviewForm number text };
 
     ghost refusal = { λ number line reply. refusal_line number reply };
 

@@ -42,6 +42,9 @@ pub trait Report {
     /// The text tells of the study, as the one of this number.
     ghost tells: { Plainly → ℕ → List ℕ → Type 0 };
 
+    /// Of what form each text of a study is, the one of this number, whatever its values are.
+    ghost form: { ℕ → List ℕ → Type 0 };
+
     /// What is told of a refused line: of its number among all lines, its bytes, and the script's reply to it.
     ghost refusal: { ℕ → List ℕ → List ℕ → List ℕ };
 
@@ -59,6 +62,7 @@ pub trait Report {
     ) -> Result<(), ReviewFault>
         ensures told { V.is_honest values.old → IsKeptRight bench.now → OnOk result ((text : List ℕ)
             × tells (plain_study (marked bench.now)) number text × Appends (W.contents out.old) (W.contents out.new) text) }
+        ensures formed { OnOk result ((text : List ℕ) × form number text × Appends (W.contents out.old) (W.contents out.new) text) }
         ensures device { V.is_honest values.old → IsKeptRight bench.now → result ≡ Err ReviewFault.Device → (text : List ℕ)
             × tells (plain_study (marked bench.now)) number text × TakesPrefix (W.contents out.old) (W.contents out.new) text }
         ensures memory { result ≡ Err ReviewFault.OutOfMemory → out.new ≡ out.old }

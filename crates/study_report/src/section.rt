@@ -1,5 +1,5 @@
 //! What an accepted `pgn` line adds.
-ghost use Rattle.std.specs.Prelude.{◌≡◌, ℕ, List, [], ◌∷◌, ◌++◌, Err, OnOk, OnErr};
+ghost use Rattle.std.specs.Prelude.{◌≡◌, ℕ, false, List, [], ◌∷◌, ◌++◌, Err, OnOk, OnErr};
 ghost use Rattle.std.specs.Io.KnownBytes.{Appends};
 ghost use Rattle.study_material.specs.declared.class.Class.{Class as AClass};
 ghost use Rattle.study_values.specs.declared.fault.SourceFault.{SourceFault as ASourceFault};
@@ -9,8 +9,8 @@ ghost use Rattle.study_marks.specs.Edits.{Plainly};
 ghost use Rattle.study_marks.specs.BenchState.{marked, IsKeptRight};
 ghost use Rattle.study_marks.specs.Study.{plain_study};
 ghost use Rattle.study_script.specs.State.{State, study};
-ghost use Rattle.study_script.specs.Held.{Holds, tables_honest, tables_held, tables_may_fail, are_paged};
-ghost use Rattle.study_report.specs.Told.{IsUntoldBy, IsUntoldIn, studies_on};
+ghost use Rattle.study_script.specs.Held.{Holds, document_seen, tables_honest, tables_held, tables_may_fail, are_paged};
+ghost use Rattle.study_report.specs.Told.{IsUntoldBy, IsUntoldIn, lacks_study, studies_on};
 ghost use Rattle.study_report.specs.Written.{IsSection, IsSectionPart};
 
 use crate::report::Report;
@@ -33,6 +33,7 @@ pub fn add_study<'a, P: PageSource, A: Allocator, W: Write, T: Report>(
 ) -> Result<(), ReviewFault>
     ensures told { tables_honest P.honest tables.old → IsKeptRight bench.now → OnOk result ((text : List ℕ)
         × T.tells (plain_study (marked bench.now)) number text × Appends (W.contents out.old) (W.contents out.new) text) }
+    ensures formed { OnOk result ((text : List ℕ) × T.form number text × Appends (W.contents out.old) (W.contents out.new) text) }
     ensures device { tables_honest P.honest tables.old → IsKeptRight bench.now → result ≡ Err ReviewFault.Device → (text : List ℕ)
         × T.tells (plain_study (marked bench.now)) number text × TakesPrefix (W.contents out.old) (W.contents out.new) text }
     ensures memory { result ≡ Err ReviewFault.OutOfMemory → out.new ≡ out.old }
@@ -65,6 +66,8 @@ pub fn add_section<'a, P: PageSource, A: Allocator, W: Write, T: Report>(
 ) -> Result<(), ReviewFault>
     ensures told { (s : State) → Holds P.honest P.gives document.now tables.old s
         → OnOk result (IsSection T.tells s.document number (W.contents out.old) (W.contents out.new)) }
+    ensures formed { lacks_study (document_seen document.now) ≡ false
+        → OnOk result ((text : List ℕ) × T.form number text × Appends (W.contents out.old) (W.contents out.new) text) }
     ensures device { (s : State) → Holds P.honest P.gives document.now tables.old s → result ≡ Err ReviewFault.Device
         → IsSectionPart T.tells s.document number (W.contents out.old) (W.contents out.new) }
     ensures memory { result ≡ Err ReviewFault.OutOfMemory → out.new ≡ out.old }
@@ -80,5 +83,16 @@ pub fn add_section<'a, P: PageSource, A: Allocator, W: Write, T: Report>(
         Document::Study(bench) => add_study(alloc, bench, tables, report, number, out),
         Document::Empty => Ok(()),
         Document::Start(_) => Ok(()),
+    }
+}
+
+/// Whether there is no study in the document.
+pub fn lacks_study<'a, A: Allocator>(document: &Document<'a, A>) -> bool
+    ensures { result ≡ lacks_study (document_seen document.now) }
+{
+    match document {
+        Document::Study(_) => false,
+        Document::Empty => true,
+        Document::Start(_) => true,
     }
 }

@@ -4,6 +4,7 @@ use Rattle.study_report.specs.Written.{none_trusted}
 use Rattle.study_report.specs.declared.kind.Kind.TheVariants.{Checked}
 use Rattle.study_report.specs.Told.{IsAddedAs}
 use Rattle.study_report.proofs.LineAdds.{checked-refused, replied-adds, replied-stops, checked-nothing, refusal-none}
+use Rattle.study_report.proofs.PartsWritten.{checked-refusal, checked-silent}
 use Rattle.study_report.proofs.adding.add_checked.Goals as goal
 
 pub returns-then-reply-clause-ok : goal.returns-then-reply-clause-ok
@@ -37,3 +38,14 @@ returns-clause-ok g c = λ p trust held at. checked-nothing g.T.Report.tells g.T
 pub returns-then-reply-clause-told_none : goal.returns-then-reply-clause-told_none
 returns-then-reply-clause-told_none g c =
     refusal-none c.add_refusal.result _ (g.W.Write.contents _) (g.W.Write.contents c.add_refusal.new.out) c.add_refusal.ensures.ok
+
+pub returns-then-reply-clause-written : goal.returns-then-reply-clause-written
+returns-then-reply-clause-written g c = λ next.
+    checked-refusal g.T.Report.form g.T.Report.refusal c.args.line.now c.args.number next c.as_slice-bytes.result.now
+    c.in_ok-reply.reply.refused c.add_refusal.result (g.W.Write.contents c.args.out.now) (g.W.Write.contents c.add_refusal.new.out)
+    (rw c.as_slice-bytes.ensures.value c.in_ok-reply.ensures.written) c.if-reply.true c.add_refusal.ensures.ok
+
+pub returns-clause-written : goal.returns-clause-written
+returns-clause-written g c = λ next.
+    checked-silent g.T.Report.form g.T.Report.refusal c.args.line.now c.args.number next c.in_ok-reply.reply.text.taken.items
+    c.in_ok-reply.reply.refused (g.W.Write.contents c.args.out.now) c.in_ok-reply.ensures.written c.if-reply.false

@@ -15,6 +15,7 @@ use Rattle.study_report.specs.Written.{none_trusted}
 use Rattle.study_report.specs.Told.{kind_in, IsAdded, IsAddedAs, nothing_added, refusal_added}
 use Rattle.study_report.proofs.LineKinds.{trusted-checked}
 use Rattle.study_report.proofs.LineAdds.{refusal-adds, refusal-stops, adds-weaker, stops-weaker, refusal-none, none-listed, nothing-listed}
+use Rattle.study_report.proofs.PartsWritten.{on-err, passed-part, no-class-part, part-of-kind}
 use Rattle.study_report.proofs.adding.add_line.Goals as goal
 
 pub returns-in-PassedOver-clause-ok : goal.returns-in-PassedOver-clause-ok
@@ -109,3 +110,32 @@ returns-in-Checked-clause-listed g c = λ p told held kept.
     none-listed (g.T.Report.lists c.add_checked.new.report) c.add_checked.result told (document_seen c.add_checked.new.session.document)
     (c.args.at.studies + 1)
     c.add_checked.ensures.told_none (c.add_checked.ensures.listed told kept)
+
+pub returns-in-PassedOver-clause-written : goal.returns-in-PassedOver-clause-written
+returns-in-PassedOver-clause-written g c =
+    passed-part g.T.Report.form g.T.Report.refusal (kind_in (command_of c.args.line.now)) c.args.line.now c.args.at.line (c.args.at.studies + 1)
+    (g.W.Write.contents c.args.out.now) (sym c.in-PassedOver.is ∙ c.kind_of.ensures)
+
+pub returns-in-NoClass-clause-written : goal.returns-in-NoClass-clause-written
+returns-in-NoClass-clause-written g c =
+    no-class-part g.T.Report.form g.T.Report.refusal (kind_in (command_of c.args.line.now)) c.args.line.now c.args.at.line (c.args.at.studies + 1)
+    c.refuse_line.result (g.W.Write.contents c.args.out.now) (g.W.Write.contents c.refuse_line.new.out) (sym c.in-NoClass.is ∙ c.kind_of.ensures)
+    c.refuse_line.ensures.ok
+
+pub returns-in-Study-clause-written : goal.returns-in-Study-clause-written
+returns-in-Study-clause-written g c =
+    part-of-kind g.T.Report.form g.T.Report.refusal Study (kind_in (command_of c.args.line.now)) c.args.line.now c.args.at.line (c.args.at.studies + 1)
+    c.add_pgn.result (g.W.Write.contents c.args.out.now) (g.W.Write.contents c.add_pgn.new.out) (sym c.in-Study.is ∙ c.kind_of.ensures)
+    c.add_pgn.ensures.written
+
+pub returns-in-Checked-clause-written : goal.returns-in-Checked-clause-written
+returns-in-Checked-clause-written g c =
+    part-of-kind g.T.Report.form g.T.Report.refusal Checked (kind_in (command_of c.args.line.now)) c.args.line.now c.args.at.line (c.args.at.studies + 1)
+    c.add_checked.result (g.W.Write.contents c.args.out.now) (g.W.Write.contents c.add_checked.new.out) (sym c.in-Checked.is ∙ c.kind_of.ensures)
+    (c.add_checked.ensures.written (c.args.at.studies + 1))
+
+pub returns-in-NoClass-clause-unlisted : goal.returns-in-NoClass-clause-unlisted
+returns-in-NoClass-clause-unlisted g c = λ told kept. on-err c.refuse_line.result _ (c.refuse_line.ensures.listed told kept)
+
+pub returns-in-Checked-clause-unlisted : goal.returns-in-Checked-clause-unlisted
+returns-in-Checked-clause-unlisted g c = λ told kept. on-err c.add_checked.result _ (c.add_checked.ensures.listed told kept)

@@ -1,6 +1,5 @@
 use Rattle.std.proofs.Common.{◌≡◌, false, ◌+◌, ◌++◌, sym, ap, subst, ◌∙◌}
 use Rattle.std.specs.Prelude.{IfOk}
-use Rattle.study_command.specs.Parser.{command_of}
 use Rattle.study_script.specs.State.{State, Document}
 use Rattle.study_script.specs.Session.{SessionHolds}
 use Rattle.study_script.specs.Held.{Holds, document_seen}
@@ -8,8 +7,9 @@ use Rattle.study_script.specs.Stores.{HonestOn, StoreSeen}
 use Rattle.study_report.specs.declared.kind.Kind.TheVariants.{Study}
 use Rattle.study_report.specs.Told.{IsAddedAs, IsStudyTold, listed_in}
 use Rattle.study_report.specs.Written.{none_trusted}
-use Rattle.study_report.proofs.LineKinds.{trusted-study, pgn-asked, pgn-finds}
+use Rattle.study_report.proofs.LineKinds.{trusted-study, study-finds}
 use Rattle.study_report.proofs.LineAdds.{pgn-refused, pgn-told, replied-adds, replied-stops, adds-weaker, stops-weaker, refusal-none, none-listed}
+use Rattle.study_report.proofs.PartsWritten.{on-err, refusal-of-reply}
 use Rattle.study_report.proofs.adding.add_pgn.Goals as goal
 
 pub returns-then-reply-clause-ok : goal.returns-then-reply-clause-ok
@@ -36,7 +36,7 @@ pub returns-clause-ok : goal.returns-clause-ok
 returns-clause-ok g c = λ p kind held at.
     let r = c.in_ok-reply.ensures.ok p.state (trusted-study c.args.line.now kind) held in
     let no : r.1.refused ≡ false = sym r.5 ∙ c.if-reply.false in
-    let found = pgn-finds p.state r.0 p.state.document r.1 (pgn-asked p.state r.0 r.1 (command_of c.args.line.now) kind r.2) no in
+    let found = study-finds p.state c.args.line.now r.0 r.1 kind r.2 no in
     adds-weaker (IsStudyTold g.T.Report.tells g.T.Report.refusal p r.1.state c.args.line.now)
     (IsAddedAs g.T.Report.tells g.T.Report.refusal Study p c.args.line.now)
     (λ t. (t ≡ r.1.state) × Holds g.S.Pages.PageSource.honest g.S.Pages.PageSource.gives
@@ -56,7 +56,7 @@ pub returns-clause-err : goal.returns-clause-err
 returns-clause-err g c = λ p kind held at.
     let r = c.in_ok-reply.ensures.ok p.state (trusted-study c.args.line.now kind) held in
     let no : r.1.refused ≡ false = sym r.5 ∙ c.if-reply.false in
-    let found = pgn-finds p.state r.0 p.state.document r.1 (pgn-asked p.state r.0 r.1 (command_of c.args.line.now) kind r.2) no in
+    let found = study-finds p.state c.args.line.now r.0 r.1 kind r.2 no in
     stops-weaker (IsStudyTold g.T.Report.tells g.T.Report.refusal p r.1.state c.args.line.now)
     (IsAddedAs g.T.Report.tells g.T.Report.refusal Study p c.args.line.now)
     c.tell_study.result (g.W.Write.contents c.args.out.now) (g.W.Write.contents c.tell_study.new.out)
@@ -74,3 +74,12 @@ returns-clause-listed g c = λ p told kind held kept.
     let r = c.in_ok-reply.ensures.ok p.state (trusted-study c.args.line.now kind) held in
     subst (λ (b : Document). IfOk c.tell_study.result (λ t. g.T.Report.lists c.tell_study.new.report (told ++ listed_in t b (c.args.at.studies + 1))))
     (sym r.4.held.document) (c.tell_study.ensures.listed r.1.state told r.4.held kept)
+
+pub returns-then-reply-clause-written : goal.returns-then-reply-clause-written
+returns-then-reply-clause-written g c =
+    refusal-of-reply g.T.Report.form g.T.Report.refusal c.args.line.now c.args.at.line (c.args.at.studies + 1) c.as_slice-bytes.result.now
+    c.in_ok-reply.reply.refused c.add_refusal.result (g.W.Write.contents c.args.out.now) (g.W.Write.contents c.add_refusal.new.out)
+    (rw c.as_slice-bytes.ensures.value c.in_ok-reply.ensures.written) c.if-reply.true c.add_refusal.ensures.ok
+
+pub returns-then-reply-clause-unlisted : goal.returns-then-reply-clause-unlisted
+returns-then-reply-clause-unlisted g c = λ told kept. on-err c.add_refusal.result _ (c.add_refusal.ensures.listed told kept)

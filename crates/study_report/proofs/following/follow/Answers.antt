@@ -5,6 +5,7 @@ use Rattle.study_command.specs.Lines.{GaveFeeds}
 use Rattle.study_command.proofs.LineTaken.{has_more, has_none, gave-more, gave-same}
 use Rattle.study_script.proofs.FirstLines.{Gone, gone_none, gone_ends, gone_long, gone_many, gone_more, gone_read}
 use Rattle.study_marks.specs.Edits.{Plainly}
+use Rattle.study_script.specs.declared.running.RunFault.TheVariants.{ReadDevice, LineTooLong, TooManyLines}
 use Rattle.study_script.specs.Held.{document_seen}
 use Rattle.study_script.specs.Session.{SessionHolds}
 use Rattle.study_script.specs.Stores.{HonestOn}
@@ -13,6 +14,9 @@ use Rattle.study_report.specs.Told.{IsAdded, listed_in}
 use Rattle.study_report.specs.Written.{none_trusted, Adds, Stops}
 use Rattle.study_report.proofs.FirstAdded.{HasTold, ToldOn-more, few-told, told_none, told_after, told_listed, listed-before}
 use Rattle.study_report.proofs.FirstAdded.{told_ends, told_long, told_many, told_read, told_stops, gone_stops}
+use Rattle.study_report.proofs.FirstAdded.{told_before, told_before_stop}
+use Rattle.study_report.proofs.PartsWritten.{HasParts, parts_none, parts_more, parts_end, parts_long, parts_read, parts_many, parts_stop}
+use Rattle.study_report.specs.Parts.{WritesPart, IsPart}
 use Rattle.study_report.proofs.following.follow.Goals as goal
 
 pub returns-in-Err-TooLong-clause-outcome : goal.returns-in-Err-TooLong-clause-outcome
@@ -206,6 +210,7 @@ loop-n-init g c = (
   omega arith,
   ([], Consumes-nil (g.R.Read.remaining c.args.script.now), omega arith),
   gone_none (g.R.Read.remaining c.args.script.now),
+  parts_none g.T.Report.form g.T.Report.refusal (g.R.Read.remaining c.args.script.now) (g.W.Write.contents c.args.out.now),
 )
 
 pub loop-n-preserved : goal.loop-n-preserved
@@ -249,4 +254,112 @@ loop-n-preserved g c =
           (g.R.Read.remaining c.read.new.script) c.loop-n.n 1 c.loop-n.invariant.3 c.in-Ok-true.ensures.one_feed,
       gone_more (g.R.Read.remaining c.args.script.now) (g.R.Read.remaining c.loop-n.script)
           (g.R.Read.remaining c.read.new.script) line c.loop-n.n c.loop-n.invariant.4 some c.in-Ok-true.ensures.short,
+      parts_more g.T.Report.form g.T.Report.refusal (g.R.Read.remaining c.args.script.now) (g.R.Read.remaining c.loop-n.script)
+          (g.R.Read.remaining c.read.new.script) (g.W.Write.contents c.args.out.now) mid new line c.loop-n.n (c.loop-n.n + 1)
+          c.loop-n.refused _ c.loop-n.studies _ told c.loop-n.invariant.5 some refl
+          (rw c.as_slice.ensures at c.in-Ok.ensures.written)
+          (ap (λ i. c.loop-n.refused + i) counted) (ap (λ i. c.loop-n.studies + i) numbered),
     )
+
+-- ---- what is written, whatever is held
+
+pub returns-in-Err-TooLong-clause-fits : goal.returns-in-Err-TooLong-clause-fits
+returns-in-Err-TooLong-clause-fits g c =
+    parts_long g.T.Report.form g.T.Report.refusal (g.R.Read.remaining c.read.new.script) (g.R.Read.remaining c.args.script.now)
+    (g.R.Read.remaining c.loop-n.script) (g.W.Write.contents c.args.out.now) (g.W.Write.contents c.loop-n.out) c.loop-n.n c.loop-n.refused
+    c.loop-n.studies c.loop-n.invariant.5
+
+pub returns-in-Ok-false-clause-fits : goal.returns-in-Ok-false-clause-fits
+returns-in-Ok-false-clause-fits g c =
+    let none = rw c.in-Ok-false.field-0-test at c.in-Ok-false.ensures.line in
+    parts_end g.T.Report.form g.T.Report.refusal (g.R.Read.remaining c.read.new.script) (g.R.Read.remaining c.args.script.now)
+    (g.R.Read.remaining c.loop-n.script) (g.R.Read.remaining c.read.new.script) (g.W.Write.contents c.args.out.now)
+    (g.W.Write.contents c.loop-n.out) c.read.new.self c.loop-n.n c.loop-n.refused c.loop-n.studies c.loop-n.invariant.5 none
+
+pub returns-in-Err-clause-fits : goal.returns-in-Err-clause-fits
+returns-in-Err-clause-fits g c =
+    parts_stop g.T.Report.form g.T.Report.refusal (g.R.Read.remaining c.read.new.script) (g.W.Write.contents c.args.out.now)
+    (g.W.Write.contents c.add_line.new.out) (g.R.Read.remaining c.args.script.now) c.in-Err.fault c.in-Err.ensures.stops
+
+pub returns-in-Ok-None-clause-fits : goal.returns-in-Ok-None-clause-fits
+returns-in-Ok-None-clause-fits g c =
+    let end = rw c.in-Ok-None.field-0-is at c.in-Ok-None.ensures.end in
+    let script = g.R.Read.remaining c.args.script.now in
+    let now = g.R.Read.remaining c.loop-n.script in
+    let old = g.W.Write.contents c.args.out.now in
+    let new = g.W.Write.contents c.loop-n.out in
+    let at : c.loop-n.n ≡ 100000 = omega arith in
+    let parts = subst (λ k. HasParts g.T.Report.form g.T.Report.refusal script now old new k c.loop-n.refused c.loop-n.studies) at c.loop-n.invariant.5 in
+    parts_end g.T.Report.form g.T.Report.refusal (g.R.Read.remaining c.read_byte.new.script) script now (g.R.Read.remaining c.read_byte.new.script)
+    old new [] 100000 c.loop-n.refused c.loop-n.studies parts (has_none now (g.R.Read.remaining c.read_byte.new.script) end.0 end.1)
+
+pub returns-in-Ok-Some-clause-fits : goal.returns-in-Ok-Some-clause-fits
+returns-in-Ok-Some-clause-fits g c =
+    let script = g.R.Read.remaining c.args.script.now in
+    let now = g.R.Read.remaining c.loop-n.script in
+    let old = g.W.Write.contents c.args.out.now in
+    let new = g.W.Write.contents c.loop-n.out in
+    let at : c.loop-n.n ≡ 100000 = omega arith in
+    let parts = subst (λ k. HasParts g.T.Report.form g.T.Report.refusal script now old new k c.loop-n.refused c.loop-n.studies) at c.loop-n.invariant.5 in
+    parts_many g.T.Report.form g.T.Report.refusal (g.R.Read.remaining c.read_byte.new.script) script now old new c.loop-n.refused c.loop-n.studies parts
+
+pub returns-in-Err-Device-clause-fits : goal.returns-in-Err-Device-clause-fits
+returns-in-Err-Device-clause-fits g c =
+    let script = g.R.Read.remaining c.args.script.now in
+    let now = g.R.Read.remaining c.loop-n.script in
+    let left = g.R.Read.remaining c.read.new.script in
+    parts_read g.T.Report.form g.T.Report.refusal left script now (g.W.Write.contents c.args.out.now) (g.W.Write.contents c.loop-n.out)
+    c.loop-n.n c.loop-n.refused c.loop-n.studies c.loop-n.invariant.5
+    (gave-same script now left c.loop-n.n c.loop-n.invariant.3 (c.in-Err-Device.ensures.no_feed cc))
+
+pub returns-in-Err-read_byte-clause-fits : goal.returns-in-Err-read_byte-clause-fits
+returns-in-Err-read_byte-clause-fits g c =
+    let script = g.R.Read.remaining c.args.script.now in
+    let now = g.R.Read.remaining c.loop-n.script in
+    let left = g.R.Read.remaining c.read_byte.new.script in
+    let kept : GaveFeeds now left 0 = ([], Consumes-kept now now left [] (Consumes-nil now) c.in-Err-read_byte.ensures.err, omega arith) in
+    parts_read g.T.Report.form g.T.Report.refusal left script now (g.W.Write.contents c.args.out.now) (g.W.Write.contents c.loop-n.out)
+    c.loop-n.n c.loop-n.refused c.loop-n.studies c.loop-n.invariant.5 (gave-same script now left c.loop-n.n c.loop-n.invariant.3 kept)
+
+-- ---- the list of a run that stopped
+
+pub returns-in-Err-TooLong-clause-listed_before : goal.returns-in-Err-TooLong-clause-listed_before
+returns-in-Err-TooLong-clause-listed_before g c = λ first before h kept.
+    let on = c.loop-n.invariant.0 first h in
+    told_before g.T.Report.tells g.T.Report.refusal (λ more. g.T.Report.lists c.loop-n.report (before ++ more)) (g.R.Read.remaining c.args.script.now)
+    (g.R.Read.remaining c.loop-n.script) (g.W.Write.contents c.args.out.now) (g.W.Write.contents c.loop-n.out) first on.point
+    c.loop-n.n c.loop-n.refused (LineTooLong (c.loop-n.n + 1)) on.told (λ more l. l before kept) (λ p all added w. (refl, w))
+
+pub returns-in-Ok-Some-clause-listed_before : goal.returns-in-Ok-Some-clause-listed_before
+returns-in-Ok-Some-clause-listed_before g c = λ first before h kept.
+    let on = c.loop-n.invariant.0 first h in
+    let at : c.loop-n.n ≡ 100000 = omega arith in
+    told_before g.T.Report.tells g.T.Report.refusal (λ more. g.T.Report.lists c.loop-n.report (before ++ more)) (g.R.Read.remaining c.args.script.now)
+    (g.R.Read.remaining c.loop-n.script) (g.W.Write.contents c.args.out.now) (g.W.Write.contents c.loop-n.out) first on.point
+    c.loop-n.n c.loop-n.refused TooManyLines on.told (λ more l. l before kept) (λ p all added w. (at, w))
+
+pub returns-in-Err-Device-clause-listed_before : goal.returns-in-Err-Device-clause-listed_before
+returns-in-Err-Device-clause-listed_before g c = λ first before h kept.
+    let on = c.loop-n.invariant.0 first h in
+    told_before g.T.Report.tells g.T.Report.refusal (λ more. g.T.Report.lists c.loop-n.report (before ++ more)) (g.R.Read.remaining c.args.script.now)
+    (g.R.Read.remaining c.loop-n.script) (g.W.Write.contents c.args.out.now) (g.W.Write.contents c.loop-n.out) first on.point
+    c.loop-n.n c.loop-n.refused ReadDevice on.told (λ more l. l before kept) (λ p all added w. w)
+
+pub returns-in-Err-read_byte-clause-listed_before : goal.returns-in-Err-read_byte-clause-listed_before
+returns-in-Err-read_byte-clause-listed_before g c = λ first before h kept.
+    let on = c.loop-n.invariant.0 first h in
+    told_before g.T.Report.tells g.T.Report.refusal (λ more. g.T.Report.lists c.loop-n.report (before ++ more)) (g.R.Read.remaining c.args.script.now)
+    (g.R.Read.remaining c.loop-n.script) (g.W.Write.contents c.args.out.now) (g.W.Write.contents c.loop-n.out) first on.point
+    c.loop-n.n c.loop-n.refused ReadDevice on.told (λ more l. l before kept) (λ p all added w. w)
+
+pub returns-in-Err-clause-listed_before : goal.returns-in-Err-clause-listed_before
+returns-in-Err-clause-listed_before g c = λ first before h kept.
+    let on = c.loop-n.invariant.0 first h in
+    let some = rw c.in-Ok-true.field-0-test at c.in-Ok-true.ensures.line in
+    let stop : Stops (IsAdded g.T.Report.tells g.T.Report.refusal on.point c.read.new.self) (g.W.Write.contents c.loop-n.out)
+    (g.W.Write.contents c.add_line.new.out) c.in-Err.fault =
+    rw c.as_slice.ensures at (c.in-Err.ensures.err on.point on.held (omega (arith, on.lines_are), on.studies_are)) in
+    told_before_stop g.T.Report.tells g.T.Report.refusal (λ more. g.T.Report.lists c.add_line.new.report (before ++ more))
+    (g.R.Read.remaining c.args.script.now) (g.R.Read.remaining c.loop-n.script) (g.R.Read.remaining c.read.new.script)
+    (g.W.Write.contents c.args.out.now) (g.W.Write.contents c.loop-n.out) (g.W.Write.contents c.add_line.new.out) first on.point c.read.new.self
+    c.loop-n.n c.loop-n.refused c.in-Err.fault on.told some (λ more l. c.in-Err.ensures.unlisted (before ++ more) (l before kept)) stop

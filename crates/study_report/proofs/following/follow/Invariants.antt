@@ -7,6 +7,7 @@ use Rattle.study_script.specs.Stores.{HonestOn}
 use Rattle.study_script.proofs.FirstLines.{Gone}
 use Rattle.study_report.specs.Written.{none_trusted}
 use Rattle.study_report.proofs.FirstAdded.{ToldOn}
+use Rattle.study_report.proofs.PartsWritten.{HasParts}
 use Rattle.study_report.proofs.following.follow.Given as goal
 
 abbrev pub invariant-loop-n : goal.invariant-loop-n
@@ -23,3 +24,5 @@ invariant-loop-n g l =
     (g.W.Write.contents l.fn.out) (g.W.Write.contents l.out) first l.n l.refused l.studies)
     × (l.refused ≤ l.n) × (l.studies ≤ l.n) × GaveFeeds (g.R.Read.remaining l.fn.script) (g.R.Read.remaining l.script) l.n
     × Gone (g.R.Read.remaining l.fn.script) (g.R.Read.remaining l.script) l.n
+    × HasParts g.T.Report.form g.T.Report.refusal (g.R.Read.remaining l.fn.script) (g.R.Read.remaining l.script)
+    (g.W.Write.contents l.fn.out) (g.W.Write.contents l.out) l.n l.refused l.studies

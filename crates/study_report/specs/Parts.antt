@@ -1,0 +1,93 @@
+-- What a report writes, whatever is held and whatever its tables say.
+use Rattle.std.specs.Prelude.{◌≡◌, ◌⊎◌, ℕ, suc, ◌+◌, ◌-◌, ◌≤◌, Bool, true, false, List, [], ◌∷◌, length, take}
+use Rattle.std.specs.Prelude.{Option, Some, Result, Ok, Err, sum_by, if◌then◌else◌}
+use Rattle.std.specs.List.{flat_map}
+use Rattle.std.specs.Io.KnownBytes.{Appends}
+use Rattle.study_command.specs.Lines.{script_lines, GaveFeeds}
+use Rattle.study_command.specs.Parser.{command_of}
+use Rattle.study_reply.specs.declared.refusal.Refusal.TheVariants.{NotAClass}
+use Rattle.study_reply.specs.Names.{words_of}
+use Rattle.study_script.specs.declared.running.Summary.{Summary}
+use Rattle.study_script.specs.declared.running.RunFault.{RunFault}
+use Rattle.study_script.specs.declared.running.RunFault.TheVariants.{ReadDevice, WriteDevice, LineTooLong, TooManyLines, OutOfMemory}
+use Rattle.study_script.specs.Written.{Piece, IsPiece, error_of}
+use Rattle.study_report.specs.declared.kind.Kind.{Kind}
+use Rattle.study_report.specs.declared.kind.Kind.TheVariants.{PassedOver, NoClass, Study, Checked}
+use Rattle.study_report.specs.declared.told.Told.{Told}
+use Rattle.study_report.specs.declared.told.Told.TheVariants.{Nothing, Study as AStudy, Refusal as ARefusal}
+use Rattle.study_report.specs.Told.{kind_in, study_count, refusal_count}
+
+-- what is written for a line, and what that tells
+pub record Part : Type 0 where
+  pub text : List ℕ
+  pub told : Told
+
+abbrev pub nothing_part : Part
+nothing_part = record { text = []; told = Nothing }
+
+abbrev pub study_part : List ℕ → Part
+study_part text = record { text = text; told = AStudy }
+
+abbrev pub parts_text : List Part → List ℕ
+parts_text parts = flat_map (λ part. part.text) parts
+
+-- how many studies are told, and how many lines are refused
+abbrev pub part_studies : List Part → ℕ
+part_studies parts = sum_by (λ part. study_count part.told) parts
+
+abbrev pub part_refusals : List Part → ℕ
+part_refusals parts = sum_by (λ part. refusal_count part.told) parts
+
+-- a part with the property is written, and this was told
+abbrev pub WritesPart : (Part → Type 0) → Option (List ℕ) → Option (List ℕ) → Told → Type 0
+WritesPart IsIt old new told = (part : Part) × IsIt part × Appends old new part.text × (told ≡ part.told)
+
+-- the reply of a script to a line
+abbrev pub IsReplyPiece : List ℕ → List ℕ → Bool → Type 0
+IsReplyPiece line bytes was_refused = (piece : Piece) × IsPiece line piece × (bytes ≡ piece.text) × (was_refused ≡ piece.refused)
+
+module _ (form : ℕ → List ℕ → Type 0) (refusal : ℕ → List ℕ → List ℕ → List ℕ) where
+  abbrev pub refused_part : ℕ → List ℕ → List ℕ → Part
+  refused_part number line reply = record { text = refusal number line reply; told = ARefusal }
+
+  -- nothing where the script's reply is no error
+  abbrev pub checked_part : ℕ → List ℕ → Piece → Part
+  checked_part number line piece = if piece.refused then refused_part number line piece.text else nothing_part
+
+  -- What is written for a line of this number, where the study that is told next has that number: a `pgn` line tells a study, in the report's
+  -- form, or it is refused; another one tells nothing, or it is refused.
+  abbrev pub IsPartAs : Kind → ℕ → ℕ → List ℕ → Part → Type 0
+  IsPartAs PassedOver number next line part = part ≡ nothing_part
+  IsPartAs NoClass number next line part = part ≡ refused_part number line (error_of (words_of NotAClass)).text
+  IsPartAs Study number next line part =
+      ((words : List ℕ) × (part ≡ refused_part number line (error_of words).text)) ⊎ ((text : List ℕ) × form next text × (part ≡ study_part text))
+  IsPartAs Checked number next line part = (piece : Piece) × IsPiece line piece × (part ≡ checked_part number line piece)
+
+  abbrev pub IsPart : ℕ → ℕ → List ℕ → Part → Type 0
+  IsPart number next line part = IsPartAs (kind_in (command_of line)) number next line part
+
+  -- a part for each line, after so many lines and studies
+  abbrev pub AreParts : ℕ → ℕ → List (List ℕ) → List Part → Type 0
+  AreParts lines studies [] [] = Unit {0}
+  AreParts lines studies [] (part ∷ parts) = ⊥
+  AreParts lines studies (line ∷ more) [] = ⊥
+  AreParts lines studies (line ∷ more) (part ∷ parts) =
+      IsPart (suc lines) (suc studies) line part × AreParts (suc lines) (studies + study_count part.told) more parts
+
+  -- a part for each of these lines is written, and so many of them are refusals
+  abbrev pub AreWritten : List (List ℕ) → Option (List ℕ) → Option (List ℕ) → ℕ → Type 0
+  AreWritten lines old new count =
+      (parts : List Part) × AreParts 0 0 lines parts × Appends old new (parts_text parts) × (count ≡ part_refusals parts)
+
+  -- What a report wrote, by the bytes of its script, what the reader has left of them, what the writer had and has, and the answer: a part for each
+  -- line that it read, of which so many are refusals as it counts. So it answers no refusal exactly where it wrote none. Where it stopped for the
+  -- writer or for memory, what it wrote is left open here.
+  abbrev pub Fits : List ℕ → Option (List ℕ) → Option (List ℕ) → Option (List ℕ) → Result Summary RunFault → Type 0
+  Fits script left old new (Ok summary) = AreWritten (script_lines script) old new summary.refused
+  Fits script left old new (Err ReadDevice) =
+      (n : ℕ) × (n ≤ length (script_lines script)) × GaveFeeds (Some script) left n
+      × (count : ℕ) × AreWritten (take n (script_lines script)) old new count
+  Fits script left old new (Err (LineTooLong n)) = (count : ℕ) × AreWritten (take (n - 1) (script_lines script)) old new count
+  Fits script left old new (Err TooManyLines) = (count : ℕ) × AreWritten (take 100000 (script_lines script)) old new count
+  Fits script left old new (Err WriteDevice) = Unit {0}
+  Fits script left old new (Err OutOfMemory) = Unit {0}
