@@ -26,3 +26,5 @@ mod script_moves;
 mod script_reference;
 #[cfg(test)]
 mod script_refusals;
+#[cfg(test)]
+mod script_separate;

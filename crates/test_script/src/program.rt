@@ -10,7 +10,7 @@ use study_text::{MemoryReader, MemoryWriter, WhenFull};
 fn check_words(
     rt: &HostRuntime,
     given: &[&str],
-    wanted: Result<(&str, Option<u16>), (i32, &str)>,
+    wanted: Result<(&str, Option<u16>, bool), (i32, &str)>,
 ) -> Result<(), Fail> {
     let mut words = Vec::new(rt.alloc());
     words.push(String::from_str(rt.alloc(), "studybench")?)?;
@@ -18,7 +18,7 @@ fn check_words(
         words.push(String::from_str(rt.alloc(), word)?)?;
     }
     let is_right = match read_words(rt.alloc(), words.as_slice()) {
-        Ok(options) => wanted == Ok((options.tables, options.pages)),
+        Ok(options) => wanted == Ok((options.tables, options.pages, options.separate)),
         Err(error) => {
             let told = format!(in rt.alloc(); "{error}")?;
             match wanted {
@@ -37,14 +37,15 @@ fn check_words(
 /// Options are read.
 #[test]
 fn options_are_read(rt: HostRuntime) -> Result<(), Fail> {
-    check_words(&rt, &[], Ok((".", None)))?;
-    check_words(&rt, &["--tables=t"], Ok(("t", None)))?;
-    check_words(&rt, &["--tables", "/"], Ok(("/", None)))?;
-    check_words(&rt, &["--pages=1"], Ok((".", Some(1))))?;
+    check_words(&rt, &[], Ok((".", None, false)))?;
+    check_words(&rt, &["--tables=t"], Ok(("t", None, false)))?;
+    check_words(&rt, &["--tables", "/"], Ok(("/", None, false)))?;
+    check_words(&rt, &["--separate"], Ok((".", None, true)))?;
+    check_words(&rt, &["--pages=1"], Ok((".", Some(1), false)))?;
     check_words(
         &rt,
         &["--pages", "4096", "--tables", "t"],
-        Ok(("t", Some(4096))),
+        Ok(("t", Some(4096), false)),
     )
 }
 
@@ -89,6 +90,7 @@ fn check_ends<A: Allocator>(
     let options = Options {
         tables: ".",
         pages: Some(1),
+        separate: false,
     };
     let ended = answer_script(rt, alloc, &options, script, out, &mut errors);
     if out.taken.as_slice() == replies && ended == status && errors.taken.as_slice() == told {

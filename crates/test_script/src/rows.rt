@@ -30,7 +30,10 @@ pub(crate) fn replies_of<'a, S: TableStore, A: Allocator>(
         &mut MemoryReader::new(script),
         &mut writer,
         store,
-        Settings { pages },
+        Settings {
+            pages,
+            separate: false,
+        },
     );
     (writer.taken, answer)
 }

@@ -36,7 +36,10 @@ fn a_failing_writer_has_a_prefix_of_the_replies(rt: HostRuntime) {
                 &mut reader,
                 &mut writer,
                 &mut no_files(&alloc),
-                Settings { pages: None },
+                Settings {
+                    pages: None,
+                    separate: false,
+                },
             );
             assert_eq!(rt; answer, Err(RunFault::WriteDevice), "{room}");
             let (front, _) = REPLIES.split_at(room);
@@ -64,7 +67,10 @@ fn a_failing_reader_leaves_the_replies_before_it(rt: HostRuntime) {
             &mut MemoryReader::failing_after(SCRIPT, count),
             &mut writer,
             &mut no_files(&alloc),
-            Settings { pages: None },
+            Settings {
+                pages: None,
+                separate: false,
+            },
         );
         assert_eq!(rt; answer, Err(RunFault::ReadDevice), "{count}");
         let written = if count < 39 {

@@ -75,7 +75,10 @@ fn replies_over(
         &mut MemoryReader::new(script),
         &mut writer,
         &mut no_files(&alloc),
-        Settings { pages: None },
+        Settings {
+            pages: None,
+            separate: false,
+        },
     );
     let text = writer.taken.as_slice().to_vec(alloc)?;
     Ok((text, answer))
