@@ -146,11 +146,13 @@ module _ (form : ℕ → List ℕ → Type 0) (refusal : ℕ → List ℕ → Li
   parts-more n k (l ∷ lines) (x ∷ parts) line part h r =
       let e : suc (n + length (l ∷ lines)) ≡ suc (suc n + length lines) = omega arith in
       let split : part_studies (x ∷ parts) ≡ study_count x.told + part_studies parts =
-          sum_by-cons (λ (p : Part). study_count p.told) x parts in
-      let f : suc (k + part_studies (x ∷ parts)) ≡ suc ((k + study_count x.told) + part_studies parts) = omega (arith, split) in
-      (h.0, parts-more (suc n) (k + study_count x.told) lines parts line part h.1
-      (subst (λ i. IsPart form refusal (suc (suc n + length lines)) i line part) f
-      (subst (λ i. IsPart form refusal i (suc (k + part_studies (x ∷ parts))) line part) e r)))
+      sum_by-cons (λ (p : Part). study_count p.told) x parts in
+      let f : suc (k + part_studies (x ∷ parts)) ≡ suc ((k + study_count x.told) + part_studies parts) = omega (arith, split) in (
+        h.0,
+        parts-more (suc n) (k + study_count x.told) lines parts line part h.1
+            (subst (λ i. IsPart form refusal (suc (suc n + length lines)) i line part) f
+            (subst (λ i. IsPart form refusal i (suc (k + part_studies (x ∷ parts))) line part) e r)),
+      )
 
   text-more : (parts : List Part) (part : Part) → parts_text (parts ++ part ∷ []) ≡ parts_text parts ++ part.text
   text-more [] part = append-nil part.text
@@ -200,7 +202,7 @@ module _ (form : ℕ → List ℕ → Type 0) (refusal : ℕ → List ℕ → Li
       let at-line : number ≡ suc (0 + length (take n all)) = omega (arith, at, len) in
       let at-study : studies + 1 ≡ suc (0 + part_studies v.parts) = omega (arith, v.studies_are) in
       let there = subst (λ i. IsPart form refusal (suc (0 + length (take n all))) i line part) at-study
-          (subst (λ i. IsPart form refusal i (studies + 1) line part) at-line is) in
+      (subst (λ i. IsPart form refusal i (studies + 1) line part) at-line is) in
       record {
         known = record {
           left_is = ap (λ i. drop i all) e ∙ f.2;

@@ -86,5 +86,5 @@ begins s number t0 t1 f1 t2 n2 text te h t e =
     let a = study_line s number in
     let b = stipulation_line s ++ empty_line s in
     let same : text ≡ a ++ (b ++ (f1 ++ n2)) = e ∙ ap (λ (u : List ℕ). u ++ n2) (t ∙ ap (λ (u : List ℕ). u ++ f1) (h ∙ ap (λ (u : List ℕ). u ++ (a ++ b)) te))
-        ∙ append_assoc (a ++ b) f1 n2 ∙ append_assoc a b (f1 ++ n2) in
+    ∙ append_assoc (a ++ b) f1 n2 ∙ append_assoc a b (f1 ++ n2) in
     subst (BeginsReview number) (sym same) (study-line-begins s number (b ++ (f1 ++ n2)))

@@ -1,6 +1,5 @@
 //! Scripts of several studies: with `separate`, none edits the study before it.
 use crate::rows::{Case, Rows, no_files};
-
 use std::alloc::Global;
 use std::process::Abort;
 use std::test::Fail;
@@ -52,7 +51,8 @@ fen root -> fen 7k/8/8/8/8/8/8/7K w - - 0 1
 insert root Kg1 -> insert 0 Kg1";
 
 /// Each refusal of such a line counts, of its form too; no other line does, and neither does a comment.
-const REFUSED: Rows<'static> = "position k7/8/8/8/8/8/8/K7 w - - 0 1 -> position k7/8/8/8/8/8/8/K7 w - - 0 1
+const REFUSED: Rows<'static> =
+    "position k7/8/8/8/8/8/8/K7 w - - 0 1 -> position k7/8/8/8/8/8/8/K7 w - - 0 1
 positions x -> error UnknownCommand
 fen 0 position -> error BadArguments
 stipulate position -> error UnknownStipulation
@@ -147,7 +147,10 @@ fn entries_of(rt: &impl Abort, alloc: Global, text: &[u8]) -> Vec<u8> {
 }
 
 /// What a report over the table of two kings writes, and what it answers.
-fn reported<'a>(rt: &impl Abort, alloc: &'a Global) -> (Vec<u8, &'a Global>, Result<Summary, RunFault>) {
+fn reported<'a>(
+    rt: &impl Abort,
+    alloc: &'a Global,
+) -> (Vec<u8, &'a Global>, Result<Summary, RunFault>) {
     let class = Class::parse("KK").ok().expect(rt, "a class");
     let mut set = TableSet::new(alloc).ok().expect(rt, "a set");
     let room = BuildRoom::new(alloc, cells(class)).ok().expect(rt, "room");
