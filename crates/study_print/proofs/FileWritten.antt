@@ -1,6 +1,6 @@
 -- A whole file of pages, by what was written one after the other.
 use Rattle.std.proofs.Common.{◌≡◌, ℕ, List, ◌++◌, Option, Some, None, Result, Ok, Err, refl, inl, inr, true, false, Bool, is_err}
-use Rattle.std.specs.Prelude.{IfSome, OnOk}
+use Rattle.std.specs.Prelude.{IfSome, IfErr, OnOk}
 use Rattle.std.specs.Io.KnownBytes.{Appends}
 use Rattle.study_text.specs.Taken.{TakesPrefix}
 use Rattle.study_marks.specs.Edits.{Plainly}
@@ -8,12 +8,13 @@ use Rattle.study_script.specs.declared.running.Summary.{Summary}
 use Rattle.study_script.specs.declared.running.RunFault.{RunFault}
 use Rattle.study_script.specs.declared.running.RunFault.TheVariants.{ReadDevice, WriteDevice, LineTooLong, TooManyLines, OutOfMemory}
 use Rattle.study_script.specs.State.{State}
-use Rattle.study_report.specs.Outcome.{Outcome, AreListed, Shape}
+use Rattle.study_report.specs.Outcome.{Outcome, AreListed, AreListedBefore, Shape}
+use Rattle.study_report.specs.Parts.{Fits}
 use Rattle.study_html.specs.Frame.{opening}
-use Rattle.study_page.specs.Page.{IsPageOf}
+use Rattle.study_page.specs.Page.{IsPageOf, IsEntry}
 use Rattle.study_print.specs.declared.pages.Count.{Count}
 use Rattle.study_print.specs.Entries.{AreEntries}
-use Rattle.study_print.specs.Pages.{refusal_text, end_text, is_broken, IsClosed, IsEndedIf, IsEnded, AreItsEntries, IsFile, FileShape, IsAnswerTo}
+use Rattle.study_print.specs.Pages.{refusal_text, end_text, is_broken, IsClosed, IsEndedIf, IsEnded, AreItsEntries, IsFile, FileShape, IsAnswerTo, FileFits}
 
 pub where_ok : {A E : Type 0} (r : Result A E) (P : Type 0) → is_err r ≡ false → OnOk r P → P
 where_ok (Ok x) P e h = h
@@ -23,25 +24,23 @@ where_ok (Err x) P e h = absurd cc
 
 module _ (first : State) (left old begun ended new : Option (List ℕ)) (answer : Result Summary RunFault) (count : Count) (rows : List ℕ) where
   listed_in : (script : List ℕ) (ran : Result Summary RunFault)
-      → OnOk ran (AreListed IsPageOf refusal_text first script begun ended (AreEntries count rows))
-      → AreItsEntries first script begun ended ran count rows
-  listed_in script (Ok summary) h = h
-  listed_in script (Err fault) h = tt
-
-  listed_if : (script : List ℕ) (ran : Result Summary RunFault)
       → OnOk ran (IfSome (Some script) (λ bytes. AreListed IsPageOf refusal_text first bytes begun ended (AreEntries count rows)))
-      → OnOk ran (AreListed IsPageOf refusal_text first script begun ended (AreEntries count rows))
-  listed_if script (Ok summary) h = h
-  listed_if script (Err fault) h = tt
+      → IfErr ran (λ fault. IfSome (Some script)
+      (λ bytes. AreListedBefore IsPageOf refusal_text first bytes begun ended (AreEntries count rows) fault))
+      → AreItsEntries first script begun ended ran count rows
+  listed_in script (Ok summary) h k = h
+  listed_in script (Err fault) h k = k
 
   pub whole_file : (given : Option (List ℕ)) (ran : Result Summary RunFault) → Appends old begun opening
       → IfSome given (λ bytes. Outcome IsPageOf refusal_text first bytes left begun ended ran)
       → OnOk ran (IfSome given (λ bytes. AreListed IsPageOf refusal_text first bytes begun ended (AreEntries count rows)))
+      → IfErr ran (λ fault. IfSome given
+      (λ bytes. AreListedBefore IsPageOf refusal_text first bytes begun ended (AreEntries count rows) fault))
       → IsEnded (end_text count rows) ended new ran answer
       → IfSome given (λ bytes. IsFile first bytes left old new answer)
-  whole_file None ran opened told listed end = tt
-  whole_file (Some script) ran opened told listed end =
-      inr (begun, ended, ran, count, rows, opened, told, listed_in script ran (listed_if script ran listed), end)
+  whole_file None ran opened told listed before end = tt
+  whole_file (Some script) ran opened told listed before end =
+      inr (begun, ended, ran, count, rows, opened, told, listed_in script ran listed before, end)
 
 -- the writer fails before the first line
 pub no_file : (first : State) (given old new : Option (List ℕ)) → TakesPrefix old new opening
@@ -66,3 +65,15 @@ whole_shape left old new (Some script) text ran answer h end = inr (ran, h, answ
 pub no_shape : (given : Option (List ℕ)) → IfSome given (λ bytes. FileShape bytes given (Err WriteDevice))
 no_shape None = tt
 no_shape (Some script) = inl (refl, refl)
+
+-- ---- what is written of it, whatever is held
+
+pub whole_fits : (left old begun ended new : Option (List ℕ)) (answer : Result Summary RunFault) (count : Count) (rows : List ℕ) (given : Option (List ℕ))
+    (ran : Result Summary RunFault) → Appends old begun opening → IfSome given (λ bytes. Fits IsEntry refusal_text bytes left begun ended ran)
+    → IsEnded (end_text count rows) ended new ran answer → IfSome given (λ bytes. FileFits bytes left old new answer)
+whole_fits left old begun ended new answer count rows None ran opened fits end = tt
+whole_fits left old begun ended new answer count rows (Some script) ran opened fits end = inr (begun, ended, ran, count, rows, opened, fits, end)
+
+pub no_fit : (given left old new : Option (List ℕ)) → TakesPrefix old new opening → IfSome given (λ bytes. FileFits bytes left old new (Err WriteDevice))
+no_fit None left old new h = tt
+no_fit (Some script) left old new h = inl (refl, h)

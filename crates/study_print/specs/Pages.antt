@@ -6,9 +6,10 @@ use Rattle.study_script.specs.declared.running.Summary.{Summary}
 use Rattle.study_script.specs.declared.running.RunFault.{RunFault}
 use Rattle.study_script.specs.declared.running.RunFault.TheVariants.{WriteDevice, OutOfMemory}
 use Rattle.study_script.specs.State.{State}
-use Rattle.study_report.specs.Outcome.{Outcome, AreListed, Shape}
+use Rattle.study_report.specs.Outcome.{Outcome, AreListed, AreListedBefore, Shape}
+use Rattle.study_report.specs.Parts.{Fits}
 use Rattle.study_html.specs.Frame.{opening, closing}
-use Rattle.study_page.specs.Page.{IsPageOf}
+use Rattle.study_page.specs.Page.{IsPageOf, IsEntry}
 use Rattle.study_page.specs.Lists.{refusal_part, summary_part}
 use Rattle.study_print.specs.declared.pages.Count.{Count}
 use Rattle.study_print.specs.declared.pages.Count.TheVariants.{Nothing, One, Several}
@@ -48,11 +49,10 @@ IsEndedIf false text old new ran answer = IsClosed text old new ran answer
 abbrev pub IsEnded : List ℕ → Option (List ℕ) → Option (List ℕ) → Result Summary RunFault → Result Summary RunFault → Type 0
 IsEnded text old new ran answer = IsEndedIf (is_broken ran) text old new ran answer
 
--- The entries of a run that came to its end are those of exactly the studies that it told. Which entries a run has that stopped at a fault is
--- left open here.
+-- The entries of a run are those of exactly the studies that it told; of one that stopped at a fault, those that the lines before the stop told.
 abbrev pub AreItsEntries : State → List ℕ → Option (List ℕ) → Option (List ℕ) → Result Summary RunFault → Count → List ℕ → Type 0
 AreItsEntries first script old new (Ok summary) count rows = AreListed IsPageOf refusal_text first script old new (AreEntries count rows)
-AreItsEntries first script old new (Err fault) count rows = Unit {0}
+AreItsEntries first script old new (Err fault) count rows = AreListedBefore IsPageOf refusal_text first script old new (AreEntries count rows) fault
 
 -- A file of pages, of what is held at the beginning, the bytes of a script, what the reader has left of them, what the writer had and has, and
 -- the answer: the opening; in script order the page of each study that an accepted `pgn` line told, and each refused line; the list of the
@@ -72,3 +72,11 @@ IsAnswerTo ran answer = (answer ≡ ran) ⊎ ((answer ≡ Err WriteDevice) ⊎ (
 abbrev pub FileShape : List ℕ → Option (List ℕ) → Result Summary RunFault → Type 0
 FileShape script left answer =
     ((answer ≡ Err WriteDevice) × (left ≡ Some script)) ⊎ ((ran : Result Summary RunFault) × Shape script left ran × IsAnswerTo ran answer)
+
+-- What is written of a file, whatever is held and whatever its tables say: the opening, the entries and the refusals of the lines, of which so many
+-- are refusals as are counted, and what comes after the last page.
+abbrev pub FileFits : List ℕ → Option (List ℕ) → Option (List ℕ) → Option (List ℕ) → Result Summary RunFault → Type 0
+FileFits script left old new answer =
+    ((answer ≡ Err WriteDevice) × TakesPrefix old new opening)
+    ⊎ ((begun ended : Option (List ℕ)) × (ran : Result Summary RunFault) × (count : Count) × (rows : List ℕ) × Appends old begun opening
+    × Fits IsEntry refusal_text script left begun ended ran × IsEnded (end_text count rows) ended new ran answer)

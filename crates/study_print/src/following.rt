@@ -8,7 +8,7 @@ ghost use Rattle.study_script.specs.Session.{SessionHolds};
 ghost use Rattle.study_script.specs.Stores.{HonestOn};
 ghost use Rattle.study_report.specs.Outcome.{over_tables};
 ghost use Rattle.study_report.specs.Written.{none_trusted};
-ghost use Rattle.study_print.specs.Pages.{IsFile, FileShape};
+ghost use Rattle.study_print.specs.Pages.{IsFile, FileShape, FileFits};
 
 use crate::ending::write_ending;
 use crate::pages::Pages;
@@ -35,6 +35,8 @@ pub fn follow_pages<'a, R: Read, W: Write, P: PageSource, A: Allocator, N: Watch
         (λ bytes. IsFile (over_tables classes (are_paged tables.entry)) bytes (R.remaining script.new)
         (W.contents out.old) (W.contents out.new) result) }
     ensures shape { IfSome (R.remaining script.old) (λ bytes. FileShape bytes (R.remaining script.new) result) }
+    ensures fits { IfSome (R.remaining script.old)
+        (λ bytes. FileFits bytes (R.remaining script.new) (W.contents out.old) (W.contents out.new) result) }
 {
     let mut store = NoFiles::new();
     follow_pages_over(alloc, script, out, watch, tables, &mut store)
@@ -54,6 +56,8 @@ pub fn follow_pages_over<'a, R: Read, W: Write, S: TableStore, A: Allocator, N: 
         → IfSome (R.remaining script.old)
         (λ bytes. IsFile first bytes (R.remaining script.new) (W.contents out.old) (W.contents out.new) result) }
     ensures shape { IfSome (R.remaining script.old) (λ bytes. FileShape bytes (R.remaining script.new) result) }
+    ensures fits { IfSome (R.remaining script.old)
+        (λ bytes. FileFits bytes (R.remaining script.new) (W.contents out.old) (W.contents out.new) result) }
 {
     if write_opening(out).is_err() {
         return Err(RunFault::WriteDevice);

@@ -76,11 +76,13 @@ fn with_row<'s, 'b, S: Allocator, B: Allocator>(
 }
 
 impl<'s, S: Allocator, N: Watch> Report for Pages<'s, S, N> {
-    ghost use Rattle.study_page.specs.Page.{IsPageOf};
+    ghost use Rattle.study_page.specs.Page.{IsPageOf, IsEntry};
     ghost use Rattle.study_print.specs.Entries.{AreEntries};
     ghost use Rattle.study_print.specs.Pages.{refusal_text};
 
     ghost tells = { λ plain number text. IsPageOf plain number text };
+
+    ghost form = { λ number text. IsEntry number text };
 
     ghost refusal = { λ number line reply. refusal_text number line reply };
 

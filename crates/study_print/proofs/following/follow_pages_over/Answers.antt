@@ -1,5 +1,5 @@
 use Rattle.std.proofs.Common.{[], sym, ◌∙◌}
-use Rattle.study_print.proofs.FileWritten.{where_ok, whole_file}
+use Rattle.study_print.proofs.FileWritten.{where_ok, whole_file, whole_fits}
 use Rattle.study_print.proofs.following.follow_pages_over.Goals as goal
 
 pub returns-clause-file : goal.returns-clause-file
@@ -10,4 +10,14 @@ returns-clause-file g c first holds =
     c.write_ending.result ran.new.report.count ran.new.report.rows (g.R.Read.remaining c.args.script.now) ran.result
     (where_ok c.write_opening.result _ (sym c.is_err.ensures.value ∙ c.if-is_err.false) c.write_opening.ensures.ok)
     (ran.ensures.outcome first holds) (ran.ensures.listed first [] holds (c.new-pages.ensures.count, c.new-pages.ensures.rows))
+    (ran.ensures.listed_before first [] holds (c.new-pages.ensures.count, c.new-pages.ensures.rows))
     c.write_ending.ensures
+
+pub returns-clause-fits : goal.returns-clause-fits
+returns-clause-fits g c =
+    let ran = c.follow_over-ran in
+    whole_fits (g.R.Read.remaining ran.new.script) (g.W.Write.contents c.args.out.now)
+    (g.W.Write.contents c.write_opening.new.out) (g.W.Write.contents ran.new.out) (g.W.Write.contents c.write_ending.new.out)
+    c.write_ending.result ran.new.report.count ran.new.report.rows (g.R.Read.remaining c.args.script.now) ran.result
+    (where_ok c.write_opening.result _ (sym c.is_err.ensures.value ∙ c.if-is_err.false) c.write_opening.ensures.ok)
+    ran.ensures.fits c.write_ending.ensures
