@@ -51,6 +51,7 @@ fn answer_over<'a, R: Read, W: Write, S: TableStore, A: Allocator>(
         document: Document::Empty,
         tables: Tables::Whole(WholeTables::new(TableSet::new(alloc)?)),
         store,
+        separate: false,
     };
     ended(run_session(&mut line, replies, out, &mut session))?;
     writeln!(out, "== {name}, lines of a report")?;

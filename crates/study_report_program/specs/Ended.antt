@@ -1,11 +1,14 @@
 -- What the program leaves behind.
 use Rattle.std.specs.Prelude.{◌≡◌, ℕ, ◌⊎◌, List, Option, Result, Err, IfSome}
+use Rattle.std.specs.Io.KnownBytes.{Keeps}
 use Rattle.study_script.specs.declared.running.Summary.{Summary}
 use Rattle.study_script.specs.declared.running.RunFault.{RunFault}
-use Rattle.study_script.specs.declared.running.RunFault.TheVariants.{WriteDevice}
+use Rattle.study_script.specs.declared.running.RunFault.TheVariants.{WriteDevice, OutOfMemory}
 use Rattle.study_program.specs.Status.{status_told}
 use Rattle.study_report.specs.Outcome.{Shape}
-use Rattle.study_print.specs.Pages.{FileShape}
+use Rattle.study_report.specs.Parts.{Fits}
+use Rattle.study_report.specs.Lines.{refusal_line, IsReviewForm}
+use Rattle.study_print.specs.Pages.{FileShape, FileFits}
 use Rattle.study_report_program.specs.declared.options.Form.{Form}
 use Rattle.study_report_program.specs.declared.options.Form.TheVariants.{Lines, Pages}
 
@@ -14,10 +17,20 @@ abbrev pub FormShape : Form → List ℕ → Option (List ℕ) → Result Summar
 FormShape Lines script left answer = Shape script left answer
 FormShape Pages script left answer = FileShape script left answer
 
--- a report in this form over these bytes answered so
-abbrev pub HasReported : Form → Option (List ℕ) → Option (List ℕ) → Result Summary RunFault → Type 0
-HasReported form script left answer = IfSome script (λ bytes. FormShape form bytes left answer)
+-- what it writes, by what the writer had and has: reviews and refusals, or the entries and refusals of a file of pages
+abbrev pub FormFits : Form → List ℕ → Option (List ℕ) → Option (List ℕ) → Option (List ℕ) → Result Summary RunFault → Type 0
+FormFits Lines script left old new answer = Fits IsReviewForm (λ number line reply. refusal_line number reply) script left old new answer
+FormFits Pages script left old new answer = ((answer ≡ Err OutOfMemory) × (new ≡ old)) ⊎ FileFits script left old new answer
 
--- the exit status of a run, or it ends as one whose writer failed, where the last text stays in a buffer
+-- a report in this form over these bytes answered so
+abbrev pub HasReported : Form → Option (List ℕ) → Option (List ℕ) → Option (List ℕ) → Option (List ℕ) → Result Summary RunFault → Type 0
+HasReported form script left old new answer = IfSome script (λ bytes. FormShape form bytes left answer × FormFits form bytes left old new answer)
+
+-- the same, and then its writer was flushed
+abbrev pub IsReported : Form → Option (List ℕ) → Option (List ℕ) → Option (List ℕ) → Option (List ℕ) → Result Summary RunFault → Type 0
+IsReported form script left old new answer = (written : Option (List ℕ)) × HasReported form script left old written answer × Keeps written new
+
+-- The exit status of a run, or it ends as one whose writer failed, where the last text stays in a buffer. That it ends with 3 and has read nothing,
+-- for want of memory, no clause excludes: that is for tests.
 abbrev pub EndsBy : (Result Summary RunFault → Type 0) → ℕ → Type 0
 EndsBy Ran status = (ran answer : Result Summary RunFault) × Ran ran × ((answer ≡ ran) ⊎ (answer ≡ Err WriteDevice)) × (status ≡ status_told answer)

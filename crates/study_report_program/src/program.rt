@@ -2,7 +2,7 @@
 ghost use Rattle.std.specs.Prelude.{◌≡◌, Bool};
 ghost use Rattle.clap.specs.Values.{kind_of};
 ghost use Rattle.study_program.specs.Status.{status_told, status_unread};
-ghost use Rattle.study_report_program.specs.Ended.{EndsBy, HasReported};
+ghost use Rattle.study_report_program.specs.Ended.{EndsBy, HasReported, IsReported};
 
 use crate::options::{Form, Options, read_words};
 use crate::progress::Progress;
@@ -83,7 +83,7 @@ pub fn report_script<F: Files, A: Allocator, R: Read, W: Write, E: Write>(
     out: &mut W,
     errors: &mut E,
 ) -> u8
-    ensures { EndsBy (HasReported options.now.form (R.remaining script.old) (R.remaining script.new)) result }
+    ensures { EndsBy (IsReported options.now.form (R.remaining script.old) (R.remaining script.new) (W.contents out.old) (W.contents out.new)) result }
 {
     let mut answer = report_over_files(files, alloc, options, script, out, errors);
     // What is left in a buffer of the writer is told too.
@@ -112,7 +112,7 @@ fn report_over_files<F: Files, A: Allocator, R: Read, W: Write, E: Write>(
     out: &mut W,
     errors: &mut E,
 ) -> Result<Summary, RunFault>
-    ensures { HasReported options.now.form (R.remaining script.old) (R.remaining script.new) result }
+    ensures { HasReported options.now.form (R.remaining script.old) (R.remaining script.new) (W.contents out.old) (W.contents out.new) result }
 {
     let Ok(mut store) = FolderStore::new(files, alloc, options.tables) else {
         return Err(RunFault::OutOfMemory);

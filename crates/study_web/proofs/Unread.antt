@@ -1,9 +1,10 @@
 -- Scripts that are not read to their end.
-use Rattle.std.proofs.Common.{◌≡◌, ◌⊎◌, ℕ, List, [], Option, Some, None, Result, Err, refl, sym, subst, inl, inr, arith}
+use Rattle.std.proofs.Common.{◌≡◌, ◌⊎◌, ℕ, true, List, [], Option, Some, None, Result, Err, refl, sym, subst, inl, inr, arith}
 use Rattle.study_script.specs.declared.running.Summary.{Summary}
 use Rattle.study_script.specs.declared.running.RunFault.{RunFault}
 use Rattle.study_script.specs.declared.running.RunFault.TheVariants.{OutOfMemory}
 use Rattle.study_script.specs.Outcome.{Outcome, Shape as RunShape}
+use Rattle.study_script.specs.Written.{Fits}
 use Rattle.study_script.specs.State.{State}
 use Rattle.study_report.specs.Outcome.{Outcome as ReportOutcome, Shape}
 use Rattle.study_review.specs.Review.{IsReviewOf}
@@ -29,10 +30,17 @@ pub own_shape : (script text written : List ℕ) (left : Option (List ℕ)) (ran
 own_shape script text written left ran told is (inl (same, ended)) = (left, subst (RunShape script left) (sym ended) is)
 own_shape script text written left ran told is (inr (none, ended)) = rw ended (Some script, refl)
 
-pub own_outcome : (first : State) (script text written : List ℕ) (left : Option (List ℕ)) (ran told : Result Summary RunFault)
-    → Outcome first script left (Some []) (Some written) ran
+pub own_fits : (script text written : List ℕ) (left : Option (List ℕ)) (ran told : Result Summary RunFault)
+    → Fits script left (Some []) (Some written) ran
     → ((text ≡ written) × (told ≡ ran)) ⊎ ((text ≡ []) × (told ≡ Err OutOfMemory))
-    → (left : Option (List ℕ)) × Outcome first script left (Some []) (Some text) told
+    → (left : Option (List ℕ)) × Fits script left (Some []) (Some text) told
+own_fits script text written left ran told is (inl (same, ended)) = (left, rw (same, ended) is)
+own_fits script text written left ran told is (inr (none, ended)) = rw (none, ended) (Some script, refl)
+
+pub own_outcome : (first : State) (script text written : List ℕ) (left : Option (List ℕ)) (ran told : Result Summary RunFault)
+    → Outcome true first script left (Some []) (Some written) ran
+    → ((text ≡ written) × (told ≡ ran)) ⊎ ((text ≡ []) × (told ≡ Err OutOfMemory))
+    → (left : Option (List ℕ)) × Outcome true first script left (Some []) (Some text) told
 own_outcome first script text written left ran told is (inl (same, ended)) = (left, rw (same, ended) is)
 own_outcome first script text written left ran told is (inr (none, ended)) = rw (none, ended) (Some script, (refl, refl))
 

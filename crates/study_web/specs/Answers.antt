@@ -1,5 +1,5 @@
 -- What a page is answered.
-use Rattle.std.specs.Prelude.{◌≡◌, ◌⊎◌, ℕ, nat_le, min, Bool, ◌&&◌, List, [], ◌∷◌, ◌++◌, length, take, drop, Option, Some, None, Result, Ok, Err}
+use Rattle.std.specs.Prelude.{◌≡◌, ◌⊎◌, ℕ, nat_le, min, Bool, true, ◌&&◌, List, [], ◌∷◌, ◌++◌, length, take, drop, Option, Some, None, Result, Ok, Err}
 use Rattle.study_board.specs.Position.{man_at}
 use Rattle.study_material.specs.declared.class.Class.{Class}
 use Rattle.study_notation.specs.declared.start.Start.{Start}
@@ -13,6 +13,7 @@ use Rattle.study_script.specs.declared.running.Summary.{Summary}
 use Rattle.study_script.specs.declared.running.RunFault.{RunFault}
 use Rattle.study_script.specs.declared.running.RunFault.TheVariants as run_fault
 use Rattle.study_script.specs.Outcome.{Outcome, begun_state, Shape as RunShape}
+use Rattle.study_script.specs.Written.{Fits as RunFits}
 use Rattle.study_script.specs.State.{Shelf}
 use Rattle.study_script.specs.Stores.{AreTrusted}
 use Rattle.study_report.specs.Outcome.{Outcome as ReportOutcome, Shape}
@@ -75,14 +76,15 @@ IsNever fault = ⊥
 -- ---- each request
 
 -- The replies to the script, over files of which those are right that it loads. Whatever the files are, it stops where it must, for one
--- of its own faults, and counts its lines.
+-- of its own faults, and counts its lines, and as refused those for which it writes an error. Studies are kept apart.
 abbrev pub IsRun : List Span → List ℕ → Bool → List ℕ → List ℕ → Ending → Type 0
 IsRun spans bytes by_pages script text ended =
     (summary : Result Summary RunFault) × (ended ≡ ending_of summary) × IsOwnEnd summary
     × ((left : Option (List ℕ)) × RunShape script left summary)
+    × ((left : Option (List ℕ)) × RunFits script left (Some []) (Some text) summary)
     × ((trusted : Class → Bool) → AreRightFiles trusted by_pages spans bytes → AreTrusted trusted script
     → (shelf : Shelf) × IsShelf spans bytes shelf × (left : Option (List ℕ))
-    × Outcome (begun_state shelf by_pages) script left (Some []) (Some text) summary)
+    × Outcome true (begun_state shelf by_pages) script left (Some []) (Some text) summary)
 
 -- why a file is not made
 abbrev pub of_make : MakeFault → Denial

@@ -12,10 +12,13 @@ use study_values::Values;
 pub struct Refusals;
 
 impl Report for Refusals {
+    ghost use Rattle.std.specs.Prelude.{◌≡◌, []};
     ghost use Rattle.study_report.specs.Lines.{refusal_line};
     ghost use Rattle.study_web.specs.Views.{tells_nothing};
 
     ghost tells = { λ plain number text. tells_nothing plain number text };
+
+    ghost form = { λ number text. text ≡ [] };
 
     ghost refusal = { λ number line reply. refusal_line number reply };
 

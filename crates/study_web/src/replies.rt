@@ -1,8 +1,9 @@
 //! The replies to a script over the files that are handed in.
-ghost use Rattle.std.specs.Prelude.{◌≤◌, ℕ, Bool, List, [], Option, Some, IfSome, is_some};
+ghost use Rattle.std.specs.Prelude.{◌≤◌, ℕ, Bool, true, List, [], Option, Some, IfSome, is_some};
 ghost use Rattle.study_material.specs.declared.class.Class.{Class as AClass};
 ghost use Rattle.study_script.specs.Outcome.{Outcome, Shape, begun_state};
 ghost use Rattle.study_script.specs.State.{Shelf};
+ghost use Rattle.study_script.specs.Written.{Fits};
 ghost use Rattle.study_script.specs.Stores.{AreTrusted};
 ghost use Rattle.study_web.specs.Answers.{IsOwnEnd};
 ghost use Rattle.study_web.specs.Store.{IsShelf, AreRightFiles};
@@ -16,7 +17,7 @@ use study_script::{Settings, run};
 
 /// Answers a script over the files that are handed in. What it saves is put into the cells, one for each class.
 ///
-/// Tables are held whole, or so many pages of them. The replies are those of the script, over files of which nothing is presumed but
+/// Tables are held whole, or so many pages of them, and studies are kept apart. The replies are those of the script, over files of which nothing is presumed but
 /// that those of the classes which it loads are right.
 pub fn replies_over<'f, 'a, A: Allocator>(
     alloc: &'a A,
@@ -29,9 +30,10 @@ pub fn replies_over<'f, 'a, A: Allocator>(
     requires { IfSome pages (λ n. (1 ≤ n) × (n ≤ 4096)) }
     ensures own { IsOwnEnd result.summary }
     ensures shape { (left : Option (List ℕ)) × Shape script.now left result.summary }
+    ensures fits { (left : Option (List ℕ)) × Fits script.now left (Some []) (Some result.text.items) result.summary }
     ensures outcome { (trusted : AClass → Bool) → AreRightFiles trusted (is_some pages) spans.now bytes.now → AreTrusted trusted script.now
         → (shelf : Shelf) × IsShelf spans.now bytes.now shelf × (left : Option (List ℕ))
-        × Outcome (begun_state shelf (is_some pages)) script.now left (Some []) (Some result.text.items) result.summary }
+        × Outcome true (begun_state shelf (is_some pages)) script.now left (Some []) (Some result.text.items) result.summary }
 {
     let mut store = SpanStore::new(alloc, spans, bytes, saved);
     let mut reader = script;
@@ -41,7 +43,10 @@ pub fn replies_over<'f, 'a, A: Allocator>(
         &mut reader,
         &mut replies,
         &mut store,
-        Settings { pages },
+        Settings {
+            pages,
+            separate: true,
+        },
     );
     own_end(alloc, replies, summary)
 }

@@ -178,6 +178,7 @@ fn left_by<'a, S: TableStore, A: Allocator>(
         document: Document::Empty,
         tables: Tables::Paged(tables),
         store,
+        separate: true,
     };
     let mut reader = script;
     let mut refused = Vec::new(alloc);

@@ -81,7 +81,7 @@ def main():
         dice = random.Random(37)
         for i in range(count):
             script, pages = random_script(dice, True), dice.choice([None, 1, 64])
-            words = [NATIVE, "--tables", folder] + (["--pages", str(pages)] if pages else [])
+            words = [NATIVE, "--separate", "--tables", folder] + (["--pages", str(pages)] if pages else [])
             native = subprocess.run(words, input=script.encode(), capture_output=True, check=False).stdout.decode()
             told = user.promise("studyboard.run(a[0], a[1] || undefined)", script, pages)
             if told != native:

@@ -6,7 +6,7 @@ pub returns : goal.returns
 returns g c = (
   c.report_over_files-answer.result,
   c.if-is_err.answer,
-  c.report_over_files-answer.ensures,
+  (_, c.report_over_files-answer.ensures, c.flush.ensures.bytes),
   elim c.if-is_err.branch [ then-is_err w ↦ inr w.answer-is | else-is_err w ↦ inl w.answer-is ],
   c.ended.ensures,
 )

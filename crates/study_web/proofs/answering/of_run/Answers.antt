@@ -7,5 +7,6 @@ returns g c =
       c.ran.ensures.ended,
       ended.ensures.own,
       ended.ensures.shape,
+      rw c.ran.ensures.text ended.ensures.fits,
       λ trusted right trusts. rw c.ran.ensures.text (ended.ensures.outcome trusted right trusts),
     )
