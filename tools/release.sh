@@ -1,5 +1,5 @@
 #!/bin/bash
-# Makes one archive of both programs, the board, the documents and the gallery, from a clean checkout that has passed the gate.
+# Makes one archive of the programs, the board, the documents and the gallery, from a clean checkout that has passed the gate.
 #
 #   rt ci 2>&1 | tee gate.log; tools/web.sh; tools/release.sh gate.log TABLES
 #
@@ -12,15 +12,16 @@ top=$(cd "$(dirname "$0")/.." && pwd); log=$(realpath "${1:?the log of rt ci}")
 tables=$(realpath "${2:?the folder of all tables}"); cd "$top"
 [ -z "$(git status --porcelain)" ] || { echo "the checkout is not clean"; exit 1; }
 tail -1 "$log" | grep -q '[0-9] passed, 0 failed' || { echo "the gate's last line is not '.. passed, 0 failed'"; exit 1; }
-for program in studybench studyreport studyimport; do (cd "crates/$program" && rt run -- --version > /dev/null 2>&1); done
+for program in studybench studyreport studyimport studymine; do (cd "crates/$program" && rt run -- --version > /dev/null 2>&1); done
 version=$(crates/studybench/out/studybench --version | cut -d' ' -f2)
 name=studybench-$version-linux-x86_64
 work=$(mktemp -d); trap 'rm -rf "$work"' EXIT
 here=$work/$name
 mkdir -p "$here/tools" out
-cp crates/studybench/out/studybench crates/studyreport/out/studyreport crates/studyimport/out/studyimport README.md CHANGELOG.md CONTRIBUTING.md "$here/"
+cp crates/studybench/out/studybench crates/studyreport/out/studyreport crates/studyimport/out/studyimport crates/studymine/out/studymine README.md CHANGELOG.md CONTRIBUTING.md "$here/"
 cp -r docs "$here/"
 cp -rL examples "$here/"
+cp --parents crates/*/README.md web/README.md "$here/"
 cp tools/games.sh tools/all_tables.sh "$here/tools/"
 mkdir "$here/examples/pages"
 for lines in examples/*.lines; do
