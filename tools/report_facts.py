@@ -697,8 +697,9 @@ GATE_MORE = [
     ("moves 0.0.0.0.0", "NoSuchNode"),
     ("insert root 1.Qg8", "NotSan"),
     ("dance <script>'root'", "UnknownCommand"),
-    ("position k7/8/1K6/8/8/8/8/6Q1 w - - 0 b", "MoveNumber"),
+    # (a refused position leaves no study, and without a study a position needs no table: so the missing table comes first)
     ("position 8/8/8/4k3/8/2R5/1R6/K7 w - - 0 1", "NoTable KRRK"),
+    ("position k7/8/1K6/8/8/8/8/6Q1 w - - 0 b", "MoveNumber"),
     ("# A study that is left out: a bishop may be given away, and of two bare kings there is no table.", None),
     ("position 8/8/8/3k4/8/2B5/8/K7 w - - 0 1", None),
     ("stipulate black draw", None),
