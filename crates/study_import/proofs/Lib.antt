@@ -10,3 +10,17 @@ pub mod TextAgain
 pub mod TagTexts
 mod TagsTaken
 mod Alike
+mod FewLegal
+mod Ink
+mod Spelling
+mod PathAgain
+mod Narrow
+mod CommandLines
+mod Remarks
+mod AimsCounted
+mod Kept
+mod Openings
+mod TagsTrimmed
+mod Soundness
+mod Placed
+mod Whole

@@ -19,7 +19,7 @@ abbrev Plain : Type 0
 Plain = Forest (Unit {0})
 
 -- each node of a playable tree has a valid position
-valid_along : (p : Position) (f : Plain) (ks : List ℕ) → IsValid p → IsPlayable p f → IsValid (position_after p (moves_to f ks))
+pub valid_along : (p : Position) (f : Plain) (ks : List ℕ) → IsValid p → IsPlayable p f → IsValid (position_after p (moves_to f ks))
 valid_along p f [] v h = v
 valid_along p none (k ∷ ks) v h = v
 valid_along p (more m l b r) (zero ∷ ks) v h = valid_along (after p m) b ks (IsValid-after p m v h.0) h.1

@@ -1,20 +1,32 @@
 -- Laws of an import.
-use Rattle.std.specs.Prelude.{◌≡◌, ℕ, List, [], ◌∷◌, ◌++◌, Option, Some, None, Ok, true}
+use Rattle.std.specs.Prelude.{◌≡◌, ℕ, ◌≤◌, List, [], ◌∷◌, ◌++◌, length, Option, Some, None, is_some, Ok, Err, true, if◌then◌else◌}
+use Rattle.std.specs.List.{AllByRecursion}
 use Rattle.study_board.specs.Position.{IsValid}
 use Rattle.study_notation.specs.declared.start.Start.{Start}
+use Rattle.study_marks.specs.declared.stipulation.Goal.{Goal}
+use Rattle.study_marks.specs.declared.stipulation.Goal.TheVariants.{MateIn}
+use Rattle.study_marks.specs.declared.stipulation.Stipulation.{Stipulation}
 use Rattle.study_marks.specs.declared.tag.TagName.{TagName}
 use Rattle.study_marks.specs.Study.{tag_name}
-use Rattle.study_marks.specs.Edits.{tag_refusal}
-use Rattle.study_games.specs.Header.{Pair, value_of}
-use Rattle.study_games.specs.Games.{Game, games_of, games_from}
+use Rattle.study_marks.specs.Edits.{Plainly, tag_refusal}
+use Rattle.study_command.specs.Lines.{script_lines}
+use Rattle.study_games.specs.Header.{Pair, tags_in, fault_in, tags_of, header_fault, value_of}
+use Rattle.study_games.specs.Games.{Game, games_of, games_from, one_more}
 use Rattle.study_games.specs.Laws.{number_behind, EndsWithMoves, BeginsWithTag, lines_of}
 use Rattle.study_import.specs.declared.importer.Choice.{Choice}
-use Rattle.study_import.specs.Blocks.{Tally, tallied, told_text, blocks, no_moves, game_read, tag_value_text, Entry, Told, block_lines, block_of}
+use Rattle.study_import.specs.Blocks.{Tally, is_chosen, tallied, told_text, blocks, no_moves, game_read, tag_value_text, Entry, Told, block_lines, block_of}
 use Rattle.study_import.specs.Insertions.{Leads, AllReadAgain}
 use Rattle.study_import.specs.declared.aims.Aim.{Aim}
-use Rattle.study_marks.specs.declared.stipulation.Stipulation.{Stipulation}
-use Rattle.study_import.specs.Movetext.{Ended}
+use Rattle.study_import.specs.declared.lines.LineFault.TheVariants as line_fault
+use Rattle.study_import.specs.declared.moves.MoveFault.TheVariants as move_fault
+use Rattle.study_import.specs.declared.taking.Reason.TheVariants as reason
+use Rattle.study_import.specs.declared.movetext.MovesFault.{MovesFault}
+use Rattle.study_import.specs.declared.movetext.Stop.{Stop}
+use Rattle.study_import.specs.declared.movetext.Stop.TheVariants as stop
+use Rattle.study_import.specs.Movetext.{Ended, read_moves}
 use Rattle.study_import.specs.Imported.{no_game, script_of, tally_of}
+use Rattle.study_import.specs.Documents.{Document, composed, after_lines}
+use Rattle.study_import.specs.Meant.{study_of_game}
 
 -- the blocks of these games behind a tally, without the last line
 abbrev pub told_texts : Choice → Tally → List Game → List ℕ
@@ -52,3 +64,69 @@ AreAlike =
     → (start : Start) × (aim : Aim) × (told : Told)
     × ((number line : ℕ) → block_of given number (record { line = line; text = Some text })
     ≡ record { text = block_lines (entry_of number line text) start aim told; is_study = true })
+
+-- a mate within 1 to 127 moves
+abbrev pub IsCounted : Goal → Type 0
+IsCounted (MateIn count) = (1 ≤ count) × (count ≤ 127)
+IsCounted other = Unit {0}
+
+abbrev pub IsGiven : Option Stipulation → Type 0
+IsGiven None = Unit {0}
+IsGiven (Some given) = IsCounted given.goal
+
+-- a study has six tags, known or not
+abbrev pub HasSixTags : Document → Type 0
+HasSixTags (composed s) = length s.tags ≡ 6
+HasSixTags other = Unit {0}
+
+abbrev pub document_then : Document → Option Plainly → Document
+document_then d None = d
+document_then d (Some s) = composed s
+
+-- a line that a script can have
+abbrev pub IsShort : List ℕ → Type 0
+IsShort line = length line ≤ 1024
+
+-- the block of a game, as its bytes are, is read line by line as a script that no rule refuses, whatever is held before it: where the game
+-- comes to a study, that study is held then, and else what was held; tables and memory apart
+pub record IsRead (given : Option Stipulation) (number : ℕ) (game : Game) : Type 0 where
+  pub is_study : (block_of given number game).is_study ≡ is_some (study_of_game given game.text)
+  pub short : AllByRecursion IsShort (script_lines (block_of given number game).text)
+  pub study : (d : Document) → HasSixTags d
+      → after_lines (Some d) (script_lines (block_of given number game).text) ≡ Some (document_then d (study_of_game given game.text))
+
+abbrev pub AreRead : Type 0
+AreRead = (given : Option Stipulation) → IsGiven given → (number : ℕ) → (game : Game) → IsRead given number game
+
+-- what is held behind the blocks of these games, of which so many came before
+abbrev pub document_behind : Choice → ℕ → Document → List Game → Document
+document_behind c met d [] = d
+document_behind c met d (g ∷ gs) =
+    document_behind c (one_more met) (if is_chosen c (one_more met) then document_then d (study_of_game c.given g.text) else d) gs
+
+-- the whole script likewise
+pub record IsScriptRead (c : Choice) (text : List ℕ) : Type 0 where
+  pub short : AllByRecursion IsShort (script_lines (script_of c text))
+  pub study : (d : Document) → HasSixTags d → after_lines (Some d) (script_lines (script_of c text)) ≡ Some (document_behind c 0 d (games_of text))
+
+abbrev pub AreScriptsRead : Type 0
+AreScriptsRead = (c : Choice) → IsGiven c.given → (text : List ℕ) → IsScriptRead c text
+
+-- a fault that a game can have: none of the importer's own, and no want of memory
+abbrev pub IsListed : Stop → Type 0
+IsListed (stop.Taking (reason.Move move_fault.NoSuchNode)) = ⊥
+IsListed (stop.Taking (reason.Move move_fault.OutOfMemory)) = ⊥
+IsListed (stop.Taking (reason.Line line_fault.OutOfMemory)) = ⊥
+IsListed other = Unit {0}
+
+abbrev pub AreListed : Type 0
+AreListed = (text : List ℕ) → (start : Start) → (fault : MovesFault) → game_read text start ≡ Err fault → IsListed fault.why
+
+-- a game is read to its end: who allows more tokens reads no more of its moves and of its header
+pub record IsWhole (text : List ℕ) (n : ℕ) : Type 0 where
+  pub moves : (start : Start) → read_moves n true text (no_moves start) ≡ game_read text start
+  pub tags : tags_in n true text ≡ tags_of text
+  pub fault : fault_in n true text ≡ header_fault text
+
+abbrev pub AreWhole : Type 0
+AreWhole = (text : List ℕ) → (n : ℕ) → length text ≤ n → IsWhole text n

@@ -12,3 +12,5 @@ pub mod Imported
 pub mod ImportedSeen
 pub mod Laws
 pub mod Insertions
+pub mod Documents
+pub mod Meant

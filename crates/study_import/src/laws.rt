@@ -1,5 +1,5 @@
 //! Laws of an import.
-ghost use Rattle.study_import.specs.Laws.{IsIsolated, AreAlike, AreAccepted, AreTaken};
+ghost use Rattle.study_import.specs.Laws.{IsIsolated, AreAlike, AreAccepted, AreTaken, AreRead, AreScriptsRead, AreListed, AreWhole};
 
 /// The blocks of a text that ends with a line of moves stay as they are, whatever file follows it; and what is written of that file
 /// depends on the text before it by numbers of games and of lines alone.
@@ -21,4 +21,26 @@ pub fn moves_are_accepted()
 /// A study takes the text of each `tag` line of a block, whatever a tag of the game says.
 pub fn tags_are_taken()
     ensures { AreTaken }
+{}
+
+/// The block of a game, as its bytes are, is a script that no rule refuses: each line has at most 1,024 bytes and is read as a command that is
+/// accepted or as nothing, tables and memory apart. Whatever is held before it, the game's study is held after it: its start, its
+/// stipulation, its six tags and its tree. A game that is left out changes nothing.
+pub fn blocks_are_read()
+    ensures { AreRead }
+{}
+
+/// The same of a whole script: no rule refuses a line of it, and behind it the study of the last game that came to one is held.
+pub fn scripts_are_read()
+    ensures { AreScriptsRead }
+{}
+
+/// A game is left out for a fault of its own: no place that the importer holds is lost, and want of memory is no fault of a game.
+pub fn faults_are_listed()
+    ensures { AreListed }
+{}
+
+/// A game is read to its end: as many steps as it has bytes are enough for its header and for its moves.
+pub fn games_are_read_whole()
+    ensures { AreWhole }
 {}

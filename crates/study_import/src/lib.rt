@@ -3,7 +3,7 @@
 //! `import` gives the script of a whole text, and `Importer` that of a file that comes in byte by byte, with one game in memory. What
 //! becomes of a game is `block_of` of `specs/Blocks.antt`: a block of lines that stands alone, or one line that tells why there is none.
 //! The moves are read by a `Bench` whose values nobody looks at, so that the call that accepts a move here is the one that accepts it
-//! in a script. (That `MoveFault::NoSuchNode` never comes is not proved; its name would be told.)
+//! in a script. `MoveFault::NoSuchNode` never comes (`faults_are_listed`).
 #![tactic(auto)]
 
 mod aims;
@@ -24,4 +24,7 @@ mod taking;
 mod values;
 
 pub use importer::{Choice, Imported, Importer, import};
-pub use laws::{blocks_are_isolated, moves_are_accepted, studies_are_alike, tags_are_taken};
+pub use laws::{
+    blocks_are_isolated, blocks_are_read, faults_are_listed, games_are_read_whole,
+    moves_are_accepted, scripts_are_read, studies_are_alike, tags_are_taken,
+};

@@ -31,48 +31,9 @@ pub struct Options {
 /// Reads the words of the command line, of which the first is the program's name; none where `--stipulate` has no stipulation.
 /// `--help` and `--version` are answered as errors whose exit code is 0.
 ///
-/// No contract: clap has none on the words that it takes. The tests tell it.
+/// No contract: clap has none on the words that it takes. The tests say what it reads.
 pub fn read_words(alloc: Global, words: &[String]) -> Result<Option<Options>, Error> {
-    let stipulate = Arg::new(alloc, "stipulate")
-        .long("stipulate")
-        .value_name("SIDE GOAL")
-        .num_args(2..=3)
-        .action(ArgAction::Set)
-        .help("The stipulation of a game that says none: white win, black draw, white mate 3");
-    let game = Arg::new(alloc, "game")
-        .long("game")
-        .value_name("N")
-        .action(ArgAction::Set)
-        .value_parser(value_parser!(u32).range(1..=4294967295))
-        .conflicts_with("from")?
-        .conflicts_with("to")?
-        .help("Takes game N alone, counted from 1");
-    let from = Arg::new(alloc, "from")
-        .long("from")
-        .value_name("N")
-        .action(ArgAction::Set)
-        .value_parser(value_parser!(u32).range(1..=4294967295))
-        .help("Takes the games from N on");
-    let to = Arg::new(alloc, "to")
-        .long("to")
-        .value_name("M")
-        .action(ArgAction::Set)
-        .value_parser(value_parser!(u32).range(1..=4294967295))
-        .help("Takes the games up to M");
-    let progress = Arg::new(alloc, "progress")
-        .long("progress")
-        .action(ArgAction::SetTrue)
-        .help("Tells on standard error, after every hundred games, how many were read");
-    let command = Command::new(alloc, "studyimport")
-        .version(VERSION)
-        .about(ABOUT)
-        .after_help(LINES)
-        .arg(stipulate)?
-        .arg(game)?
-        .arg(from)?
-        .arg(to)?
-        .arg(progress)?;
-    let matches = command.try_get_matches_from(words)?;
+    let matches = command(alloc)?.try_get_matches_from(words)?;
     let given = match matches.get_strs("stipulate") {
         None => None,
         Some(words) => match stipulation_in(alloc, words)? {
@@ -90,6 +51,44 @@ pub fn read_words(alloc: Global, words: &[String]) -> Result<Option<Options>, Er
     let choice = Choice { given, from, to };
     let progress = matches.get_flag("progress");
     Ok(Some(Options { choice, progress }))
+}
+
+/// The options of the program.
+fn command<'a>(alloc: Global) -> Result<Command<'a>, Error> {
+    let stipulate = Arg::new(alloc, "stipulate")
+        .long("stipulate")
+        .value_name("SIDE GOAL")
+        .num_args(2..=3)
+        .action(ArgAction::Set)
+        .help("The stipulation of a game that says none: white win, black draw, white mate 3");
+    let game = number(alloc, "game", "N", "Takes game N alone, counted from 1")
+        .conflicts_with("from")?
+        .conflicts_with("to")?;
+    let progress = Arg::new(alloc, "progress")
+        .long("progress")
+        .action(ArgAction::SetTrue)
+        .help("Tells on standard error, after every hundred games, how many were read");
+    Ok(
+        Command::new(alloc, "studyimport")
+            .version(VERSION)
+            .about(ABOUT)
+            .after_help(LINES)
+            .arg(stipulate)?
+            .arg(game)?
+            .arg(number(alloc, "from", "N", "Takes the games from N on"))?
+            .arg(number(alloc, "to", "M", "Takes the games up to M"))?
+            .arg(progress)?,
+    )
+}
+
+/// An option whose value is the number of a game.
+fn number<'a>(alloc: Global, name: &'a str, value: &'a str, help: &'a str) -> Arg<'a> {
+    Arg::new(alloc, name)
+        .long(name)
+        .value_name(value)
+        .action(ArgAction::Set)
+        .value_parser(value_parser!(u32).range(1..=4294967295))
+        .help(help)
 }
 
 /// What a line `stipulate` of a script says with these words.

@@ -4,7 +4,11 @@ use linked_list_allocator::LocalHeap;
 use std::alloc::{AllocError, Allocator};
 use std::test::Fail;
 use study_board::Side;
-use study_import::{Choice, Importer, blocks_are_isolated, import, moves_are_accepted};
+use study_import::{
+    Choice, Importer, blocks_are_isolated, blocks_are_read, faults_are_listed,
+    games_are_read_whole, import, moves_are_accepted, scripts_are_read, studies_are_alike,
+    tags_are_taken,
+};
 use study_marks::{Goal, Stipulation};
 use study_text::Text;
 
@@ -111,7 +115,13 @@ fn games_may_be_chosen(rt: HostRuntime) -> Result<(), Fail> {
 #[test]
 fn laws_are_called(_rt: HostRuntime) -> Result<(), Fail> {
     blocks_are_isolated();
+    studies_are_alike();
+    blocks_are_read();
+    scripts_are_read();
     moves_are_accepted();
+    tags_are_taken();
+    faults_are_listed();
+    games_are_read_whole();
     Ok(())
 }
 

@@ -1,9 +1,10 @@
 //! The program's command line, its exit status, and what it writes where it stops.
 
+use linked_list_allocator::LocalHeap;
 use std::test::Fail;
 use study_import::Choice;
 use study_import_program::{Options, import_stream, read_words};
-use study_text::{MemoryReader, MemoryWriter};
+use study_text::{MemoryReader, MemoryWriter, WhenFull};
 
 const GAMES: &[u8] = b"[FEN \"8/8/8/4k3/8/4K3/4P3/8 w - - 0 1\"]
 [Result \"1-0\"]
@@ -45,7 +46,7 @@ fn chosen(from: u32, to: u32) -> Options {
     }
 }
 
-/// Runs the program over readers and writers in memory; compares the script, the exit status and what is told on standard error.
+/// Runs the program over readers and writers in memory; compares the script, the exit status and what standard error has.
 fn check_ends(
     rt: &HostRuntime,
     options: Options,
@@ -112,6 +113,71 @@ fn games_are_chosen_and_counted(rt: HostRuntime) -> Result<(), Fail> {
 fn a_reader_that_fails_ends_the_run(rt: HostRuntime) -> Result<(), Fail> {
     check_stops(&rt, 20, b"")?;
     check_stops(&rt, 130, BLOCK)
+}
+
+/// Wherever a read fails, the run ends with it: the blocks before stay written, and no other script is.
+#[test]
+fn each_read_may_fail(rt: HostRuntime) -> Result<(), Fail> {
+    for after in 0..GAMES.len() {
+        let wanted = if after < 108 { b"".as_slice() } else { BLOCK };
+        check_stops(&rt, after, wanted)?;
+    }
+    Ok(())
+}
+
+/// Wherever a write fails, what is written is a front of the script, and the exit status says so.
+#[test]
+fn each_write_may_fail(rt: HostRuntime) -> Result<(), Fail> {
+    let alloc = rt.alloc();
+    let whole = joined(&rt, &[BLOCK, FAULT, b"# games 2, studies 1\n"])?;
+    for room in 0..whole.len() {
+        let mut games = MemoryReader::new(GAMES);
+        let mut out = MemoryWriter::with_room(&alloc, room, WhenFull::Fail);
+        let mut errors = MemoryWriter::new(&alloc);
+        let ended = import_stream(
+            &alloc,
+            &chosen(1, u32::MAX),
+            &mut games,
+            &mut out,
+            &mut errors,
+        );
+        assert!(rt; ended == 3);
+        assert!(rt; whole.as_slice().starts_with(out.taken.as_slice()));
+        assert!(rt; errors.taken.as_slice() == b"studyimport: WriteDevice\n".as_slice());
+    }
+    Ok(())
+}
+
+/// Wherever memory ends, the run ends with it: what is written is a front of the script, and the exit status says so.
+#[test]
+fn each_growth_of_a_run_may_be_refused(rt: HostRuntime) -> Result<(), Fail> {
+    let alloc = rt.alloc();
+    let whole = joined(&rt, &[BLOCK, FAULT, b"# games 2, studies 1\n"])?;
+    let mut refused = 0usize;
+    let mut done = false;
+    for step in 0..2000usize {
+        let heap = LocalHeap::new(rt.alloc(), 64 + step * 16)?;
+        let mut games = MemoryReader::new(GAMES);
+        let mut out = MemoryWriter::new(&alloc);
+        let mut errors = MemoryWriter::new(&alloc);
+        let ended = import_stream(
+            &heap,
+            &chosen(1, u32::MAX),
+            &mut games,
+            &mut out,
+            &mut errors,
+        );
+        if ended == 1 {
+            assert!(rt; out.taken.as_slice() == whole.as_slice());
+            done = true;
+            break;
+        }
+        assert!(rt; ended == 3 && whole.as_slice().starts_with(out.taken.as_slice()));
+        assert!(rt; errors.taken.as_slice() == b"studyimport: OutOfMemory\n".as_slice());
+        refused = refused.saturating_add(1);
+    }
+    assert!(rt; done && refused > 20);
+    Ok(())
 }
 
 /// Runs the program over a reader that fails after some bytes; compares what is written by then.

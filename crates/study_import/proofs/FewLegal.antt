@@ -1,0 +1,220 @@
+-- A position has at most 62 legal moves.
+use Rattle.std.proofs.Common.{◌≡◌, ℕ, zero, suc, ◌+◌, ◌<◌, ◌≤◌, Bool, true, false, cond, eqb, List, [], ◌∷◌, ◌++◌, length, get_or, drop, Option, Some, None, refl, sym, ap, ◌∙◌, subst, inl, inr, arith, add-zero}
+use Rattle.std.specs.Prelude.{filter}
+use Rattle.std.specs.List.{flat_map, range_with_len}
+use Rattle.std.specs.Option.{option_map_or}
+use Rattle.std.proofs.lemmas.Bool.{cases_Bool, false≢true, false_from_ne_true, eqb-true, ne_eqb}
+use Rattle.std.proofs.lemmas.List.{drop_more, drop_all}
+use Rattle.study_board.specs.declared.men.Side.{Side}
+use Rattle.study_board.specs.declared.men.Side.TheVariants.{White}
+use Rattle.study_board.specs.declared.men.Kind.{Kind}
+use Rattle.study_board.specs.declared.men.Kind.TheVariants.{King, Queen, Rook, Bishop, Knight}
+use Rattle.study_board.specs.declared.men.Man.{Man}
+use Rattle.study_board.specs.Men.{same_side}
+use Rattle.study_board.specs.Position.{Position, IsValid, man_at}
+use Rattle.study_moves.specs.declared.moves.Move.{Move}
+use Rattle.study_moves.specs.Rules.{is_legal, is_promotion_choice, reaches_last_rank, reaches_target}
+use Rattle.study_moves.specs.LegalList.{choices, moves_between, moves_from, all_moves, legal_list}
+use Rattle.study_moves.specs.MoveCount.{most_moves}
+use Rattle.study_moves.proofs.NoMoveBetween.{IsMoveOf, HasMover-from_is_legal, IsMoveOf-at}
+use Rattle.study_moves.proofs.MenOfList.{found_among, All-among}
+use Rattle.study_moves.proofs.FewMoves.{moves_below, moves_below-most, moves_below-more, moves_below-next, most_of, most_of-mine, most_of-next, most_of-valid}
+
+-- how many of a list pass
+abbrev bit : Bool → ℕ
+bit b = cond b 1 0
+
+abbrev passing : {X : Type 0} → (X → Bool) → List X → ℕ
+passing q [] = 0
+passing q (x ∷ xs) = bit (q x) + passing q xs
+
+length-filter : {X : Type 0} (q : X → Bool) (xs : List X) → length (filter q xs) ≡ passing q xs
+length-filter q [] = refl
+length-filter q (x ∷ xs) = elim (cases_Bool (q x)) [
+  | inl hit ↦ rw hit (omega (arith, length-filter q xs))
+  | inr miss ↦ rw miss (omega (arith, length-filter q xs))
+]
+
+passing-append : {X : Type 0} (q : X → Bool) (xs ys : List X) → passing q (xs ++ ys) ≡ passing q xs + passing q ys
+passing-append q [] ys = omega arith
+passing-append q (x ∷ xs) ys = omega (arith, passing-append q xs ys)
+
+bit-le : (b c : Bool) → (b ≡ true → c ≡ true) → bit b ≤ bit c
+bit-le false c h = omega arith
+bit-le true c h = rw (h refl) (omega arith)
+
+bit-none : (b : Bool) → (b ≡ true → ⊥) → bit b ≡ 0
+bit-none false h = refl
+bit-none true h = absurd (h refl)
+
+module _ (p : Position) (man : Man) (here : man_at p.men man.at ≡ Some man) where
+  abbrev made : ℕ → Option Kind → Move
+  made x q = record { origin = man.at; target = x; promoted = q }
+
+  legal_is : (x : ℕ) (q : Option Kind) → is_legal p (made x q) ≡ true → IsMoveOf p man (made x q)
+  legal_is x q e = IsMoveOf-at p man (made x q) here refl e
+
+  chosen : (x : ℕ) (q : Option Kind) → bit (is_legal p (made x q)) ≤ bit (is_promotion_choice (reaches_last_rank man x) q)
+  chosen x q = bit-le (is_legal p (made x q)) (is_promotion_choice (reaches_last_rank man x) q) (λ e. (legal_is x q e).choice)
+
+  unreached : (x : ℕ) (q : Option Kind) → reaches_target p.men p.passed man x ≡ false → bit (is_legal p (made x q)) ≡ 0
+  unreached x q none = bit-none (is_legal p (made x q)) (λ e. false≢true (sym none ∙ (legal_is x q e).going))
+
+  not_mine : (x : ℕ) (q : Option Kind) → same_side man.side p.to_move ≡ false → bit (is_legal p (made x q)) ≡ 0
+  not_mine x q none = bit-none (is_legal p (made x q)) (λ e. false≢true (sym none ∙ (legal_is x q e).mine))
+
+  by_choice : (last : Bool) → bit (is_promotion_choice last None) + (bit (is_promotion_choice last (Some Queen)) + (bit (is_promotion_choice last (Some Rook))
+      + (bit (is_promotion_choice last (Some Bishop)) + bit (is_promotion_choice last (Some Knight))))) ≤ cond last 4 1
+  by_choice true = omega arith
+  by_choice false = omega arith
+
+  square_few : (x : ℕ) → passing (is_legal p) (moves_between man.at x) ≤ cond (reaches_last_rank man x) 4 1
+  square_few x =
+      omega (arith, chosen x None, chosen x (Some Queen), chosen x (Some Rook), chosen x (Some Bishop), chosen x (Some Knight), by_choice (reaches_last_rank man x))
+
+  square_none : (x : ℕ) → reaches_target p.men p.passed man x ≡ false → passing (is_legal p) (moves_between man.at x) ≡ 0
+  square_none x e =
+      omega (arith, unreached x None e, unreached x (Some Queen) e, unreached x (Some Rook) e, unreached x (Some Bishop) e, unreached x (Some Knight) e)
+
+  square_other : (x : ℕ) → same_side man.side p.to_move ≡ false → passing (is_legal p) (moves_between man.at x) ≡ 0
+  square_other x e =
+      omega (arith, not_mine x None e, not_mine x (Some Queen) e, not_mine x (Some Rook) e, not_mine x (Some Bishop) e, not_mine x (Some Knight) e)
+
+  square_more : (x : ℕ) → passing (is_legal p) (moves_between man.at x) + moves_below man.side man.kind man.at x ≤ moves_below man.side man.kind man.at (x + 1)
+  square_more x = elim (cases_Bool (reaches_target p.men p.passed man x)) [
+    | inl going ↦ omega (arith, square_few x, moves_below-next p.men p.passed man x x (omega arith) going)
+    | inr none ↦ omega (arith, square_none x none, moves_below-more man.side man.kind man.at x (x + 1) (omega arith))
+  ]
+
+  squares_few : (x n : ℕ) → passing (is_legal p) (flat_map (moves_between man.at) (range_with_len x n)) + moves_below man.side man.kind man.at x
+      ≤ moves_below man.side man.kind man.at (x + n)
+  squares_few x zero = rw (add-zero x) (omega arith)
+  squares_few x (suc n) =
+      let up : x + suc n ≡ x + 1 + n = omega arith in
+      rw up
+      (omega (arith, passing-append (is_legal p) (moves_between man.at x) (flat_map (moves_between man.at) (range_with_len (x + 1) n)), square_more x, squares_few (x + 1) n))
+
+  man_few : man.at < 64 → passing (is_legal p) (moves_from man.at) ≤ most_moves man.kind
+  man_few on = omega (arith, squares_few 0 64, moves_below-most man.side man.kind man.at on)
+
+  man_other : same_side man.side p.to_move ≡ false → (x n : ℕ) → passing (is_legal p) (flat_map (moves_between man.at) (range_with_len x n)) ≡ 0
+  man_other e x zero = refl
+  man_other e x (suc n) =
+      omega (arith, passing-append (is_legal p) (moves_between man.at x) (flat_map (moves_between man.at) (range_with_len (x + 1) n)), square_other x e, man_other e (x + 1) n)
+
+-- ---- all squares
+
+abbrev mass : Side → Man → ℕ
+mass side m = cond (same_side m.side side) (most_moves m.kind) 0
+
+abbrev masses : Side → List Man → ℕ
+masses side [] = 0
+masses side (m ∷ men) = mass side m + masses side men
+
+abbrev weight : Side → List Man → ℕ → ℕ
+weight side men a = option_map_or (mass side) (man_at men a) 0
+
+abbrev weights : Side → List Man → ℕ → ℕ → ℕ
+weights side men a zero = 0
+weights side men a (suc n) = weight side men a + weights side men (a + 1) n
+
+weights-none : (side : Side) (a n : ℕ) → weights side [] a n ≡ 0
+weights-none side a zero = refl
+weights-none side a (suc n) = omega (arith, weights-none side (a + 1) n)
+
+weights-skip : (side : Side) (m : Man) (men : List Man) (a n : ℕ) → m.at < a → weights side (m ∷ men) a n ≡ weights side men a n
+weights-skip side m men a zero lt = refl
+weights-skip side m men a (suc n) lt =
+    let miss : eqb m.at a ≡ false = ne_eqb m.at a (λ e. omega arith) in
+    let up : m.at < a + 1 = omega arith in
+    rw miss (omega (arith, weights-skip side m men (a + 1) n up))
+
+weights-cons : (side : Side) (m : Man) (men : List Man) (a n : ℕ) → weights side (m ∷ men) a n ≤ mass side m + weights side men a n
+weights-cons side m men a zero = omega arith
+weights-cons side m men a (suc n) = elim (cases_Bool (eqb m.at a)) [
+  | inl hit ↦
+      let here = eqb-true m.at a hit in
+      let up : m.at < a + 1 = omega arith in
+      rw hit (omega (arith, weights-skip side m men (a + 1) n up))
+  | inr miss ↦ rw miss (omega (arith, weights-cons side m men (a + 1) n))
+]
+
+weights-le : (side : Side) (men : List Man) (a n : ℕ) → weights side men a n ≤ masses side men
+weights-le side [] a n = omega (arith, weights-none side a n)
+weights-le side (m ∷ men) a n = omega (arith, weights-cons side m men a n, weights-le side men a n)
+
+any_man : Man
+any_man = record { side = White; kind = King; at = 0 }
+
+masses-le : (side : Side) (men : List Man) (n i : ℕ) → i + n ≡ length men → masses side (drop i men) ≤ most_of side (drop i men)
+masses-le side men zero i e = rw (drop_all i men (omega arith)) (omega arith)
+masses-le side men (suc n) i e =
+    let lt : i < length men = omega arith in
+    let next = masses-le side men n (i + 1) (omega arith) in
+    let cut = drop_more men i any_man lt in
+    elim (cases_Bool (same_side (get_or men i any_man).side side)) [
+      | inl mine ↦
+          let w : mass side (get_or men i any_man) ≡ most_moves (get_or men i any_man).kind = rw mine refl in
+          let g = most_of-mine side men i any_man (get_or men i any_man) lt refl mine in
+          let whole : masses side (drop i men) ≡ mass side (get_or men i any_man) + masses side (drop (i + 1) men) = ap (masses side) cut in
+          omega (arith, w, g, whole, next)
+      | inr other ↦
+          let w : mass side (get_or men i any_man) ≡ 0 = rw other refl in
+          let g = most_of-next side men i any_man lt in
+          let whole : masses side (drop i men) ≡ mass side (get_or men i any_man) + masses side (drop (i + 1) men) = ap (masses side) cut in
+          omega (arith, w, g, whole, next)
+    ]
+
+five : (a b c d e : ℕ) → a ≡ b → b ≤ c → c ≤ d → d ≤ e → e ≤ 62 → a ≤ 62
+five a b c d e h i j k l = omega arith
+
+module _ (p : Position) (valid : IsValid p) where
+  no_man : (a x : ℕ) (q : Option Kind) → man_at p.men a ≡ None → bit (is_legal p (record { origin = a; target = x; promoted = q })) ≡ 0
+  no_man a x q none =
+      bit-none (is_legal p (record { origin = a; target = x; promoted = q }))
+      (λ e. let h = HasMover-from_is_legal p (record { origin = a; target = x; promoted = q }) e in
+      let both : None ≡ Some h.man = sym none ∙ h.here in absurd cc)
+
+  none_from : (a : ℕ) → man_at p.men a ≡ None → (x n : ℕ) → passing (is_legal p) (flat_map (moves_between a) (range_with_len x n)) ≡ 0
+  none_from a e x zero = refl
+  none_from a e x (suc n) =
+      omega (
+        arith,
+        passing-append (is_legal p) (moves_between a x) (flat_map (moves_between a) (range_with_len (x + 1) n)),
+        no_man a x None e,
+        no_man a x (Some Queen) e,
+        no_man a x (Some Rook) e,
+        no_man a x (Some Bishop) e,
+        no_man a x (Some Knight) e,
+        none_from a e (x + 1) n,
+      )
+
+  some_from : (a : ℕ) (man : Man) → man_at p.men a ≡ Some man → passing (is_legal p) (moves_from a) ≤ mass p.to_move man
+  some_from a man e =
+      let f = found_among p.men a man e in
+      let on : man.at < 64 = All-among (λ m. m.at < 64) p.men man valid.on_board f.0 in
+      let here : man_at p.men man.at ≡ Some man = subst (λ (x : ℕ). man_at p.men x ≡ Some man) (sym f.1) e in
+      subst (λ (x : ℕ). passing (is_legal p) (moves_from x) ≤ mass p.to_move man) f.1
+      (elim (cases_Bool (same_side man.side p.to_move)) [
+        | inl mine ↦ rw mine (man_few p man here on)
+        | inr other ↦ rw other (omega (arith, man_other p man here other 0 64))
+      ])
+
+  square_from : (a : ℕ) (o : Option Man) → man_at p.men a ≡ o → passing (is_legal p) (moves_from a) ≤ option_map_or (mass p.to_move) o 0
+  square_from a None e = omega (arith, none_from a e 0 64)
+  square_from a (Some man) e = some_from a man e
+
+  all_from : (a n : ℕ) → passing (is_legal p) (flat_map moves_from (range_with_len a n)) ≤ weights p.to_move p.men a n
+  all_from a zero = omega arith
+  all_from a (suc n) =
+      omega (arith, passing-append (is_legal p) (moves_from a) (flat_map moves_from (range_with_len (a + 1) n)), square_from a (man_at p.men a) refl, all_from (a + 1) n)
+
+  all_few : passing (is_legal p) all_moves ≤ weights p.to_move p.men 0 64
+  unfolding all_moves
+  all_few = all_from 0 64
+
+  pub few_legal : length (legal_list p) ≤ 62
+  unfolding legal_list
+  few_legal =
+      five (length (filter (is_legal p) all_moves)) (passing (is_legal p) all_moves) (weights p.to_move p.men 0 64) (masses p.to_move p.men) (most_of p.to_move p.men)
+      (length-filter (is_legal p) all_moves) all_few (weights-le p.to_move p.men 0 64) (masses-le p.to_move p.men (length p.men) 0 (omega arith)) (most_of-valid p valid)

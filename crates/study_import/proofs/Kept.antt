@@ -1,0 +1,74 @@
+-- What stays true while the moves of a game are read.
+use Rattle.std.proofs.Common.{◌≡◌, ℕ, zero, suc, Bool, true, false, List, [], ◌∷◌, length, Result, Ok, Err, refl, sym, ap, subst}
+use Rattle.std.specs.Prelude.{◌==◌, if◌then◌else◌}
+use Rattle.study_games.specs.Tokens.{Token, Lexed, lexed}
+use Rattle.study_games.specs.declared.token.TokenFault.{TokenFault}
+use Rattle.study_import.specs.declared.taking.Reason.{Reason}
+use Rattle.study_import.specs.declared.movetext.MovesFault.{MovesFault}
+use Rattle.study_import.specs.declared.movetext.Stop.{Stop}
+use Rattle.study_import.specs.declared.movetext.Stop.TheVariants as stop
+use Rattle.study_import.specs.Notes.{GameRead, GameTaken, game_taken}
+use Rattle.study_import.specs.Movetext.{Ended, at_end, goes_on, on_token, fault_at, read_moves}
+
+module _ (P : GameRead → Type 0) (step : (g : GameRead) (token : Token) (t : GameTaken) → P g → game_taken g token ≡ Ok t → P t.game) where
+  kept_end : (g : GameRead) (x : Ended) (none : Bool) → P g → (if none then Ok (record { game = g; behind = [] }) else fault_at stop.OpenVariation 0) ≡ Ok x → P x.game
+  kept_end g x true h e = let is : record { game = g; behind = [] } ≡ x = cc in subst (λ (z : Ended). P z.game) is h
+  kept_end g x false h e = absurd cc
+
+  kept_or : (next : GameRead → Result Ended MovesFault) (t : GameTaken) (behind : List ℕ) (x : Ended) (ended : Bool) → P t.game
+      → ((h : GameRead) → P h → next h ≡ Ok x → P x.game) → (if ended then Ok (record { game = t.game; behind = behind }) else next t.game) ≡ Ok x → P x.game
+  kept_or next t behind x true h f e = let is : record { game = t.game; behind = behind } ≡ x = cc in subst (λ (z : Ended). P z.game) is h
+  kept_or next t behind x false h f e = f t.game h e
+
+  kept_on : (next : GameRead → Result Ended MovesFault) (g : GameRead) (left : ℕ) (behind : List ℕ) (x : Ended) (taken_on : Result GameTaken Reason)
+      → ((t : GameTaken) → taken_on ≡ Ok t → P t.game) → ((h : GameRead) → P h → next h ≡ Ok x → P x.game) → goes_on next left behind taken_on ≡ Ok x → P x.game
+  kept_on next g left behind x (Err why) f k e = absurd cc
+  kept_on next g left behind x (Ok t) f k e = kept_or next t behind x t.ended (f t refl) k e
+
+  kept_lexed : (next : List ℕ → GameRead → Result Ended MovesFault) (g : GameRead) (left : ℕ) (x : Ended) (token : Lexed) → P g
+      → ((bs : List ℕ) (h : GameRead) → P h → next bs h ≡ Ok x → P x.game) → on_token next left g token ≡ Ok x → P x.game
+  kept_lexed next g left x (Err fault) h k e = absurd cc
+  kept_lexed next g left x (Ok y) h k e = kept_on (next y.1) g left y.1 x (game_taken g y.0) (λ t is. step g y.0 t h is) (k y.1) e
+
+  pub kept : (n : ℕ) (fresh : Bool) (text : List ℕ) (g : GameRead) (x : Ended) → P g → read_moves n fresh text g ≡ Ok x → P x.game
+  kept zero fresh text g x h e = kept_end g x (length g.reading.lines.waiting == 0) h e
+  kept (suc n) fresh [] g x h e = kept_end g x (length g.reading.lines.waiting == 0) h e
+  kept (suc n) fresh (b ∷ bs) g x h e =
+      kept_lexed (read_moves n (b == 10)) g (length (b ∷ bs)) x (lexed fresh b bs) h (λ rest k l is. kept n (b == 10) rest k x l is) e
+
+  -- ---- why a reading stops
+
+  module _ (Q : Stop → Type 0) (open_line : Q stop.OpenVariation) (no_token : (fault : TokenFault) → Q (stop.Token fault))
+      (taking : (g : GameRead) (token : Token) (why : Reason) → P g → game_taken g token ≡ Err why → Q (stop.Taking why)) where
+    stops_at : (why : Stop) (left : ℕ) (fault : MovesFault) → Q why → fault_at why left ≡ Err fault → Q fault.why
+    stops_at why left fault h e = let is : record { why = why; left = left } ≡ fault = err_is (record { why = why; left = left }) fault e in subst (λ (z : MovesFault). Q z.why) is h
+      where
+        err_is : (x y : MovesFault) → ◌≡◌ {A = Result Ended MovesFault} (Err x) (Err y) → x ≡ y
+        err_is x y e = cc
+
+    stops_end : (g : GameRead) (fault : MovesFault) (none : Bool) → (if none then Ok (record { game = g; behind = [] }) else fault_at stop.OpenVariation 0) ≡ Err fault → Q fault.why
+    stops_end g fault true e = absurd cc
+    stops_end g fault false e = stops_at stop.OpenVariation 0 fault open_line e
+
+    stops_or : (next : GameRead → Result Ended MovesFault) (t : GameTaken) (behind : List ℕ) (fault : MovesFault) (ended : Bool) → P t.game
+        → ((h : GameRead) → P h → next h ≡ Err fault → Q fault.why) → (if ended then Ok (record { game = t.game; behind = behind }) else next t.game) ≡ Err fault → Q fault.why
+    stops_or next t behind fault true h f e = absurd cc
+    stops_or next t behind fault false h f e = f t.game h e
+
+    stops_on : (next : GameRead → Result Ended MovesFault) (g : GameRead) (left : ℕ) (behind : List ℕ) (fault : MovesFault) (taken_on : Result GameTaken Reason)
+        → ((t : GameTaken) → taken_on ≡ Ok t → P t.game) → ((why : Reason) → taken_on ≡ Err why → Q (stop.Taking why))
+        → ((h : GameRead) → P h → next h ≡ Err fault → Q fault.why) → goes_on next left behind taken_on ≡ Err fault → Q fault.why
+    stops_on next g left behind fault (Err why) f r k e = stops_at (stop.Taking why) left fault (r why refl) e
+    stops_on next g left behind fault (Ok t) f r k e = stops_or next t behind fault t.ended (f t refl) k e
+
+    stops_lexed : (next : List ℕ → GameRead → Result Ended MovesFault) (g : GameRead) (left : ℕ) (fault : MovesFault) (token : Lexed) → P g
+        → ((bs : List ℕ) (h : GameRead) → P h → next bs h ≡ Err fault → Q fault.why) → on_token next left g token ≡ Err fault → Q fault.why
+    stops_lexed next g left fault (Err why) h k e = stops_at (stop.Token why) left fault (no_token why) e
+    stops_lexed next g left fault (Ok y) h k e =
+        stops_on (next y.1) g left y.1 fault (game_taken g y.0) (λ t is. step g y.0 t h is) (λ why is. taking g y.0 why h is) (k y.1) e
+
+    pub stops : (n : ℕ) (fresh : Bool) (text : List ℕ) (g : GameRead) (fault : MovesFault) → P g → read_moves n fresh text g ≡ Err fault → Q fault.why
+    stops zero fresh text g fault h e = stops_end g fault (length g.reading.lines.waiting == 0) e
+    stops (suc n) fresh [] g fault h e = stops_end g fault (length g.reading.lines.waiting == 0) e
+    stops (suc n) fresh (b ∷ bs) g fault h e =
+        stops_lexed (read_moves n (b == 10)) g (length (b ∷ bs)) fault (lexed fresh b bs) h (λ rest k l is. stops n (b == 10) rest k fault l is) e

@@ -1,0 +1,453 @@
+-- The lines of remarks ask for nothing.
+use Rattle.std.proofs.Common.{◌≡◌, ℕ, zero, suc, ◌+◌, ◌<◌, ◌≤◌, Bool, true, false, List, [], ◌∷◌, ◌++◌, length, take, map, Option, Some, None, Ok, refl, sym, ap, subst, ◌∙◌, inl, inr, arith, length-append, append_assoc}
+use Rattle.std.specs.Prelude.{◌==◌, ◌&&◌, ◌||◌, ◌*◌, nat_le, codes, decimal, if◌then◌else◌}
+use Rattle.std.specs.List.{list_all, flat_map, prefix_len, AllByRecursion}
+use Rattle.std.specs.Str.{bytes_eq}
+use Rattle.std.proofs.lemmas.Bool.{and_from, and_parts, le-leb, leb-true, leb-false, cases_Bool, or_parts, cases_lt, agree_below, agree_below_at, false≢true}
+use Rattle.std.proofs.lemmas.List.Folds.{list_all-append}
+use Rattle.std.proofs.lemmas.List.Concat.{flat_map-append}
+use Rattle.std.proofs.lemmas.List.{append-nil, length-map}
+use Rattle.study_notation.specs.declared.fault.FenFault.{FenFault}
+use Rattle.study_notation.specs.declared.fault.FenFault.TheVariants as fen
+use Rattle.study_notation.specs.declared.fault.SanFault.{SanFault}
+use Rattle.study_notation.specs.declared.fault.SanFault.TheVariants as san
+use Rattle.study_marks.specs.declared.tag.TagName.{TagName}
+use Rattle.study_marks.specs.declared.tag.TagName.TheVariants as named
+use Rattle.study_marks.specs.Study.{tag_name}
+use Rattle.study_command.specs.Parser.{Asks, command_of}
+use Rattle.study_reply.specs.Names.{fen_name, san_name}
+use Rattle.study_games.specs.Bytes.{is_blank, is_symbol_byte}
+use Rattle.study_games.specs.Tokens.{front, behind}
+use Rattle.study_games.specs.Words.{first_word, trimmed}
+use Rattle.study_games.specs.Header.{Pair, tags_of, value_of, unescaped}
+use Rattle.study_games.specs.declared.token.TokenFault.{TokenFault}
+use Rattle.study_games.specs.declared.token.TokenFault.TheVariants as token
+use Rattle.study_import.specs.declared.lines.LineFault.{LineFault}
+use Rattle.study_import.specs.declared.lines.LineFault.TheVariants as line_fault
+use Rattle.study_import.specs.declared.moves.MoveFault.{MoveFault}
+use Rattle.study_import.specs.declared.moves.MoveFault.TheVariants as move_fault
+use Rattle.study_import.specs.declared.taking.Reason.{Reason}
+use Rattle.study_import.specs.declared.taking.Reason.TheVariants as reason
+use Rattle.study_import.specs.declared.movetext.MovesFault.{MovesFault}
+use Rattle.study_import.specs.declared.movetext.Stop.{Stop}
+use Rattle.study_import.specs.declared.movetext.Stop.TheVariants as stop
+use Rattle.study_import.specs.declared.aims.Aim.{Aim}
+use Rattle.study_import.specs.declared.aims.AimSource.{AimSource}
+use Rattle.study_import.specs.declared.aims.AimSource.TheVariants.{Comment, StipulationTag, ResultTag, Result as EndResult, Given}
+use Rattle.study_import.specs.declared.notes.Notes.{Notes}
+use Rattle.study_import.specs.declared.places.Place.{Place}
+use Rattle.study_import.specs.Aims.{source_words}
+use Rattle.study_import.specs.Blocks.{Entry, Told, place_in, text_at, token_name, move_name, line_name, reason_name, stop_name, symbol_words, game_words, left_out, place_words, fault_words, count_words, counts_words, counts_line, move_counts, counted_words, behind_line, six_names, shown, tag_text, was_words, was_of, was_line, head_line, remark_lines, other_tags, stopped_block, men_in, fen_words, at_most, last_line}
+use Rattle.study_import.proofs.Ink.{Ink, inks, decimal_ink, decimal_few}
+use Rattle.study_import.proofs.CommandLines.{remark_asked, empty_asked}
+
+-- a byte that is no control code below the space
+abbrev pub shows : ℕ → Bool
+shows b = nat_le 32 b
+
+-- a line that can be read again
+pub record IsLine (line : List ℕ) : Type 0 where
+  pub shown : list_all shows line ≡ true
+  pub few : length line ≤ 1024
+
+-- a line that asks for nothing
+pub record IsRemark (line : List ℕ) : Type 0 where
+  pub fits : IsLine line
+  pub silent : ◌≡◌ {A = Asks} (command_of line) (Ok None)
+
+abbrev pub fed : List ℕ → List ℕ
+fed line = line ++ 10 ∷ []
+
+-- a text of such lines, each with its line feed
+pub record AreLines (C : List ℕ → Type 0) (t : List ℕ) : Type 0 where
+  pub lines : List (List ℕ)
+  pub each : AllByRecursion C lines
+  pub text : t ≡ flat_map fed lines
+
+pub each_append : (C : List ℕ → Type 0) (xs ys : List (List ℕ)) → AllByRecursion C xs → AllByRecursion C ys → AllByRecursion C (xs ++ ys)
+each_append C [] ys h k = k
+each_append C (x ∷ xs) ys h k = (h.0, each_append C xs ys h.1 k)
+
+module _ (C : List ℕ → Type 0) where
+  pub no_lines : AreLines C []
+  no_lines = record { lines = []; each = tt; text = refl }
+
+  pub one_line : (t line : List ℕ) → t ≡ line ++ 10 ∷ [] → C line → AreLines C t
+  one_line t line e h = record { lines = line ∷ []; each = (h, tt); text = e ∙ sym (append-nil (line ++ 10 ∷ [])) }
+
+  pub more_lines : (s t : List ℕ) → AreLines C s → AreLines C t → AreLines C (s ++ t)
+  more_lines s t h k = record {
+    lines = h.lines ++ k.lines;
+    each = each_append C h.lines k.lines h.each k.each;
+    text = ap (λ (x : List ℕ). x ++ t) h.text ∙ ap (λ (x : List ℕ). flat_map fed h.lines ++ x) k.text ∙ sym (flat_map-append fed h.lines k.lines);
+  }
+
+-- ---- parts of a line
+
+pub record IsPart (n : ℕ) (t : List ℕ) : Type 0 where
+  pub shown : list_all shows t ≡ true
+  pub few : length t ≤ n
+
+pub shown_append : (xs ys : List ℕ) → list_all shows xs ≡ true → list_all shows ys ≡ true → list_all shows (xs ++ ys) ≡ true
+shown_append xs ys h k = list_all-append shows xs ys ∙ and_from (list_all shows xs) (list_all shows ys) h k
+
+pub joined : (m n : ℕ) (xs ys : List ℕ) → IsPart m xs → IsPart n ys → IsPart (m + n) (xs ++ ys)
+joined m n xs ys h k = record { shown = shown_append xs ys h.shown k.shown; few = omega (arith, length-append xs ys, h.few, k.few) }
+
+pub wider : (m n : ℕ) (t : List ℕ) → m ≤ n → IsPart m t → IsPart n t
+wider m n t le h = record { shown = h.shown; few = omega (arith, h.few) }
+
+shown_ink : (xs : List ℕ) → Ink xs → list_all shows xs ≡ true
+shown_ink [] h = refl
+shown_ink (x ∷ xs) h = let low = h.0 in rw (le-leb 32 x (omega arith)) (shown_ink xs h.2)
+
+pub number_part : (n : ℕ) → IsPart 64 (decimal n)
+number_part n = record { shown = shown_ink (decimal n) (decimal_ink n); few = decimal_few n }
+
+pub remark_line : (t : List ℕ) → IsPart 1000 t → IsRemark (35 ∷ t)
+remark_line t h = record { fits = record { shown = h.shown; few = omega (arith, h.few) }; silent = remark_asked t }
+
+pub empty_line : IsRemark []
+empty_line = record { fits = record { shown = refl; few = omega arith }; silent = empty_asked }
+
+source_part : (s : AimSource) → IsPart 20 (source_words s)
+source_part Comment = record { shown = refl; few = omega arith }
+source_part StipulationTag = record { shown = refl; few = omega arith }
+source_part ResultTag = record { shown = refl; few = omega arith }
+source_part EndResult = record { shown = refl; few = omega arith }
+source_part Given = record { shown = refl; few = omega arith }
+
+-- a remark begins with `#`
+abbrev hashed : List ℕ → List ℕ
+hashed t = 35 ∷ t
+
+game_part : (number n : ℕ) (rest : List ℕ) → IsPart n rest → IsPart (70 + n) (codes " game " ++ (decimal number ++ rest))
+game_part number n rest h =
+    wider (6 + (64 + n)) (70 + n) _ (omega arith)
+    (joined 6 (64 + n) (codes " game ") (decimal number ++ rest) (record { shown = refl; few = omega arith }) (joined 64 n (decimal number) rest (number_part number) h))
+
+-- ---- the head of a block
+
+line_part : (line n : ℕ) (rest : List ℕ) → IsPart n rest → IsPart (71 + n) (codes ", line " ++ (decimal line ++ rest))
+line_part line n rest h =
+    wider (7 + (64 + n)) (71 + n) _ (omega arith)
+    (joined 7 (64 + n) (codes ", line ") (decimal line ++ rest) (record { shown = refl; few = omega arith }) (joined 64 n (decimal line) rest (number_part line) h))
+
+head_is : (a b c : List ℕ) → (codes "# game " ++ a) ++ (codes ", line " ++ (b ++ (codes ": stipulated by " ++ (c ++ codes "\n"))))
+    ≡ hashed (codes " game " ++ (a ++ (codes ", line " ++ (b ++ (codes ": stipulated by " ++ c))))) ++ 10 ∷ []
+head_is a b c = simp append_assoc
+
+pub head_remark : (e : Entry) (aim : Aim) → AreLines IsRemark (head_line e aim)
+unfolding head_line
+head_remark e aim =
+    one_line IsRemark _ _ (head_is (decimal e.number) (decimal e.line) (source_words aim.source))
+    (remark_line _ (wider (70 + (71 + (16 + 20))) 1000 _ (omega arith)
+    (game_part e.number (71 + (16 + 20)) _ (line_part e.line (16 + 20) _
+    (joined 16 20 (codes ": stipulated by ") (source_words aim.source) (record { shown = refl; few = omega arith }) (source_part aim.source))))))
+
+-- ---- counts
+
+one_count : (first : Bool) (name : List ℕ) (n k : ℕ) (none : Bool) → IsPart k name
+    → IsPart (2 + (k + (1 + 64))) (if none then [] else (if first then codes " " else codes ", ") ++ (name ++ (codes " " ++ decimal n)))
+one_count first name n k true h = record { shown = refl; few = omega arith }
+one_count true name n k false h =
+    joined 2 (k + (1 + 64)) (codes " ") _ (record { shown = refl; few = omega arith })
+    (joined k (1 + 64) name _ h (joined 1 64 (codes " ") (decimal n) (record { shown = refl; few = omega arith }) (number_part n)))
+one_count false name n k false h =
+    joined 2 (k + (1 + 64)) (codes ", ") _ (record { shown = refl; few = omega arith })
+    (joined k (1 + 64) name _ h (joined 1 64 (codes " ") (decimal n) (record { shown = refl; few = omega arith }) (number_part n)))
+
+abbrev Names : List (List ℕ × ℕ) → Type 0
+Names [] = Unit {0}
+Names (c ∷ cs) = IsPart 13 c.0 × Names cs
+
+all_counts : (first : Bool) (cs : List (List ℕ × ℕ)) → Names cs → IsPart (80 * length cs) (counts_words first cs)
+all_counts first [] h = record { shown = refl; few = omega arith }
+all_counts first (c ∷ cs) h =
+    wider (80 + 80 * length cs) (80 * length (c ∷ cs)) _ (omega arith)
+    (joined 80 (80 * length cs) _ _ (one_count first c.0 c.1 13 (c.1 == 0) h.0) (all_counts (first && c.1 == 0) cs h.1))
+
+name_part : (name : List ℕ) → list_all shows name ≡ true → nat_le (length name) 13 ≡ true → IsPart 13 name
+name_part name h k = record { shown = h; few = leb-true (length name) 13 k }
+
+counted_part : (n : Notes) (tags repeated : ℕ) → IsPart 480 (counted_words n tags repeated)
+unfolding counted_words
+counted_part n tags repeated =
+    all_counts true ((codes "comments", n.comments) ∷ (codes "NAGs", n.asides) ∷ (codes "tags", tags) ∷ move_counts n repeated) (
+      name_part (codes "comments") refl refl,
+      (
+        name_part (codes "NAGs") refl refl,
+        (
+          name_part (codes "tags") refl refl,
+          (name_part (codes "repeated") refl refl, (name_part (codes "null moves") refl refl, (name_part (codes "moves behind") refl refl, tt))),
+        ),
+      ),
+    )
+
+not_taken_is : (words : List ℕ) → codes "# not taken over:" ++ (words ++ codes "\n") ≡ hashed (codes " not taken over:" ++ words) ++ 10 ∷ []
+not_taken_is words = refl
+
+counts_remark : (words : List ℕ) (none : Bool) → IsPart 480 words → AreLines IsRemark (if none then [] else codes "# not taken over:" ++ (words ++ codes "\n"))
+counts_remark words true h = no_lines IsRemark
+counts_remark words false h =
+    one_line IsRemark _ _ (not_taken_is words)
+    (remark_line _ (wider (16 + 480) 1000 _ (omega arith) (joined 16 480 (codes " not taken over:") words (record { shown = refl; few = omega arith }) h)))
+
+-- ---- places
+
+pub place_part : (p : Place) → IsPart 142 (place_words p)
+unfolding place_words
+place_part p =
+    joined 5 137 (codes "line ") _ (record { shown = refl; few = omega arith })
+    (joined 64 73 (decimal p.line) _ (number_part p.line)
+    (joined 9 64 (codes ", column ") (decimal p.column) (record { shown = refl; few = omega arith }) (number_part p.column)))
+
+behind_is : (place : List ℕ) → codes "# behind the result: " ++ (place ++ codes "\n") ≡ hashed (codes " behind the result: " ++ place) ++ 10 ∷ []
+behind_is place = refl
+
+behind_by : (p : Place) (none : Bool) → AreLines IsRemark (if none then [] else codes "# behind the result: " ++ (place_words p ++ codes "\n"))
+behind_by p true = no_lines IsRemark
+behind_by p false =
+    one_line IsRemark _ _ (behind_is (place_words p))
+    (remark_line _ (wider (20 + 142) 1000 _ (omega arith)
+    (joined 20 142 (codes " behind the result: ") (place_words p) (record { shown = refl; few = omega arith }) (place_part p))))
+
+behind_remark : (e : Entry) (text : List ℕ) → AreLines IsRemark (behind_line e text)
+unfolding behind_line
+behind_remark e text = behind_by (place_in e (length (behind is_blank text))) (length (behind is_blank text) == 0)
+
+-- ---- originals of tags
+
+shown_by : (b : ℕ) (low : Bool) → (nat_le b 31 || b == 127) ≡ low → shows (if low then 32 else b) ≡ true
+shown_by b true e = refl
+shown_by b false e =
+    let high = leb-false b 31 (or_parts (nat_le b 31) (b == 127) e).0 in
+    le-leb 32 b (omega arith)
+
+all_shown : (bytes : List ℕ) → list_all shows (map shown bytes) ≡ true
+all_shown [] = refl
+all_shown (b ∷ bs) = rw (shown_by b (nat_le b 31 || b == 127) refl) (all_shown bs)
+
+original_part : (value : List ℕ) → IsPart 255 (map shown (take 255 value))
+original_part value = record { shown = all_shown (take 255 value); few = few_mapped value }
+  where
+    few_taken : (n : ℕ) (xs : List ℕ) → length (take n xs) ≤ n
+    few_taken zero xs = omega arith
+    few_taken (suc n) [] = omega arith
+    few_taken (suc n) (x ∷ xs) = omega (arith, few_taken n xs)
+
+    few_by : (k : ℕ) → k ≡ 255 → (value : List ℕ) → length (map shown (take k value)) ≤ 255
+    few_by k e value = omega (arith, length-map (take k value) shown, few_taken k value)
+
+    few_mapped : (value : List ℕ) → length (map shown (take 255 value)) ≤ 255
+    few_mapped value = few_by 255 refl value
+
+pub tag_part : (name : TagName) → IsPart 5 (tag_name name)
+tag_part named.Event = record { shown = refl; few = omega arith }
+tag_part named.Site = record { shown = refl; few = omega arith }
+tag_part named.Date = record { shown = refl; few = omega arith }
+tag_part named.Round = record { shown = refl; few = omega arith }
+tag_part named.White = record { shown = refl; few = omega arith }
+tag_part named.Black = record { shown = refl; few = omega arith }
+
+was_is : (name value : List ℕ) → codes "# " ++ (name ++ (codes " was: " ++ (value ++ codes "\n"))) ≡ hashed (codes " " ++ (name ++ (codes " was: " ++ value))) ++ 10 ∷ []
+was_is name value = simp append_assoc
+
+was_by : (name : TagName) (value : List ℕ) (same : Bool)
+    → AreLines IsRemark (if same then [] else codes "# " ++ (tag_name name ++ (codes " was: " ++ (map shown (take 255 value) ++ codes "\n"))))
+was_by name value true = no_lines IsRemark
+was_by name value false =
+    one_line IsRemark _ _ (was_is (tag_name name) (map shown (take 255 value)))
+    (remark_line _ (wider (1 + (5 + (6 + 255))) 1000 _ (omega arith)
+    (joined 1 (5 + (6 + 255)) (codes " ") _ (record { shown = refl; few = omega arith })
+    (joined 5 (6 + 255) (tag_name name) _ (tag_part name)
+    (joined 6 255 (codes " was: ") (map shown (take 255 value)) (record { shown = refl; few = omega arith }) (original_part value))))))
+
+was_remark : (name : TagName) (value : Option (List ℕ)) → AreLines IsRemark (was_of name value)
+was_remark name None = no_lines IsRemark
+was_remark name (Some value) = was_by name (unescaped value) (bytes_eq (tag_text (unescaped value)) (trimmed (unescaped value)))
+
+was_lines : (tags : List Pair) (names : List TagName) → AreLines IsRemark (flat_map (was_line tags) names)
+unfolding was_line
+was_lines tags [] = no_lines IsRemark
+was_lines tags (name ∷ names) =
+    more_lines IsRemark (was_of name (value_of (tag_name name) tags)) (flat_map (was_line tags) names) (was_remark name (value_of (tag_name name) tags)) (was_lines tags names)
+
+pub remarks_are : (e : Entry) (t : Told) → AreLines IsRemark (remark_lines e t)
+unfolding remark_lines
+remarks_are e t =
+    more_lines IsRemark (counts_line (counted_words t.notes (other_tags (tags_of e.text)) t.repeated)) (behind_line e t.behind ++ flat_map (was_line (tags_of e.text)) six_names)
+    (counts_remark (counted_words t.notes (other_tags (tags_of e.text)) t.repeated) (length (counted_words t.notes (other_tags (tags_of e.text)) t.repeated) == 0)
+    (counted_part t.notes (other_tags (tags_of e.text)) t.repeated))
+    (more_lines IsRemark (behind_line e t.behind) (flat_map (was_line (tags_of e.text)) six_names) (behind_remark e t.behind) (was_lines (tags_of e.text) six_names))
+
+-- ---- games without a study
+
+left_is : (a b words : List ℕ) → (codes "# game " ++ a) ++ (codes ", line " ++ (b ++ (codes ": " ++ (words ++ codes "\n\n"))))
+    ≡ (hashed (codes " game " ++ (a ++ (codes ", line " ++ (b ++ (codes ": " ++ words))))) ++ 10 ∷ []) ++ 10 ∷ []
+left_is a b words = simp append_assoc
+
+two_lines : (t : List ℕ) → IsRemark t → AreLines IsRemark ((t ++ 10 ∷ []) ++ 10 ∷ [])
+two_lines t h = more_lines IsRemark (t ++ 10 ∷ []) (10 ∷ []) (one_line IsRemark (t ++ 10 ∷ []) t refl h) (one_line IsRemark (10 ∷ []) [] refl empty_line)
+
+as_lines : (s t : List ℕ) → s ≡ t → AreLines IsRemark t → AreLines IsRemark s
+as_lines s t e h = record { lines = h.lines; each = h.each; text = e ∙ h.text }
+
+pub left_out_is : (e : Entry) (words : List ℕ) → IsPart 100 words → AreLines IsRemark (left_out e words)
+unfolding left_out
+left_out_is e words h =
+    as_lines _ _ (left_is (decimal e.number) (decimal e.line) words)
+    (two_lines _ (remark_line _ (wider (70 + (71 + (2 + 100))) 1000 _ (omega arith)
+    (game_part e.number (71 + (2 + 100)) _ (line_part e.line (2 + 100) _
+    (joined 2 100 (codes ": ") words (record { shown = refl; few = omega arith }) h))))))
+
+fault_is : (a place name symbol : List ℕ) → (codes "# game " ++ a) ++ (codes ", " ++ (place ++ (codes ": " ++ (name ++ (symbol ++ codes "\n\n")))))
+    ≡ (hashed (codes " game " ++ (a ++ (codes ", " ++ (place ++ (codes ": " ++ (name ++ symbol)))))) ++ 10 ∷ []) ++ 10 ∷ []
+fault_is a place name symbol = simp append_assoc
+
+pub fault_words_are : (number : ℕ) (p : Place) (name symbol : List ℕ) → IsPart 20 name → IsPart 44 symbol → AreLines IsRemark (fault_words number p name symbol)
+unfolding fault_words
+fault_words_are number p name symbol h k =
+    as_lines _ _ (fault_is (decimal number) (place_words p) name symbol)
+    (two_lines _ (remark_line _ (wider (70 + (2 + (142 + (2 + (20 + 44))))) 1000 _ (omega arith)
+    (game_part number (2 + (142 + (2 + (20 + 44)))) _
+    (joined 2 (142 + (2 + (20 + 44))) (codes ", ") _ (record { shown = refl; few = omega arith })
+    (joined 142 (2 + (20 + 44)) (place_words p) _ (place_part p)
+    (joined 2 (20 + 44) (codes ": ") (name ++ symbol) (record { shown = refl; few = omega arith }) (joined 20 44 name symbol h k))))))))
+
+-- ---- names of faults
+
+pub token_part : (fault : TokenFault) → IsPart 20 (token_name fault)
+token_part token.OpenComment = record { shown = refl; few = omega arith }
+token_part token.TagForm = record { shown = refl; few = omega arith }
+token_part token.OpenString = record { shown = refl; few = omega arith }
+token_part token.Byte = record { shown = refl; few = omega arith }
+
+san_part : (fault : SanFault) → IsPart 20 (san_name fault)
+san_part san.NotSan = record { shown = refl; few = omega arith }
+san_part san.CastlingLeftOut = record { shown = refl; few = omega arith }
+san_part san.NoSuchMove = record { shown = refl; few = omega arith }
+san_part san.Ambiguous = record { shown = refl; few = omega arith }
+
+move_part : (fault : MoveFault) → IsPart 20 (move_name fault)
+move_part move_fault.NoSuchNode = record { shown = refl; few = omega arith }
+move_part (move_fault.San fault) = san_part fault
+move_part move_fault.TooDeep = record { shown = refl; few = omega arith }
+move_part move_fault.TreeFull = record { shown = refl; few = omega arith }
+move_part move_fault.OutOfMemory = record { shown = refl; few = omega arith }
+
+line_fault_part : (fault : LineFault) → IsPart 20 (line_name fault)
+line_fault_part line_fault.NoMoveBefore = record { shown = refl; few = omega arith }
+line_fault_part line_fault.TooNested = record { shown = refl; few = omega arith }
+line_fault_part line_fault.NotOpened = record { shown = refl; few = omega arith }
+line_fault_part line_fault.OutOfMemory = record { shown = refl; few = omega arith }
+
+reason_part : (why : Reason) → IsPart 20 (reason_name why)
+reason_part (reason.Move fault) = move_part fault
+reason_part (reason.Line fault) = line_fault_part fault
+reason_part reason.TagInMoves = record { shown = refl; few = omega arith }
+
+stop_part : (why : Stop) → IsPart 20 (stop_name why)
+stop_part (stop.Token fault) = token_part fault
+stop_part (stop.Taking why) = reason_part why
+stop_part stop.OpenVariation = record { shown = refl; few = omega arith }
+
+-- no byte of a symbol is a control code
+low_bytes : agree_below is_symbol_byte (λ _. false) 32 ≡ true
+low_bytes = refl
+
+symbol_shows : (b : ℕ) → is_symbol_byte b ≡ true → shows b ≡ true
+symbol_shows b e = elim (cases_lt b 32) [
+  | inl low ↦ absurd (false≢true (sym (agree_below_at is_symbol_byte (λ _. false) 32 b low_bytes low) ∙ e))
+  | inr high ↦ le-leb 32 b high
+]
+
+front_shown : (text : List ℕ) → list_all shows (front is_symbol_byte text) ≡ true
+front_shown [] = refl
+front_shown (b ∷ bs) = elim (cases_Bool (is_symbol_byte b)) [
+  | inl is ↦ rw is (front_cons b bs (prefix_len is_symbol_byte bs) is (front_shown bs))
+  | inr other ↦ rw other refl
+]
+  where
+    one_up : (n : ℕ) → 1 + n ≡ suc n
+    one_up n = omega arith
+
+    front_cons : (b : ℕ) (bs : List ℕ) (n : ℕ) → is_symbol_byte b ≡ true → list_all shows (take n bs) ≡ true → list_all shows (take (1 + n) (b ∷ bs)) ≡ true
+    front_cons b bs n is h = rw (one_up n) (and_from (shows b) (list_all shows (take n bs)) (symbol_shows b is) h)
+
+shown_take : (n : ℕ) (xs : List ℕ) → list_all shows xs ≡ true → list_all shows (take n xs) ≡ true
+shown_take zero xs h = refl
+shown_take (suc n) [] h = refl
+shown_take (suc n) (x ∷ xs) h = let a = and_parts (shows x) (list_all shows xs) h in rw a.0 (shown_take n xs a.1)
+
+few_taken : (n : ℕ) (xs : List ℕ) → length (take n xs) ≤ n
+few_taken zero xs = omega arith
+few_taken (suc n) [] = omega arith
+few_taken (suc n) (x ∷ xs) = omega (arith, few_taken n xs)
+
+at_symbol : (text : List ℕ) → IsPart 44 (codes " at " ++ take 40 (front is_symbol_byte text))
+at_symbol text =
+    joined 4 40 (codes " at ") (take 40 (front is_symbol_byte text)) (record { shown = refl; few = omega arith })
+    (record { shown = shown_take 40 (front is_symbol_byte text) (front_shown text); few = few_taken 40 (front is_symbol_byte text) })
+
+none_part : IsPart 44 []
+none_part = record { shown = refl; few = omega arith }
+
+symbol_part : (why : Stop) (text : List ℕ) → IsPart 44 (symbol_words why text)
+symbol_part (stop.Taking (reason.Move (move_fault.San fault))) text = at_symbol text
+symbol_part (stop.Taking (reason.Move move_fault.NoSuchNode)) text = none_part
+symbol_part (stop.Taking (reason.Move move_fault.TooDeep)) text = none_part
+symbol_part (stop.Taking (reason.Move move_fault.TreeFull)) text = none_part
+symbol_part (stop.Taking (reason.Move move_fault.OutOfMemory)) text = none_part
+symbol_part (stop.Taking (reason.Line fault)) text = none_part
+symbol_part (stop.Taking reason.TagInMoves) text = none_part
+symbol_part (stop.Token fault) text = none_part
+symbol_part stop.OpenVariation text = none_part
+
+pub stopped_lines : (e : Entry) (fault : MovesFault) → AreLines IsRemark (stopped_block e fault).text
+stopped_lines e fault =
+    fault_words_are e.number (place_in e fault.left) (stop_name fault.why) (symbol_words fault.why (text_at e fault.left)) (stop_part fault.why)
+    (symbol_part fault.why (text_at e fault.left))
+
+fen_part : (fault : FenFault) → IsPart 100 (fen_name fault)
+fen_part fen.FieldCount = record { shown = refl; few = omega arith }
+fen_part fen.Placement = record { shown = refl; few = omega arith }
+fen_part fen.TooManyMen = record { shown = refl; few = omega arith }
+fen_part fen.KingCount = record { shown = refl; few = omega arith }
+fen_part fen.PawnOnEndRank = record { shown = refl; few = omega arith }
+fen_part fen.SideField = record { shown = refl; few = omega arith }
+fen_part fen.OpponentInCheck = record { shown = refl; few = omega arith }
+fen_part fen.Castling = record { shown = refl; few = omega arith }
+fen_part fen.EnPassantField = record { shown = refl; few = omega arith }
+fen_part fen.EnPassantImpossible = record { shown = refl; few = omega arith }
+fen_part fen.Clock = record { shown = refl; few = omega arith }
+fen_part fen.MoveNumber = record { shown = refl; few = omega arith }
+
+pub fen_words_part : (text : List ℕ) (fault : FenFault) → IsPart 100 (fen_words text fault)
+fen_words_part text fen.TooManyMen =
+    wider (10 + (64 + 4)) 100 _ (omega arith)
+    (joined 10 (64 + 4) (codes "left out: ") _ (record { shown = refl; few = omega arith })
+    (joined 64 4 (decimal (at_most (men_in (first_word text)))) (codes " men") (number_part (at_most (men_in (first_word text)))) (record { shown = refl; few = omega arith })))
+fen_words_part text fen.FieldCount = fen_part fen.FieldCount
+fen_words_part text fen.Placement = fen_part fen.Placement
+fen_words_part text fen.KingCount = fen_part fen.KingCount
+fen_words_part text fen.PawnOnEndRank = fen_part fen.PawnOnEndRank
+fen_words_part text fen.SideField = fen_part fen.SideField
+fen_words_part text fen.OpponentInCheck = fen_part fen.OpponentInCheck
+fen_words_part text fen.Castling = fen_part fen.Castling
+fen_words_part text fen.EnPassantField = fen_part fen.EnPassantField
+fen_words_part text fen.EnPassantImpossible = fen_part fen.EnPassantImpossible
+fen_words_part text fen.Clock = fen_part fen.Clock
+fen_words_part text fen.MoveNumber = fen_part fen.MoveNumber
+
+last_is_line : (a b : List ℕ) → codes "# games " ++ (a ++ (codes ", studies " ++ (b ++ codes "\n"))) ≡ hashed (codes " games " ++ (a ++ (codes ", studies " ++ b))) ++ 10 ∷ []
+last_is_line a b = simp append_assoc
+
+pub last_is : (games studies : ℕ) → AreLines IsRemark (last_line games studies)
+unfolding last_line
+last_is games studies =
+    one_line IsRemark _ _ (last_is_line (decimal games) (decimal studies))
+    (remark_line _ (wider (7 + (64 + (10 + 64))) 1000 _ (omega arith)
+    (joined 7 (64 + (10 + 64)) (codes " games ") _ (record { shown = refl; few = omega arith })
+    (joined 64 (10 + 64) (decimal games) _ (number_part games)
+    (joined 10 64 (codes ", studies ") (decimal studies) (record { shown = refl; few = omega arith }) (number_part studies))))))

@@ -1,0 +1,181 @@
+-- Each token has a byte at least, so that a game is read to its end.
+use Rattle.std.proofs.Common.{◌≡◌, ℕ, zero, suc, ◌+◌, ◌-◌, ◌<◌, ◌≤◌, Bool, true, false, List, [], ◌∷◌, length, drop, Option, Some, None, Result, Ok, Err, refl, sym, ap, subst, ◌∙◌, inl, inr, arith, length-drop}
+use Rattle.std.specs.Prelude.{◌==◌, ◌&&◌, ◌||◌, if◌then◌else◌}
+use Rattle.std.specs.List.{prefix_len}
+use Rattle.std.proofs.lemmas.Bool.{cases_Bool}
+use Rattle.study_notation.specs.declared.start.Start.{Start}
+use Rattle.study_games.specs.declared.token.TokenFault.{TokenFault}
+use Rattle.study_games.specs.declared.token.TokenFault.TheVariants.{OpenComment, TagForm, OpenString, Byte}
+use Rattle.study_games.specs.declared.header.HeaderFault.{HeaderFault}
+use Rattle.study_games.specs.Bytes.{is_blank, is_gap, is_letter, is_digit, is_name_byte, is_sign, begins_symbol, is_symbol_byte, is_glyph}
+use Rattle.study_games.specs.Tokens.{Token, Lexed, front, behind, closed, is_inside, comment_at, is_in_line, value_end, without_first, behind_value, valued, quoted, named, tag_at, run_of, lexed, begins_feed, blank, aside, opening, closing, star, tag, comment, rest, sign, symbol}
+use Rattle.study_games.specs.Header.{Pair, Step, on, no_tag, ended, step_of, step_at, with_tags, tags_in, with_fault, fault_in, tags_of, header_fault}
+use Rattle.study_import.specs.declared.taking.Reason.{Reason}
+use Rattle.study_import.specs.declared.movetext.MovesFault.{MovesFault}
+use Rattle.study_import.specs.Notes.{GameRead, GameTaken, game_taken}
+use Rattle.study_import.specs.Movetext.{Ended, at_end, goes_on, on_token, read_moves}
+use Rattle.study_import.specs.Blocks.{no_moves, game_read}
+use Rattle.study_import.specs.Laws.{IsWhole, AreWhole}
+
+-- what follows a token has so many bytes at most
+abbrev Within : ℕ → Lexed → Type 0
+Within n (Err fault) = Unit {0}
+Within n (Ok x) = length x.1 ≤ n
+
+behind_le : (p : ℕ → Bool) (text : List ℕ) → length (behind p text) ≤ length text
+behind_le p text = omega (arith, length-drop (prefix_len p text) text)
+
+within_if : (b : Bool) (n : ℕ) (x y : Lexed) → (b ≡ true → Within n x) → Within n y → Within n (if b then x else y)
+within_if true n x y h k = h refl
+within_if false n x y h k = k
+
+within_closed : (n : ℕ) (text rest : List ℕ) → length rest ≤ n → Within n (closed text rest)
+within_closed n text [] h = tt
+within_closed n text (b ∷ bs) h = omega arith
+
+within_comment : (text : List ℕ) → Within (length text) (comment_at text)
+unfolding comment_at
+within_comment text = within_closed (length text) (front is_inside text) (behind is_inside text) (behind_le is_inside text)
+
+first_le : (text : List ℕ) → length (without_first text) ≤ length text
+first_le [] = omega arith
+first_le (b ∷ bs) = omega arith
+
+value_le : (text : List ℕ) → length (behind_value text) ≤ length text
+unfolding behind_value
+value_le text = omega (arith, first_le (behind is_gap (without_first text)), behind_le is_gap (without_first text), first_le text)
+
+within_valued : (n : ℕ) (name text : List ℕ) (o : Option ℕ) → length text ≤ n → Within n (valued name text o)
+within_valued n name text None h = tt
+within_valued n name text (Some k) h = omega (arith, value_le (drop k text), length-drop k text)
+
+within_quoted : (n : ℕ) (name text : List ℕ) → length text ≤ n → Within n (quoted name text)
+within_quoted n name [] h = tt
+within_quoted n name (b ∷ bs) h =
+    within_if (b == 34) n (valued name bs (value_end 0 false bs)) (Err TagForm) (λ e. within_valued n name bs (value_end 0 false bs) (omega arith)) tt
+
+within_named : (n : ℕ) (text : List ℕ) → length text ≤ n → Within n (named text)
+within_named n [] h = tt
+within_named n (b ∷ bs) h =
+    within_if (is_letter b) n (quoted (front is_name_byte (b ∷ bs)) (behind is_gap (behind is_name_byte (b ∷ bs)))) (Err TagForm)
+    (λ e. within_quoted n (front is_name_byte (b ∷ bs)) (behind is_gap (behind is_name_byte (b ∷ bs)))
+    (omega (arith, behind_le is_gap (behind is_name_byte (b ∷ bs)), behind_le is_name_byte (b ∷ bs)))) tt
+
+within_tag : (text : List ℕ) → Within (length text) (tag_at text)
+unfolding tag_at
+within_tag text = within_named (length text) (behind is_gap text) (behind_le is_gap text)
+
+run_le : (p : ℕ → Bool) (b : ℕ) (bs : List ℕ) → p b ≡ true → length (behind p (b ∷ bs)) ≤ length bs
+run_le p b bs h = rw h (omega (arith, length-drop (1 + prefix_len p bs) (b ∷ bs)))
+
+symbol_begins : (b : ℕ) → begins_symbol b ≡ true → is_symbol_byte b ≡ true
+symbol_begins b h = rw h refl
+
+within_lexed : (fresh : Bool) (b : ℕ) (bs : List ℕ) → Within (length bs) (lexed fresh b bs)
+unfolding lexed
+within_lexed fresh b bs =
+    within_if (fresh && b == 37) (length bs) _ _ (λ e. behind_le is_in_line bs)
+    (within_if (is_blank b || b == 46) (length bs) _ _ (λ e. omega arith)
+    (within_if (b == 123) (length bs) _ _ (λ e. within_comment bs)
+    (within_if (b == 59) (length bs) _ _ (λ e. behind_le is_in_line bs)
+    (within_if (b == 91) (length bs) _ _ (λ e. within_tag bs)
+    (within_if (b == 40) (length bs) _ _ (λ e. omega arith)
+    (within_if (b == 41) (length bs) _ _ (λ e. omega arith)
+    (within_if (b == 42) (length bs) _ _ (λ e. omega arith)
+    (within_if (b == 36) (length bs) _ _ (λ e. behind_le is_digit bs)
+    (within_if (is_glyph b) (length bs) _ _ (λ e. behind_le is_glyph bs)
+    (within_if (is_sign b) (length bs) _ _ (λ e. run_le is_sign b bs e)
+    (within_if (begins_symbol b) (length bs) _ _ (λ e. run_le is_symbol_byte b bs (symbol_begins b e)) tt)))))))))))
+
+-- ---- moves
+
+same_if : (b : Bool) (x y z : Result Ended MovesFault) → y ≡ z → (if b then x else y) ≡ (if b then x else z)
+same_if true x y z e = refl
+same_if false x y z e = e
+
+same_on : (p q : GameRead → Result Ended MovesFault) (left : ℕ) (behind : List ℕ) (t : Result GameTaken Reason) → ((g : GameRead) → p g ≡ q g)
+    → goes_on p left behind t ≡ goes_on q left behind t
+same_on p q left behind (Err why) h = refl
+same_on p q left behind (Ok t) h = same_if t.ended _ (p t.game) (q t.game) (h t.game)
+
+same_token : (p q : List ℕ → GameRead → Result Ended MovesFault) (left n : ℕ) (g : GameRead) (x : Lexed) → Within n x
+    → ((bs : List ℕ) (h : GameRead) → length bs ≤ n → p bs h ≡ q bs h) → on_token p left g x ≡ on_token q left g x
+same_token p q left n g (Err fault) w h = refl
+same_token p q left n g (Ok x) w h = same_on (p x.1) (q x.1) left x.1 (game_taken g x.0) (λ k. h x.1 k w)
+
+moves_same : (n m : ℕ) (fresh : Bool) (text : List ℕ) (g : GameRead) → length text ≤ n → length text ≤ m → read_moves n fresh text g ≡ read_moves m fresh text g
+moves_same zero zero fresh text g h k = refl
+moves_same zero (suc m) fresh [] g h k = refl
+moves_same zero (suc m) fresh (b ∷ bs) g h k = absurd (omega arith)
+moves_same (suc n) zero fresh [] g h k = refl
+moves_same (suc n) zero fresh (b ∷ bs) g h k = absurd (omega arith)
+moves_same (suc n) (suc m) fresh [] g h k = refl
+moves_same (suc n) (suc m) fresh (b ∷ bs) g h k =
+    same_token (read_moves n (b == 10)) (read_moves m (b == 10)) (length (b ∷ bs)) (length bs) g (lexed fresh b bs) (within_lexed fresh b bs)
+    (λ rest x le. moves_same n m (b == 10) rest x (omega arith) (omega arith))
+
+-- ---- headers
+
+abbrev StepWithin : ℕ → Step → Type 0
+StepWithin n (on pair behind) = length behind ≤ n
+StepWithin n other = Unit {0}
+
+within_step : (n : ℕ) (x : Lexed) → Within n x → StepWithin n (step_of x)
+within_step n (Ok (tag name value, behind)) h = h
+within_step n (Ok (blank, behind)) h = h
+within_step n (Ok (comment text, behind)) h = h
+within_step n (Ok (rest text, behind)) h = h
+within_step n (Ok (aside, behind)) h = tt
+within_step n (Ok (opening, behind)) h = tt
+within_step n (Ok (closing, behind)) h = tt
+within_step n (Ok (star, behind)) h = tt
+within_step n (Ok (sign text, behind)) h = tt
+within_step n (Ok (symbol text, behind)) h = tt
+within_step n (Err TagForm) h = tt
+within_step n (Err OpenString) h = tt
+within_step n (Err OpenComment) h = tt
+within_step n (Err Byte) h = tt
+
+same_tags : (p q : List ℕ → List Pair) (n : ℕ) (s : Step) → StepWithin n s → ((bs : List ℕ) → length bs ≤ n → p bs ≡ q bs) → with_tags p s ≡ with_tags q s
+same_tags p q n (on (Some pair) behind) w h = ap (λ (ps : List Pair). pair ∷ ps) (h behind w)
+same_tags p q n (on None behind) w h = h behind w
+same_tags p q n (no_tag why) w h = refl
+same_tags p q n ended w h = refl
+
+tags_none : (n : ℕ) (fresh : Bool) → tags_in n fresh [] ≡ []
+tags_none zero fresh = refl
+tags_none (suc n) fresh = refl
+
+tags_same : (n m : ℕ) (fresh : Bool) (text : List ℕ) → length text ≤ n → length text ≤ m → tags_in n fresh text ≡ tags_in m fresh text
+tags_same n m fresh [] h k = tags_none n fresh ∙ sym (tags_none m fresh)
+tags_same zero m fresh (b ∷ bs) h k = absurd (omega arith)
+tags_same (suc n) zero fresh (b ∷ bs) h k = absurd (omega arith)
+tags_same (suc n) (suc m) fresh (b ∷ bs) h k =
+    same_tags (tags_in n (b == 10)) (tags_in m (b == 10)) (length bs) (step_of (lexed fresh b bs)) (within_step (length bs) (lexed fresh b bs) (within_lexed fresh b bs))
+    (λ rest le. tags_same n m (b == 10) rest (omega arith) (omega arith))
+
+same_fault : (p q : List ℕ → Option HeaderFault) (left n : ℕ) (s : Step) → StepWithin n s → ((bs : List ℕ) → length bs ≤ n → p bs ≡ q bs)
+    → with_fault p left s ≡ with_fault q left s
+same_fault p q left n (on pair behind) w h = h behind w
+same_fault p q left n (no_tag why) w h = refl
+same_fault p q left n ended w h = refl
+
+fault_none : (n : ℕ) (fresh : Bool) → fault_in n fresh [] ≡ None
+fault_none zero fresh = refl
+fault_none (suc n) fresh = refl
+
+fault_same : (n m : ℕ) (fresh : Bool) (text : List ℕ) → length text ≤ n → length text ≤ m → fault_in n fresh text ≡ fault_in m fresh text
+fault_same n m fresh [] h k = fault_none n fresh ∙ sym (fault_none m fresh)
+fault_same zero m fresh (b ∷ bs) h k = absurd (omega arith)
+fault_same (suc n) zero fresh (b ∷ bs) h k = absurd (omega arith)
+fault_same (suc n) (suc m) fresh (b ∷ bs) h k =
+    same_fault (fault_in n (b == 10)) (fault_in m (b == 10)) (length (b ∷ bs)) (length bs) (step_of (lexed fresh b bs))
+    (within_step (length bs) (lexed fresh b bs) (within_lexed fresh b bs)) (λ rest le. fault_same n m (b == 10) rest (omega arith) (omega arith))
+
+pub are_whole : AreWhole
+unfolding game_read tags_of header_fault
+are_whole text n le = record {
+  moves = λ start. moves_same n (length text) true text (no_moves start) le (omega arith);
+  tags = tags_same n (length text) true text le (omega arith);
+  fault = fault_same n (length text) true text le (omega arith);
+}

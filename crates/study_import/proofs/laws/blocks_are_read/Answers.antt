@@ -1,0 +1,5 @@
+use Rattle.study_import.proofs.Soundness.{are_read}
+use Rattle.study_import.proofs.laws.blocks_are_read.Goals as goal
+
+pub returns : goal.returns
+returns c = are_read

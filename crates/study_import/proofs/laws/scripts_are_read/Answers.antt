@@ -1,0 +1,5 @@
+use Rattle.study_import.proofs.Soundness.{scripts_read}
+use Rattle.study_import.proofs.laws.scripts_are_read.Goals as goal
+
+pub returns : goal.returns
+returns c = scripts_read

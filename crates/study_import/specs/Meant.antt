@@ -1,0 +1,48 @@
+-- The study to which a game comes.
+use Rattle.std.specs.Prelude.{ℕ, List, map, codes, Option, Some, None, Result, Ok, Err}
+use Rattle.study_notation.specs.declared.start.Start.{Start}
+use Rattle.study_notation.specs.declared.fault.FenFault.{FenFault}
+use Rattle.study_notation.specs.Fen.{start_of}
+use Rattle.study_marks.specs.declared.stipulation.Stipulation.{Stipulation}
+use Rattle.study_marks.specs.Study.{tag_name}
+use Rattle.study_marks.specs.Edits.{Plainly}
+use Rattle.study_games.specs.Header.{Pair, tags_of, header_fault, value_of}
+use Rattle.study_games.specs.declared.header.HeaderFault.{HeaderFault}
+use Rattle.study_import.specs.declared.aims.Aim.{Aim}
+use Rattle.study_import.specs.declared.movetext.MovesFault.{MovesFault}
+use Rattle.study_import.specs.Movetext.{Ended}
+use Rattle.study_import.specs.Blocks.{six_names, tag_value_text, aim_of_game, game_read, fen_in}
+
+-- the texts of the six tags; each is known, if only as `?`
+abbrev pub tag_texts : List Pair → List (Option (List ℕ))
+tag_texts tags = map (λ name. Some (tag_value_text name (value_of (tag_name name) tags))) six_names
+
+abbrev pub study_aimed : Start → List Pair → Ended → Option Aim → Option Plainly
+study_aimed start tags x None = None
+study_aimed start tags x (Some aim) =
+    Some (record { start = start; stipulation = aim.stipulation; tags = tag_texts tags; tree = x.game.reading.study.tree })
+
+abbrev pub study_read : Option Stipulation → List Pair → Start → Result Ended MovesFault → Option Plainly
+study_read given tags start (Err fault) = None
+study_read given tags start (Ok x) = study_aimed start tags x (aim_of_game given tags start.position.to_move x.game.notes)
+
+abbrev pub study_begun : Option Stipulation → List ℕ → Result Start FenFault → Option Plainly
+study_begun given text (Err fault) = None
+study_begun given text (Ok start) = study_read given (tags_of text) start (game_read text start)
+
+abbrev pub study_with_fen : Option Stipulation → List ℕ → Option (List ℕ) → Option Plainly
+study_with_fen given text None = None
+study_with_fen given text (Some value) = study_begun given text (start_of (fen_in value))
+
+abbrev pub study_behind_header : Option Stipulation → List ℕ → Option HeaderFault → Option Plainly
+study_behind_header given text (Some fault) = None
+study_behind_header given text None = study_with_fen given text (value_of (codes "FEN") (tags_of text))
+
+-- the start of its FEN, its stipulation, its tags and its tree; none where the game is left out
+unfoldable pub study_in : Option Stipulation → List ℕ → Option Plainly
+study_in given text = study_behind_header given text (header_fault text)
+
+-- the same of a game that may have too many bytes
+abbrev pub study_of_game : Option Stipulation → Option (List ℕ) → Option Plainly
+study_of_game given None = None
+study_of_game given (Some text) = study_in given text
