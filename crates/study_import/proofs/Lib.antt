@@ -24,3 +24,12 @@ mod TagsTrimmed
 mod Soundness
 mod Placed
 mod Whole
+mod Blanks
+mod TreeHoles
+mod SanSymbols
+mod ReadSteps
+mod TreeRead
+mod Singles
+mod OpeningRead
+mod HeaderRead
+mod RoundTrip

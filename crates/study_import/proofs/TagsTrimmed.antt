@@ -19,7 +19,7 @@ use Rattle.study_import.proofs.TagTexts.{short_prints, short_few}
 
 -- ---- spaces at the end
 
-same_end : (xs : List ℕ) → without_end is_blank_space xs ≡ ended xs
+pub same_end : (xs : List ℕ) → without_end is_blank_space xs ≡ ended xs
 same_end [] = refl
 same_end (x ∷ xs) = ap (λ (t : List ℕ). if list_all is_space (x ∷ xs) then [] else x ∷ t) (same_end xs)
 

@@ -18,7 +18,7 @@ use Rattle.study_import.specs.Blocks.{no_moves, game_read}
 use Rattle.study_import.specs.Laws.{IsWhole, AreWhole}
 
 -- what follows a token has so many bytes at most
-abbrev Within : ℕ → Lexed → Type 0
+abbrev pub Within : ℕ → Lexed → Type 0
 Within n (Err fault) = Unit {0}
 Within n (Ok x) = length x.1 ≤ n
 
@@ -71,7 +71,7 @@ run_le p b bs h = rw h (omega (arith, length-drop (1 + prefix_len p bs) (b ∷ b
 symbol_begins : (b : ℕ) → begins_symbol b ≡ true → is_symbol_byte b ≡ true
 symbol_begins b h = rw h refl
 
-within_lexed : (fresh : Bool) (b : ℕ) (bs : List ℕ) → Within (length bs) (lexed fresh b bs)
+pub within_lexed : (fresh : Bool) (b : ℕ) (bs : List ℕ) → Within (length bs) (lexed fresh b bs)
 unfolding lexed
 within_lexed fresh b bs =
     within_if (fresh && b == 37) (length bs) _ _ (λ e. behind_le is_in_line bs)
@@ -98,12 +98,12 @@ same_on : (p q : GameRead → Result Ended MovesFault) (left : ℕ) (behind : Li
 same_on p q left behind (Err why) h = refl
 same_on p q left behind (Ok t) h = same_if t.ended _ (p t.game) (q t.game) (h t.game)
 
-same_token : (p q : List ℕ → GameRead → Result Ended MovesFault) (left n : ℕ) (g : GameRead) (x : Lexed) → Within n x
+pub same_token : (p q : List ℕ → GameRead → Result Ended MovesFault) (left n : ℕ) (g : GameRead) (x : Lexed) → Within n x
     → ((bs : List ℕ) (h : GameRead) → length bs ≤ n → p bs h ≡ q bs h) → on_token p left g x ≡ on_token q left g x
 same_token p q left n g (Err fault) w h = refl
 same_token p q left n g (Ok x) w h = same_on (p x.1) (q x.1) left x.1 (game_taken g x.0) (λ k. h x.1 k w)
 
-moves_same : (n m : ℕ) (fresh : Bool) (text : List ℕ) (g : GameRead) → length text ≤ n → length text ≤ m → read_moves n fresh text g ≡ read_moves m fresh text g
+pub moves_same : (n m : ℕ) (fresh : Bool) (text : List ℕ) (g : GameRead) → length text ≤ n → length text ≤ m → read_moves n fresh text g ≡ read_moves m fresh text g
 moves_same zero zero fresh text g h k = refl
 moves_same zero (suc m) fresh [] g h k = refl
 moves_same zero (suc m) fresh (b ∷ bs) g h k = absurd (omega arith)
@@ -116,11 +116,11 @@ moves_same (suc n) (suc m) fresh (b ∷ bs) g h k =
 
 -- ---- headers
 
-abbrev StepWithin : ℕ → Step → Type 0
+abbrev pub StepWithin : ℕ → Step → Type 0
 StepWithin n (on pair behind) = length behind ≤ n
 StepWithin n other = Unit {0}
 
-within_step : (n : ℕ) (x : Lexed) → Within n x → StepWithin n (step_of x)
+pub within_step : (n : ℕ) (x : Lexed) → Within n x → StepWithin n (step_of x)
 within_step n (Ok (tag name value, behind)) h = h
 within_step n (Ok (blank, behind)) h = h
 within_step n (Ok (comment text, behind)) h = h
@@ -136,7 +136,7 @@ within_step n (Err OpenString) h = tt
 within_step n (Err OpenComment) h = tt
 within_step n (Err Byte) h = tt
 
-same_tags : (p q : List ℕ → List Pair) (n : ℕ) (s : Step) → StepWithin n s → ((bs : List ℕ) → length bs ≤ n → p bs ≡ q bs) → with_tags p s ≡ with_tags q s
+pub same_tags : (p q : List ℕ → List Pair) (n : ℕ) (s : Step) → StepWithin n s → ((bs : List ℕ) → length bs ≤ n → p bs ≡ q bs) → with_tags p s ≡ with_tags q s
 same_tags p q n (on (Some pair) behind) w h = ap (λ (ps : List Pair). pair ∷ ps) (h behind w)
 same_tags p q n (on None behind) w h = h behind w
 same_tags p q n (no_tag why) w h = refl
@@ -146,7 +146,7 @@ tags_none : (n : ℕ) (fresh : Bool) → tags_in n fresh [] ≡ []
 tags_none zero fresh = refl
 tags_none (suc n) fresh = refl
 
-tags_same : (n m : ℕ) (fresh : Bool) (text : List ℕ) → length text ≤ n → length text ≤ m → tags_in n fresh text ≡ tags_in m fresh text
+pub tags_same : (n m : ℕ) (fresh : Bool) (text : List ℕ) → length text ≤ n → length text ≤ m → tags_in n fresh text ≡ tags_in m fresh text
 tags_same n m fresh [] h k = tags_none n fresh ∙ sym (tags_none m fresh)
 tags_same zero m fresh (b ∷ bs) h k = absurd (omega arith)
 tags_same (suc n) zero fresh (b ∷ bs) h k = absurd (omega arith)
@@ -154,7 +154,7 @@ tags_same (suc n) (suc m) fresh (b ∷ bs) h k =
     same_tags (tags_in n (b == 10)) (tags_in m (b == 10)) (length bs) (step_of (lexed fresh b bs)) (within_step (length bs) (lexed fresh b bs) (within_lexed fresh b bs))
     (λ rest le. tags_same n m (b == 10) rest (omega arith) (omega arith))
 
-same_fault : (p q : List ℕ → Option HeaderFault) (left n : ℕ) (s : Step) → StepWithin n s → ((bs : List ℕ) → length bs ≤ n → p bs ≡ q bs)
+pub same_fault : (p q : List ℕ → Option HeaderFault) (left n : ℕ) (s : Step) → StepWithin n s → ((bs : List ℕ) → length bs ≤ n → p bs ≡ q bs)
     → with_fault p left s ≡ with_fault q left s
 same_fault p q left n (on pair behind) w h = h behind w
 same_fault p q left n (no_tag why) w h = refl
@@ -164,7 +164,7 @@ fault_none : (n : ℕ) (fresh : Bool) → fault_in n fresh [] ≡ None
 fault_none zero fresh = refl
 fault_none (suc n) fresh = refl
 
-fault_same : (n m : ℕ) (fresh : Bool) (text : List ℕ) → length text ≤ n → length text ≤ m → fault_in n fresh text ≡ fault_in m fresh text
+pub fault_same : (n m : ℕ) (fresh : Bool) (text : List ℕ) → length text ≤ n → length text ≤ m → fault_in n fresh text ≡ fault_in m fresh text
 fault_same n m fresh [] h k = fault_none n fresh ∙ sym (fault_none m fresh)
 fault_same zero m fresh (b ∷ bs) h k = absurd (omega arith)
 fault_same (suc n) zero fresh (b ∷ bs) h k = absurd (omega arith)

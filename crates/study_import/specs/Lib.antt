@@ -14,3 +14,4 @@ pub mod Laws
 pub mod Insertions
 pub mod Documents
 pub mod Meant
+pub mod Written

@@ -1,5 +1,6 @@
 //! Laws of an import.
 ghost use Rattle.study_import.specs.Laws.{IsIsolated, AreAlike, AreAccepted, AreTaken, AreRead, AreScriptsRead, AreListed, AreWhole};
+ghost use Rattle.study_import.specs.Written.{AreReadBack};
 
 /// The blocks of a text that ends with a line of moves stay as they are, whatever file follows it; and what is written of that file
 /// depends on the text before it by numbers of games and of lines alone.
@@ -43,4 +44,9 @@ pub fn faults_are_listed()
 /// A game is read to its end: as many steps as it has bytes are enough for its header and for its moves.
 pub fn games_are_read_whole()
     ensures { AreWhole }
+{}
+
+/// The PGN that is written of a study comes to that study again: its start, its stipulation, its tags and its tree, in order.
+pub fn studies_are_read_back()
+    ensures { AreReadBack }
 {}

@@ -7,7 +7,7 @@ use study_board::Side;
 use study_import::{
     Choice, Importer, blocks_are_isolated, blocks_are_read, faults_are_listed,
     games_are_read_whole, import, moves_are_accepted, scripts_are_read, studies_are_alike,
-    tags_are_taken,
+    studies_are_read_back, tags_are_taken,
 };
 use study_marks::{Goal, Stipulation};
 use study_text::Text;
@@ -122,6 +122,7 @@ fn laws_are_called(_rt: HostRuntime) -> Result<(), Fail> {
     tags_are_taken();
     faults_are_listed();
     games_are_read_whole();
+    studies_are_read_back();
     Ok(())
 }
 

@@ -1,0 +1,297 @@
+-- Token by token through the movetext of a study.
+use Rattle.std.proofs.Common.{◌≡◌, ℕ, zero, suc, ◌+◌, ◌-◌, ◌/◌, ◌%◌, ◌<◌, ◌≤◌, Bool, true, false, List, [], ◌∷◌, ◌++◌, length, take, drop, get_or, Option, Some, None, Result, Ok, Err, refl, sym, ap, subst, ◌∙◌, ◌⊎◌, inl, inr, arith, length-append, append_assoc}
+use Rattle.std.specs.Prelude.{◌==◌, ◌&&◌, not, nat_le, nat_lt, slice_index, decimal, if◌then◌else◌}
+use Rattle.std.specs.List.{list_all}
+use Rattle.std.specs.Fmt.{digits, digits_onto, digit_glyph}
+use Rattle.std.proofs.lemmas.Bool.{lt-leb, le-ltb, le-leb, lt-ltb, and_right, cases_Bool, and_from}
+use Rattle.std.proofs.lemmas.List.{take_at, get_or_at}
+use Rattle.study_moves.specs.declared.moves.Move.{Move}
+use Rattle.study_moves.specs.Rules.{is_legal}
+use Rattle.study_notation.specs.Matching.{move_of}
+use Rattle.study_tree.specs.Edits.{children_at}
+use Rattle.study_tree.specs.Tree.{has_spot, size_of}
+use Rattle.study_marks.specs.declared.stipulation.Stipulation.{Stipulation}
+use Rattle.study_marks.specs.Study.{position_at, place_at}
+use Rattle.study_marks.specs.Edits.{Plainly, inserted, is_printable}
+use Rattle.study_games.specs.Bytes.{is_digit, begins_symbol, is_symbol_byte}
+use Rattle.study_games.specs.declared.symbols.Said.{Said}
+use Rattle.study_games.specs.declared.symbols.Said.TheVariants as say
+use Rattle.study_games.specs.Symbols.{said_of, san_in}
+use Rattle.study_games.specs.Tokens.{Token, Lexed, lexed, token_at, front, behind, is_inside, closed, comment_at, blank, aside, opening, closing, comment, symbol}
+use Rattle.study_games.proofs.Lexing.{Stops, run_cut, symbol_read}
+use Rattle.study_import.specs.declared.lines.Waiting.{Waiting}
+use Rattle.study_import.specs.declared.lines.LineFault.{LineFault}
+use Rattle.study_import.specs.declared.moves.MoveFault.{MoveFault}
+use Rattle.study_import.specs.declared.notes.Notes.{Notes}
+use Rattle.study_import.specs.declared.taking.Reason.{Reason}
+use Rattle.study_import.specs.declared.movetext.MovesFault.{MovesFault}
+use Rattle.study_import.specs.Lines.{Lines, begin_line, end_line, resumed}
+use Rattle.study_import.specs.Moves.{moved, moved_by}
+use Rattle.study_import.specs.Reading.{Reading, played, symbol_played}
+use Rattle.study_import.specs.Taken.{Taken, going_on, on_line, on_move, taken, taken_symbol}
+use Rattle.study_import.specs.Aims.{aim_in}
+use Rattle.study_import.specs.Notes.{GameRead, GameTaken, begun, with_aside, with_comment, with_move, with_said, noted, noted_on, game_taken}
+use Rattle.study_import.specs.Movetext.{Ended, goes_on, on_token, read_moves}
+use Rattle.study_import.proofs.Whole.{same_token, within_lexed, moves_same}
+use Rattle.study_import.proofs.Blanks.{IsGap}
+
+some_is : (x y : Lexed) → Some x ≡ Some y → x ≡ y
+some_is x y e = cc
+
+-- ---- as many steps as there are bytes
+
+abbrev pub reads : Bool → List ℕ → GameRead → Result Ended MovesFault
+reads fresh text g = read_moves (length text) fresh text g
+
+pub on_reads : (fresh : Bool) (b : ℕ) (bs : List ℕ) (g : GameRead)
+    → reads fresh (b ∷ bs) g ≡ on_token (λ rest h. reads (b == 10) rest h) (length (b ∷ bs)) g (lexed fresh b bs)
+on_reads fresh b bs g =
+    same_token (read_moves (length bs) (b == 10)) (λ rest h. reads (b == 10) rest h) (length (b ∷ bs)) (length bs) g (lexed fresh b bs) (within_lexed fresh b bs)
+    (λ rest h le. moves_same (length bs) (length rest) (b == 10) rest h le (omega arith))
+
+pub on_step : (fresh : Bool) (b : ℕ) (bs : List ℕ) (g : GameRead) (t : Token) (rest : List ℕ) (h : GameRead) → lexed fresh b bs ≡ Ok (t, rest)
+    → game_taken g t ≡ Ok (record { game = h; ended = false }) → reads fresh (b ∷ bs) g ≡ reads (b == 10) rest h
+on_step fresh b bs g t rest h l k =
+    on_reads fresh b bs g ∙ ap (λ (x : Lexed). on_token (λ r i. reads (b == 10) r i) (length (b ∷ bs)) g x) l
+    ∙ ap (λ (x : Result GameTaken Reason). goes_on (λ i. reads (b == 10) rest i) (length (b ∷ bs)) rest x) k
+
+-- from this text and what has been read the reading goes on to that
+abbrev pub Goes : List ℕ → GameRead → List ℕ → GameRead → Type 0
+Goes text g rest h = (fresh : Bool) → (f : Bool) × (reads fresh text g ≡ reads f rest h)
+
+-- ---- where a reading is
+
+-- behind the opening comment, in a line that no null move cuts
+pub record At (s : Plainly) (path : List ℕ) (begun : ℕ) (ws : List Waiting) (o : Option Stipulation) (g : GameRead) : Type 0 where
+  pub study : g.reading.study ≡ s
+  pub lines : g.reading.lines ≡ record { path = path; begun = begun; waiting = ws; cut = 0 }
+  pub opening : g.notes.opening ≡ o
+  pub had : g.notes.has_comment ≡ true
+
+pub record Reached (text rest : List ℕ) (s : Plainly) (path : List ℕ) (begun : ℕ) (ws : List Waiting) (o : Option Stipulation) (g : GameRead) : Type 0 where
+  pub next : GameRead
+  pub goes : Goes text g rest next
+  pub at : At s path begun ws o next
+
+pub reached_on : (text mid rest : List ℕ) (s u : Plainly) (p q : List ℕ) (b c : ℕ) (ws vs : List Waiting) (o : Option Stipulation) (g : GameRead)
+    → Reached text mid s p b ws o g → ((h : GameRead) → At s p b ws o h → Reached mid rest u q c vs o h) → Reached text rest u q c vs o g
+reached_on text mid rest s u p q b c ws vs o g r f =
+    let k = f r.next r.at in
+    record { next = k.next; goes = λ fresh. let x = r.goes fresh in let y = k.goes x.0 in (y.0, x.1 ∙ y.1); at = k.at }
+
+pub lexed_brace : (bs : List ℕ) (fresh : Bool) → lexed fresh 123 bs ≡ comment_at bs
+unfolding lexed
+lexed_brace bs true = refl
+lexed_brace bs false = refl
+
+pub comment_is : (text rest : List ℕ) → list_all is_inside text ≡ true → comment_at (text ++ (125 ∷ rest)) ≡ Ok (comment text, rest)
+unfolding comment_at
+comment_is text rest all =
+    let cut = run_cut is_inside text (125 ∷ rest) all refl in
+    ap (λ (x : List ℕ). closed x (behind is_inside (text ++ (125 ∷ rest)))) cut.0 ∙ ap (closed text) cut.1
+
+module _ (s : Plainly) (path : List ℕ) (from : ℕ) (ws : List Waiting) (o : Option Stipulation) (g : GameRead) (at : At s path from ws o g) where
+  -- a token that changes notes alone
+  noted_step : (b : ℕ) (bs rest : List ℕ) (t : Token) (n : Notes) → ((fresh : Bool) → lexed fresh b bs ≡ Ok (t, rest))
+      → game_taken g t ≡ Ok (record { game = record { reading = g.reading; notes = n }; ended = false }) → n.opening ≡ g.notes.opening → n.has_comment ≡ true
+      → Reached (b ∷ bs) rest s path from ws o g
+  noted_step b bs rest t n l k e h = record {
+    next = record { reading = g.reading; notes = n };
+    goes = λ fresh. (b == 10, on_step fresh b bs g t rest (record { reading = g.reading; notes = n }) (l fresh) k);
+    at = record { study = at.study; lines = at.lines; opening = e ∙ at.opening; had = h };
+  }
+
+  lexed_space : (bs : List ℕ) (fresh : Bool) → lexed fresh 32 bs ≡ Ok (blank, bs)
+  unfolding lexed
+  lexed_space bs true = refl
+  lexed_space bs false = refl
+
+  lexed_feed : (bs : List ℕ) (fresh : Bool) → lexed fresh 10 bs ≡ Ok (blank, bs)
+  unfolding lexed
+  lexed_feed bs true = refl
+  lexed_feed bs false = refl
+
+  lexed_dot : (bs : List ℕ) (fresh : Bool) → lexed fresh 46 bs ≡ Ok (blank, bs)
+  unfolding lexed
+  lexed_dot bs true = refl
+  lexed_dot bs false = refl
+
+  gap_lexed : (b : ℕ) (bs : List ℕ) → IsGap b → (fresh : Bool) → lexed fresh b bs ≡ Ok (blank, bs)
+  gap_lexed b bs (inl e) fresh = subst (λ (x : ℕ). lexed fresh x bs ≡ Ok (blank, bs)) (sym e) (lexed_space bs fresh)
+  gap_lexed b bs (inr e) fresh = subst (λ (x : ℕ). lexed fresh x bs ≡ Ok (blank, bs)) (sym e) (lexed_feed bs fresh)
+
+  pub gap_step : (b : ℕ) (bs : List ℕ) → IsGap b → Reached (b ∷ bs) bs s path from ws o g
+  gap_step b bs gap = noted_step b bs bs blank g.notes (gap_lexed b bs gap) refl refl at.had
+
+  pub dot_step : (bs : List ℕ) → Reached (46 ∷ bs) bs s path from ws o g
+  dot_step bs = noted_step 46 bs bs blank g.notes (lexed_dot bs) refl refl at.had
+
+  -- ---- numbers
+
+  symbol_lexed : (w : List ℕ) (b : ℕ) (bs rest : List ℕ) → begins_symbol b ≡ true → list_all is_symbol_byte (b ∷ bs) ≡ true → Stops is_symbol_byte rest
+      → (fresh : Bool) → lexed fresh b (bs ++ rest) ≡ Ok (symbol (b ∷ bs), rest)
+  symbol_lexed w b bs rest begins all stops fresh =
+      some_is (lexed fresh b (bs ++ rest)) (Ok (symbol (b ∷ bs), rest)) (symbol_read fresh b bs rest begins all stops)
+
+  pub number_step : (b : ℕ) (bs rest : List ℕ) → begins_symbol b ≡ true → list_all is_symbol_byte (b ∷ bs) ≡ true → said_of (b ∷ bs) ≡ say.Number → Stops is_symbol_byte rest
+      → Reached ((b ∷ bs) ++ rest) rest s path from ws o g
+  number_step b bs rest begins all said stops =
+      noted_step b (bs ++ rest) rest (symbol (b ∷ bs)) (begun g.notes) (symbol_lexed [] b bs rest begins all stops)
+      (ap (λ (x : Said). noted_on (with_said g.notes (nat_le 1 g.reading.lines.cut) (not (length g.reading.lines.waiting == 0)) x) (taken_symbol g.reading (b ∷ bs) x)) said)
+      refl at.had
+
+  -- ---- NAGs
+
+  lexed_dollar : (bs : List ℕ) (fresh : Bool) → lexed fresh 36 bs ≡ Ok (aside, behind is_digit bs)
+  unfolding lexed
+  lexed_dollar bs true = refl
+  lexed_dollar bs false = refl
+
+  pub glyph_step : (d : ℕ) (rest : List ℕ) → is_digit d ≡ true → Stops is_digit rest → Reached (36 ∷ d ∷ rest) rest s path from ws o g
+  glyph_step d rest digit stops =
+      let cut = run_cut is_digit (d ∷ []) rest (and_from (is_digit d) true digit refl) stops in
+      noted_step 36 (d ∷ rest) rest aside (with_aside g.notes)
+      (λ fresh. lexed_dollar (d ∷ rest) fresh ∙ ap (λ (x : List ℕ). Ok (aside, x)) cut.1) refl refl at.had
+
+  -- ---- comments
+
+  later_comment : (n : Notes) (aim : Option Stipulation) → n.has_comment ≡ true → ((with_comment n aim).opening ≡ n.opening) × ((with_comment n aim).has_comment ≡ true)
+  later_comment n aim h =
+      let second : (n.before_moves && not n.has_comment) ≡ false = and_right n.before_moves (not n.has_comment) (rw h refl) in
+      rw second (refl, h)
+
+  pub comment_step : (text rest : List ℕ) → list_all is_inside text ≡ true → Reached (123 ∷ (text ++ (125 ∷ rest))) rest s path from ws o g
+  comment_step text rest all =
+      let l = later_comment g.notes (aim_in text) at.had in
+      noted_step 123 (text ++ (125 ∷ rest)) rest (comment text) (with_comment g.notes (aim_in text))
+      (λ fresh. lexed_brace (text ++ (125 ∷ rest)) fresh ∙ comment_is text rest all) refl l.0 l.1
+
+  -- ---- moves
+
+  same_reading : g.reading ≡ record { study = s; lines = record { path = path; begun = from; waiting = ws; cut = 0 }; inserts = g.reading.inserts }
+  same_reading =
+      ap (λ (x : Plainly). record { study = x; lines = g.reading.lines; inserts = g.reading.inserts }) at.study
+      ∙ ap (λ (x : Lines). record { study = s; lines = x; inserts = g.reading.inserts }) at.lines
+
+  -- a move that is new at the node at hand
+  pub record IsNew (text : List ℕ) (m : Move) : Type 0 where
+    pub said : said_of text ≡ say.Move
+    pub few : length text ≤ 32
+    pub prints : list_all is_printable (san_in text) ≡ true
+    pub found : has_spot s.tree path ≡ true
+    pub means : move_of (position_at s path) (san_in text) ≡ Ok m
+    pub place : place_at s.tree.below path m ≡ None
+    pub depth : length path < 256
+    pub room : size_of s.tree < 4096
+
+  record Played (r : Result Reading MoveFault) (m : Move) : Type 0 where
+    reading : Reading
+    is : r ≡ Ok reading
+    study : reading.study ≡ inserted s path m
+    lines : reading.lines ≡ record { path = path ++ children_at s.tree.below path ∷ []; begun = from; waiting = ws; cut = 0 }
+
+  plays : (inserts text : List ℕ) (m : Move) → IsNew text m
+      → Played (symbol_played (record { study = s; lines = record { path = path; begun = from; waiting = ws; cut = 0 }; inserts = inserts }) text) m
+  unfolding symbol_played played moved moved_by
+  plays inserts text m h =
+      rw (le-ltb 32 (length text) h.few, h.prints, h.found, h.means, h.place, lt-leb 256 (length path) h.depth, lt-leb 4096 (size_of s.tree) h.room)
+      (record { reading = _; is = refl; study = refl; lines = refl })
+
+  pub move_step : (b : ℕ) (bs rest : List ℕ) (m : Move) → begins_symbol b ≡ true → list_all is_symbol_byte (b ∷ bs) ≡ true → Stops is_symbol_byte rest → IsNew (b ∷ bs) m
+      → Reached ((b ∷ bs) ++ rest) rest (inserted s path m) (path ++ children_at s.tree.below path ∷ []) from ws o g
+  move_step b bs rest m begins all stops h =
+      let p = plays g.reading.inserts (b ∷ bs) m h in
+      let played : symbol_played g.reading (b ∷ bs) ≡ Ok p.reading = ap (λ (r : Reading). symbol_played r (b ∷ bs)) same_reading ∙ p.is in
+      let notes = with_move g.notes (nat_le 1 g.reading.lines.cut) in
+      let next : GameRead = record { reading = p.reading; notes = notes } in
+      let takes : game_taken g (symbol (b ∷ bs)) ≡ Ok (record { game = next; ended = false }) =
+      ap (λ (x : Said). noted_on (with_said g.notes (nat_le 1 g.reading.lines.cut) (not (length g.reading.lines.waiting == 0)) x) (taken_symbol g.reading (b ∷ bs) x)) h.said
+      ∙ ap (λ (x : Result Reading MoveFault). noted_on notes (on_move x)) played in
+      record {
+        next = next;
+        goes = λ fresh. (b == 10, on_step fresh b (bs ++ rest) g (symbol (b ∷ bs)) rest next (symbol_lexed [] b bs rest begins all stops fresh) takes);
+        at = record { study = p.study; lines = p.lines; opening = at.opening; had = at.had };
+      }
+
+  -- ---- variations
+
+  lexed_open : (bs : List ℕ) (fresh : Bool) → lexed fresh 40 bs ≡ Ok (opening, bs)
+  unfolding lexed
+  lexed_open bs true = refl
+  lexed_open bs false = refl
+
+  lexed_close : (bs : List ℕ) (fresh : Bool) → lexed fresh 41 bs ≡ Ok (closing, bs)
+  unfolding lexed
+  lexed_close bs true = refl
+  lexed_close bs false = refl
+
+  line_step : (b : ℕ) (bs : List ℕ) (t : Token) (x : Result Lines LineFault) (l : Lines) → ((fresh : Bool) → lexed fresh b bs ≡ Ok (t, bs))
+      → game_taken g t ≡ noted_on (begun g.notes) (on_line g.reading x) → x ≡ Ok l → l.cut ≡ 0 → Reached (b ∷ bs) bs s l.path l.begun l.waiting o g
+  line_step b bs t x l lex k e cut =
+      let next : GameRead = record { reading = record { study = g.reading.study; lines = l; inserts = g.reading.inserts }; notes = begun g.notes } in
+      let takes : game_taken g t ≡ Ok (record { game = next; ended = false }) = k ∙ ap (λ (y : Result Lines LineFault). noted_on (begun g.notes) (on_line g.reading y)) e in
+      record {
+        next = next;
+        goes = λ fresh. (b == 10, on_step fresh b bs g t bs next (lex fresh) takes);
+        at = record { study = at.study; lines = ap (λ (c : ℕ). record { path = l.path; begun = l.begun; waiting = l.waiting; cut = c }) cut; opening = at.opening; had = at.had };
+      }
+
+-- a variation begins behind the node at the path's end
+pub open_step : (s : Plainly) (path : List ℕ) (k from : ℕ) (ws : List Waiting) (o : Option Stipulation) (g : GameRead) → At s (path ++ k ∷ []) from ws o g
+    → (bs : List ℕ) → from ≤ length path → length ws < 256
+    → Reached (40 ∷ bs) bs s path (length path) (record { replaced = k; begun = from } ∷ ws) o g
+unfolding begin_line
+open_step s path k from ws o g at bs le few =
+    let long : length (path ++ k ∷ []) ≡ length path + 1 = length-append path (k ∷ []) in
+    let one : length (path ++ k ∷ []) - 1 ≡ length path = omega arith in
+    let shorter : take (length (path ++ k ∷ []) - 1) (path ++ k ∷ []) ≡ path = ap (λ n. take n (path ++ k ∷ [])) one ∙ take_at path (k ∷ []) (length path) refl in
+    let last : slice_index (path ++ k ∷ []) (length (path ++ k ∷ []) - 1) ≡ k = ap (λ n. slice_index (path ++ k ∷ []) n) one ∙ get_or_at path k [] 0 (length path) refl in
+    let l : Lines = record { path = path; begun = length path; waiting = record { replaced = k; begun = from } ∷ ws; cut = 0 } in
+    let begins : begin_line (record { path = path ++ k ∷ []; begun = from; waiting = ws; cut = 0 }) ≡ Ok l =
+    rw (lt-leb (length (path ++ k ∷ [])) from (omega arith), lt-leb 256 (length ws) few)
+    (ap (λ (p : List ℕ). Ok (record {
+      path = p;
+      begun = length (path ++ k ∷ []) - 1;
+      waiting = record { replaced = slice_index (path ++ k ∷ []) (length (path ++ k ∷ []) - 1); begun = from } ∷ ws;
+      cut = 0;
+    })) shorter ∙ ap (λ (n : ℕ). Ok (record { path = path; begun = n; waiting = record { replaced = slice_index (path ++ k ∷ []) (length (path ++ k ∷ []) - 1); begun = from } ∷ ws; cut = 0 })) one
+    ∙ ap (λ (n : ℕ). Ok (record { path = path; begun = length path; waiting = record { replaced = n; begun = from } ∷ ws; cut = 0 })) last) in
+    line_step s (path ++ k ∷ []) from ws o g at 40 bs opening (begin_line g.reading.lines) l (lexed_open s (path ++ k ∷ []) from ws o g at bs) refl
+    (ap begin_line at.lines ∙ begins) refl
+
+-- a variation ends, and the line that waits goes on
+pub close_step : (s : Plainly) (path : List ℕ) (from : ℕ) (w : Waiting) (ws : List Waiting) (o : Option Stipulation) (g : GameRead) → At s path from (w ∷ ws) o g
+    → (bs : List ℕ) → Reached (41 ∷ bs) bs s (take from path ++ w.replaced ∷ []) w.begun ws o g
+unfolding end_line
+close_step s path from w ws o g at bs =
+    line_step s path from (w ∷ ws) o g at 41 bs closing (end_line g.reading.lines) (record { path = take from path ++ w.replaced ∷ []; begun = w.begun; waiting = ws; cut = 0 })
+    (lexed_close s path from (w ∷ ws) o g at bs) refl (ap end_line at.lines) refl
+
+-- ---- numbers as they are written
+
+onto_digits : (k n : ℕ) (acc : List ℕ) → list_all is_digit acc ≡ true → list_all is_digit (digits_onto k 10 false n acc) ≡ true
+onto_digits zero n acc h = h
+onto_digits (suc k) n acc h =
+    let glyph : digit_glyph false (n % 10) ≡ 48 + n % 10 = rw (lt-ltb (n % 10) 10 (omega arith)) refl in
+    let more : list_all is_digit (digit_glyph false (n % 10) ∷ acc) ≡ true =
+    rw glyph (and_from (is_digit (48 + n % 10)) (list_all is_digit acc) (rw (le-leb 48 (48 + n % 10) (omega arith), le-leb (48 + n % 10) 57 (omega arith)) refl) h) in
+    elim (cases_Bool (n / 10 == 0)) [ inl last ↦ rw last more | inr later ↦ rw later (onto_digits k (n / 10) (digit_glyph false (n % 10) ∷ acc) more) ]
+
+onto_some : (k n : ℕ) (acc : List ℕ) → length acc ≤ length (digits_onto k 10 false n acc)
+onto_some zero n acc = omega arith
+onto_some (suc k) n acc =
+    let later = onto_some k (n / 10) (digit_glyph false (n % 10) ∷ acc) in
+    elim (cases_Bool (n / 10 == 0)) [ inl last ↦ rw last (omega arith) | inr more ↦ rw more (omega arith) ]
+
+pub decimal_digits : (n : ℕ) → list_all is_digit (decimal n) ≡ true
+unfolding digits
+decimal_digits n = onto_digits 64 n [] refl
+
+onto_first : (k n : ℕ) → 0 < length (digits_onto (suc k) 10 false n [])
+onto_first k n =
+    let later = onto_some k (n / 10) (digit_glyph false (n % 10) ∷ []) in
+    elim (cases_Bool (n / 10 == 0)) [ inl last ↦ rw last (omega arith) | inr more ↦ rw more (omega arith) ]
+
+pub decimal_some : (n : ℕ) → 0 < length (decimal n)
+unfolding digits
+decimal_some n = onto_first 63 n

@@ -1,0 +1,51 @@
+-- Studies that were written as PGN.
+use Rattle.std.specs.Prelude.{◌≡◌, ◌+◌, ◌≤◌, ℕ, true, List, length, map, Option, Some, None}
+use Rattle.study_board.specs.Position.{IsValid}
+use Rattle.study_tree.specs.Forest.{Forest, nodes_in}
+use Rattle.study_tree.specs.Edits.{IsWithin}
+use Rattle.study_marks.specs.declared.mark.Mark.{Mark}
+use Rattle.study_marks.specs.declared.tag.TagName.{TagName}
+use Rattle.study_marks.specs.Study.{Study, mapped, tag_of, IsPlayable, AreDistinct}
+use Rattle.study_marks.specs.Edits.{Plainly, is_tag_text}
+use Rattle.study_command.specs.Parser.{trimmed}
+use Rattle.study_pgn.specs.Tags.{text_or_unknown}
+use Rattle.study_pgn.specs.Pgn.{pgn_text}
+use Rattle.study_import.specs.Blocks.{six_names}
+use Rattle.study_import.specs.Meant.{study_in}
+use Rattle.study_import.specs.Laws.{IsCounted}
+
+-- the nodes without their marks
+abbrev pub plainly : Forest Mark → Forest (Unit {0})
+plainly f = mapped (λ _. tt) f
+
+-- a tag that is known has a text that a study takes, without spaces at its ends
+abbrev pub IsTagged : Option (List ℕ) → Type 0
+IsTagged None = Unit {0}
+IsTagged (Some text) = (is_tag_text text ≡ true) × (trimmed text ≡ text)
+
+-- a study that commands of a script can make: its start is a FEN's, its moves are legal, no two siblings have one move, it is at most 256
+-- plies deep, and has at most 4,096 nodes
+pub record CanBeMade (s : Study Mark) : Type 0 where
+  pub valid : IsValid s.start.position
+  pub clock : s.start.clock ≤ 9999
+  pub positive : 1 ≤ s.start.number
+  pub number : s.start.number ≤ 9999
+  pub counted : IsCounted s.stipulation.goal
+  pub tags : (name : TagName) → IsTagged (tag_of s.tags name)
+  pub playable : IsPlayable s.start.position (plainly s.tree.below)
+  pub distinct : AreDistinct (plainly s.tree.below)
+  pub within : IsWithin 256 (plainly s.tree.below)
+  pub few : nodes_in (plainly s.tree.below) + 1 ≤ 4096
+
+-- the same study without marks; of a tag that is not known the text that is written for it
+abbrev pub unmarked_study : Study Mark → Plainly
+unmarked_study s = record {
+  start = s.start;
+  stipulation = s.stipulation;
+  tags = map (λ name. Some (text_or_unknown name (tag_of s.tags name))) six_names;
+  tree = record { label = tt; below = plainly s.tree.below };
+}
+
+-- the PGN of a study comes to that study again: its start, stipulation, tags and tree, in order
+abbrev pub AreReadBack : Type 0
+AreReadBack = (s : Study Mark) → CanBeMade s → study_in None (pgn_text s) ≡ Some (unmarked_study s)
