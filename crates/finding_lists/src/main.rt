@@ -8,7 +8,7 @@ use std::alloc::{Allocator, Global};
 use std::io::{ErrorKind, LineWriter, Write};
 use std::process::ExitCode;
 use std::{fs, io};
-use study_listing::{Form, NoWatch, list_found, read_request, search_of};
+use study_listing::{Form, NoWatch, list_found, read_request, selection_of};
 use study_material::{Class, order};
 use study_prober::WholeTables;
 use study_retro::{BuildRoom, build};
@@ -96,16 +96,16 @@ fn list_into<'a, A: Allocator>(
 ) -> io::Result<u32> {
     let mut words = Vec::new(alloc);
     for word in theme.split(' ') {
-        words.push(word)?;
+        words.push(word.as_bytes())?;
     }
     let Ok(request) = read_request(class, words.as_slice()) else {
         return Err(refused());
     };
-    match search_of(&request, values) {
+    match selection_of(&request, values) {
         Err(_) => Err(refused()),
         Ok(None) => Ok(0),
-        Ok(Some(search)) => {
-            match list_found(&search, Form::Lines, values, text, &mut NoWatch) {
+        Ok(Some(selection)) => {
+            match list_found(&selection, Form::Lines, values, text, &mut NoWatch) {
                 Ok(count) => Ok(count),
                 Err(_) => Err(refused()),
             }

@@ -2,3 +2,7 @@ pub mod Found
 pub mod Written
 pub mod OneList
 pub mod Said
+pub mod Shown
+pub mod PlacedImages
+pub mod Selected
+pub mod Keys

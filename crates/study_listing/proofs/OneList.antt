@@ -5,7 +5,7 @@ use Rattle.study_board.specs.Position.{Position}
 use Rattle.study_moves.specs.declared.moves.Move.{Move}
 use Rattle.study_moves.specs.Laws.{EachHasAtMostOneValue}
 use Rattle.study_values.specs.declared.value.Value.{Value}
-use Rattle.study_search.specs.declared.finding.Search.{Search}
+use Rattle.study_listing.specs.declared.filters.Selection.{Selection}
 use Rattle.study_search.specs.declared.themes.Theme.{Theme}
 use Rattle.study_search.specs.Finding.{AreFound}
 use Rattle.study_search.proofs.AllFound.{in-range, there, ascend}
@@ -15,7 +15,7 @@ use Rattle.study_listing.specs.declared.text.Form.{Form}
 use Rattle.study_listing.specs.declared.text.Form.TheVariants.{Lines, Script}
 use Rattle.study_listing.specs.Facts.{IsOtherValue, IsOneKey, SaidIf, AreFacts, IsTextOf, has_other, has_key}
 use Rattle.study_listing.specs.Lines.{line_of, study_of}
-use Rattle.study_listing.specs.Lists.{IsListedAt, IsTextAt, AreTexts, AreSoMany, HasWritten}
+use Rattle.study_listing.specs.Lists.{IsListedAt, IsTextAt, AreTexts, AreSoMany, HasWritten, shown}
 use Rattle.study_listing.specs.Laws.{ListsAreUnique, ListsHaveAll}
 
 pub found-unique : (P : ℕ → Type 0) (a b : ℕ) (ns ms : List ℕ) → AreFound P a b ns → AreFound P a b ms → ns ≡ ms
@@ -34,11 +34,11 @@ found-unique P a b (n ∷ ns) (m ∷ ms) h k = elim (cases_lt n m) [
 ]
 
 -- so the count is one
-pub one-count : (s : Search) (a b c : ℕ) (ns : List ℕ) → AreSoMany s a b c → AreFound (IsListedAt s) a b ns → length ns ≡ c
+pub one-count : (s : Selection) (a b c : ℕ) (ns : List ℕ) → AreSoMany s a b c → AreFound (IsListedAt s) a b ns → length ns ≡ c
 one-count s a b c ns w h = ap (λ (xs : List ℕ). length xs) (found-unique (IsListedAt s) a b ns w.0 h w.1) ∙ w.2
 
 -- and so few as were counted are written
-pub few-written : {E : Type 0} (s : Search) (form : Form) (a b c limit : ℕ) (old new : Option (List ℕ)) (r : Result ℕ E) → AreSoMany s a b c
+pub few-written : {E : Type 0} (s : Selection) (form : Form) (a b c limit : ℕ) (old new : Option (List ℕ)) (r : Result ℕ E) → AreSoMany s a b c
     → c ≤ limit → IfOk r (HasWritten s form a b old new) → IfOk r (λ k. k ≤ limit)
 few-written s form a b c limit old new (Ok k) many few w =
     let same : k ≡ c = sym w.counted ∙ one-count s a b c w.numbers many w.list.found in
@@ -52,10 +52,10 @@ texts-unique T one (n ∷ ns) x y (first, rest, t, ts, e) (front, back, u, us, f
     e ∙ ap (λ (z : List ℕ). z ++ rest) (one n first front t u)
     ∙ ap (λ (z : List ℕ). front ++ z) (texts-unique T one ns rest back ts us) ∙ sym f
 
-none-some : {A : Type 0} (x : A) → None ≡ Some x → ⊥
+pub none-some : {A : Type 0} (x : A) → None ≡ Some x → ⊥
 none-some x e = cc
 
-same-some : {A : Type 0} (x y : A) → Some x ≡ Some y → x ≡ y
+pub same-some : {A : Type 0} (x y : A) → Some x ≡ Some y → x ≡ y
 same-some x y e = cc
 
 other-unique : EachHasAtMostOneValue → (p : Position) (x y : Option Value) → IsOtherValue p x → IsOtherValue p y → x ≡ y
@@ -93,9 +93,11 @@ text-unique law Lines t p x y (f, h, e) (g, k, d) =
     e ∙ ap (λ (z : Facts). line_of p z) (facts-unique law (has_other t) (has_key t) p f g h k) ∙ sym d
 text-unique law Script t p x y (f, h, e) (g, k, d) = e ∙ ap (λ (z : Facts). study_of p z) (facts-unique law false true p f g h k) ∙ sym d
 
-text-at-unique : EachHasAtMostOneValue → (s : Search) (form : Form) (n : ℕ) (x y : List ℕ) → IsTextAt s form n x → IsTextAt s form n y → x ≡ y
-text-at-unique law s form n x y (p, e, h) (q, d, k) =
-    text-unique law form s.theme p x y h (subst (λ (r : Position). IsTextOf form s.theme r y) (same-some q p (sym d ∙ e)) k)
+text-at-unique : EachHasAtMostOneValue → (s : Selection) (form : Form) (n : ℕ) (x y : List ℕ) → IsTextAt s form n x → IsTextAt s form n y → x ≡ y
+text-at-unique law s form n x y (p, e, (i, f, h)) (q, d, (j, g, k)) =
+    let same = same-some q p (sym d ∙ e) in
+    let image = same-some j i (sym (subst (λ (r : Position). shown s r ≡ Some j) same g) ∙ f) in
+    text-unique law form s.search.theme i x y h (subst (λ (r : Position). IsTextOf form s.search.theme r y) image k)
 
 pub lists-unique : EachHasAtMostOneValue → ListsAreUnique
 lists-unique law s form a b ns ms text other h k =

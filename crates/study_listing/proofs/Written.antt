@@ -7,37 +7,37 @@ use Rattle.std.specs.Io.KnownBytes.{Appends}
 use Rattle.std.proofs.KnownBytes.{Appends-nil, Appends-trans}
 use Rattle.study_text.specs.Taken.{TakesPrefix}
 use Rattle.study_text.proofs.TextTaken.{TakesPrefix-second}
-use Rattle.study_search.specs.declared.finding.Search.{Search}
+use Rattle.study_listing.specs.declared.filters.Selection.{Selection}
 use Rattle.study_search.specs.Finding.{HoldsOfNone, AreFound, IsFound, IsFirst, IsNext}
 use Rattle.study_listing.specs.declared.text.Form.{Form}
 use Rattle.study_listing.specs.Lists.{IsListedAt, IsTextAt, AreSoMany, HasWritten, HasStopped}
 use Rattle.study_listing.proofs.Found.{found-on, found-more, found-none, texts-more}
 
 -- what is not found is not listed
-pub not-listed : (s : Search) (a b : ℕ) → HoldsOfNone (IsFound s) a b → HoldsOfNone (IsListedAt s) a b
-not-listed s a b none k from below x = none k from below (x.0, x.1, x.2.0)
+pub not-listed : (s : Selection) (a b : ℕ) → HoldsOfNone (IsFound s.search) a b → HoldsOfNone (IsListedAt s) a b
+not-listed s a b none k from below x = none k from below (x.0, x.1, x.2.sought)
 
 -- the first that is found is not listed
-pub none-listed : (s : Search) (a n : ℕ) → HoldsOfNone (IsFound s) a n → ¬ (IsListedAt s n) → HoldsOfNone (IsListedAt s) a (n + 1)
+pub none-listed : (s : Selection) (a n : ℕ) → HoldsOfNone (IsFound s.search) a n → ¬ (IsListedAt s n) → HoldsOfNone (IsListedAt s) a (n + 1)
 none-listed s a n none not k from below x = elim (cases_lt k n) [
-  | inl l ↦ none k from l (x.0, x.1, x.2.0)
+  | inl l ↦ none k from l (x.0, x.1, x.2.sought)
   | inr g ↦ (let same : k ≡ n = omega (arith, g, below) in not (subst (IsListedAt s) same x))
 ]
 
 -- ---- counted
 
-pub many-none : (s : Search) (a : ℕ) → AreSoMany s a a 0
+pub many-none : (s : Selection) (a : ℕ) → AreSoMany s a a 0
 many-none s a = ([], (λ k on below. absurd (omega (arith, on, below))), refl)
 
-pub many-on : (s : Search) (a m n c : ℕ) → AreSoMany s a m c → m ≤ n → HoldsOfNone (IsListedAt s) m n → AreSoMany s a n c
+pub many-on : (s : Selection) (a m n c : ℕ) → AreSoMany s a m c → m ≤ n → HoldsOfNone (IsListedAt s) m n → AreSoMany s a n c
 many-on s a m n c w l none = (w.0, found-on (IsListedAt s) w.0 a m n w.1 l none, w.2)
 
-pub many-more : (s : Search) (a m n c : ℕ) → AreSoMany s a m c → a ≤ m → m ≤ n → HoldsOfNone (IsListedAt s) m n → IsListedAt s n
+pub many-more : (s : Selection) (a m n c : ℕ) → AreSoMany s a m c → a ≤ m → m ≤ n → HoldsOfNone (IsListedAt s) m n → IsListedAt s n
     → AreSoMany s a (n + 1) (c + 1)
 many-more s a m n c w from l none p =
     (w.0 ++ n ∷ [], found-more (IsListedAt s) w.0 a m n w.1 from l none p, length-append w.0 (n ∷ []) ∙ ap (λ k. k + 1) w.2)
 
-pub many-end : (s : Search) (a at b c : ℕ) → AreSoMany s a at c → (at ≤ b) ⊎ (at ≡ a) → b ≤ at → AreSoMany s a b c
+pub many-end : (s : Selection) (a at b c : ℕ) → AreSoMany s a at c → (at ≤ b) ⊎ (at ≡ a) → b ≤ at → AreSoMany s a b c
 many-end s a at b c w within past = elim within [
   | inl l ↦ (let same : at ≡ b = omega (arith, l, past) in subst (λ k. AreSoMany s a k c) same w)
   | inr e ↦
@@ -47,7 +47,7 @@ many-end s a at b c w within past = elim within [
 
 -- ---- written
 
-pub written-none : (s : Search) (form : Form) (a : ℕ) (old : Option (List ℕ)) → HasWritten s form a a old old 0
+pub written-none : (s : Selection) (form : Form) (a : ℕ) (old : Option (List ℕ)) → HasWritten s form a a old old 0
 written-none s form a old = record {
   numbers = [];
   text = [];
@@ -56,7 +56,7 @@ written-none s form a old = record {
   counted = refl;
 }
 
-pub written-on : (s : Search) (form : Form) (a m n : ℕ) (old new : Option (List ℕ)) (c : ℕ) → HasWritten s form a m old new c → m ≤ n
+pub written-on : (s : Selection) (form : Form) (a m n : ℕ) (old new : Option (List ℕ)) (c : ℕ) → HasWritten s form a m old new c → m ≤ n
     → HoldsOfNone (IsListedAt s) m n → HasWritten s form a n old new c
 written-on s form a m n old new c w l none = record {
   numbers = w.numbers;
@@ -66,7 +66,7 @@ written-on s form a m n old new c w l none = record {
   counted = w.counted;
 }
 
-pub written-more : (s : Search) (form : Form) (a m n : ℕ) (old mid new : Option (List ℕ)) (c : ℕ) (text : List ℕ)
+pub written-more : (s : Selection) (form : Form) (a m n : ℕ) (old mid new : Option (List ℕ)) (c : ℕ) (text : List ℕ)
     → HasWritten s form a m old mid c → a ≤ m → m ≤ n → HoldsOfNone (IsListedAt s) m n → IsListedAt s n → IsTextAt s form n text
     → Appends mid new text → HasWritten s form a (n + 1) old new (c + 1)
 written-more s form a m n old mid new c text w from l none p t h = record {
@@ -80,7 +80,7 @@ written-more s form a m n old mid new c text w from l none p t h = record {
   counted = length-append w.numbers (n ∷ []) ∙ ap (λ k. k + 1) w.counted;
 }
 
-pub written-stopped : (s : Search) (form : Form) (a b m n : ℕ) (old mid new : Option (List ℕ)) (c : ℕ) (text : List ℕ)
+pub written-stopped : (s : Selection) (form : Form) (a b m n : ℕ) (old mid new : Option (List ℕ)) (c : ℕ) (text : List ℕ)
     → HasWritten s form a m old mid c → a ≤ m → m ≤ n → n + 1 ≤ b → HoldsOfNone (IsListedAt s) m n → IsListedAt s n → IsTextAt s form n text
     → TakesPrefix mid new text → HasStopped s form a b old new
 written-stopped s form a b m n old mid new c text w from l less none p t h = record {
@@ -95,7 +95,7 @@ written-stopped s form a b m n old mid new c text w from l less none p t h = rec
   taken = TakesPrefix-second old mid new w.text text w.written h;
 }
 
-pub written-end : (s : Search) (form : Form) (a at b : ℕ) (old new : Option (List ℕ)) (c : ℕ) → HasWritten s form a at old new c
+pub written-end : (s : Selection) (form : Form) (a at b : ℕ) (old new : Option (List ℕ)) (c : ℕ) → HasWritten s form a at old new c
     → (at ≤ b) ⊎ (at ≡ a) → b ≤ at → HasWritten s form a b old new c
 written-end s form a at b old new c w within past = elim within [
   | inl l ↦ (let same : at ≡ b = omega (arith, l, past) in subst (λ k. HasWritten s form a k old new c) same w)

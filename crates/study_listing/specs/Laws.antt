@@ -1,16 +1,42 @@
 -- What a list is worth.
-use Rattle.std.specs.Prelude.{◌≡◌, ◌↔◌, ℕ, ◌<◌, ◌≤◌, List}
+use Rattle.std.specs.Prelude.{◌≡◌, ◌↔◌, ◌⊎◌, ℕ, ◌<◌, ◌≤◌, true, false, List, Some, is_some}
 use Rattle.std.specs.List.{Contains, AllPairs}
-use Rattle.study_search.specs.declared.finding.Search.{Search}
+use Rattle.study_board.specs.Position.{Position, IsValid}
+use Rattle.study_material.specs.Class.{IsOf}
+use Rattle.study_material.specs.Lists.{is_swapped}
+use Rattle.study_values.specs.Index.{index_of}
+use Rattle.study_index.specs.Computed.{position_numbered}
+use Rattle.study_search.specs.Pairs.{counterpart}
+use Rattle.study_listing.specs.declared.filters.Selection.{Selection}
 use Rattle.study_listing.specs.declared.text.Form.{Form}
-use Rattle.study_listing.specs.Lists.{IsListedAt, IsList}
+use Rattle.study_listing.specs.Filters.{no_filters, are_placed, HasImagePlaced}
+use Rattle.study_listing.specs.Lists.{is_paired, shown, IsListedAt, IsList}
 
 -- One list alone is that of a range of numbers.
 abbrev pub ListsAreUnique : Type 0
-ListsAreUnique = (s : Search) (form : Form) (a b : ℕ) (ns ms text other : List ℕ)
+ListsAreUnique = (s : Selection) (form : Form) (a b : ℕ) (ns ms text other : List ℕ)
     → IsList s form a b ns text → IsList s form a b ms other → (ns ≡ ms) × (text ≡ other)
 
 -- Of the range it has each number that is listed, once and ascending, and no other.
 abbrev pub ListsHaveAll : Type 0
-ListsHaveAll = (s : Search) (form : Form) (a b : ℕ) (ns text : List ℕ) → IsList s form a b ns text
+ListsHaveAll = (s : Selection) (form : Form) (a b : ℕ) (ns text : List ℕ) → IsList s form a b ns text
     → ((k : ℕ) → Contains ns k ↔ ((a ≤ k) × (k < b) × IsListedAt s k)) × AllPairs (λ x y. x < y) ns
+
+-- some image of the position has men where they are asked for; or some image of its counterpart, where it has one in the list
+abbrev pub HasImageShown : Selection → Position → Type 0
+HasImageShown s p = HasImagePlaced s.filters.men p ⊎ ((is_paired s.search ≡ true) × HasImagePlaced s.filters.men (counterpart p))
+
+-- An image is shown just where there is such an image, and it has men where they are asked for; where none are, it is the position itself.
+pub record IsShownRightly (s : Selection) (p : Position) : Type 0 where
+  pub some : (is_some (shown s p) ≡ true) ↔ HasImageShown s p
+  pub placed : (q : Position) → shown s p ≡ Some q → are_placed s.filters.men q ≡ true
+  pub alone : IsValid p → s.filters.men ≡ no_filters.men → shown s p ≡ Some p
+
+abbrev pub ImagesAreShown : Type 0
+ImagesAreShown = (s : Selection) (p : Position) → IsShownRightly s p
+
+-- Where a position of the class has men where they are asked for, an image of the position that its number reads as is shown: so a filter loses
+-- no position. White has the class's first list.
+abbrev pub PlacedAreShown : Type 0
+PlacedAreShown = (s : Selection) (p q : Position) → IsValid p → IsOf s.search.class p → is_swapped p.men ≡ false
+    → are_placed s.filters.men p ≡ true → position_numbered s.search.class (index_of p) ≡ Some q → is_some (shown s q) ≡ true

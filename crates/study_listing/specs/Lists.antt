@@ -1,5 +1,5 @@
 -- The whole list: the texts of all numbers that are found, one after the other.
-use Rattle.std.specs.Prelude.{◌≡◌, ℕ, ◌≤◌, Bool, true, false, ◌&&◌, List, [], ◌∷◌, ◌++◌, length, Option, Some, None, MatchOption}
+use Rattle.std.specs.Prelude.{◌≡◌, ℕ, ◌≤◌, Bool, true, false, ◌&&◌, List, [], ◌∷◌, ◌++◌, length, Option, Some, None, MatchOption, is_some, if◌then◌else◌}
 use Rattle.std.specs.Io.KnownBytes.{Appends}
 use Rattle.study_text.specs.Taken.{TakesPrefix}
 use Rattle.study_board.specs.declared.men.Side.{Side}
@@ -13,11 +13,13 @@ use Rattle.study_search.specs.declared.themes.Theme.{Theme}
 use Rattle.study_search.specs.declared.themes.Theme.TheVariants as theme
 use Rattle.study_search.specs.Finding.{IsLookedFor, AreFound}
 use Rattle.study_search.specs.Longest.{IsLongest}
-use Rattle.study_search.specs.Pairs.{IsListedOfTwo}
+use Rattle.study_search.specs.Pairs.{counterpart, IsListedOfTwo}
+use Rattle.study_listing.specs.declared.filters.Selection.{Selection}
 use Rattle.study_listing.specs.declared.request.Request.{Request}
 use Rattle.study_listing.specs.declared.request.Request.TheVariants.{Positions, Longest}
 use Rattle.study_listing.specs.declared.text.Form.{Form}
 use Rattle.study_listing.specs.Facts.{IsTextOf}
+use Rattle.study_listing.specs.Filters.{turns, or_else, first_placed, HasWantedKey, no_filters}
 
 -- both sides have the same men, so that each position has a colour image in the class
 abbrev pub has_like_sides : Class → Bool
@@ -44,15 +46,31 @@ is_paired s = is_of_zugzwangs s.theme && (is_for_white s.side && has_like_sides 
 abbrev pub IsOneOfPair : Search → Position → Type 0
 IsOneOfPair s p = is_paired s ≡ true → IsListedOfTwo p
 
--- the position is looked for, and is not the second placement of a mutual zugzwang
-abbrev pub IsListed : Search → Position → Type 0
-IsListed s p = IsLookedFor s p × IsOneOfPair s p
+-- the counterpart of a mutual zugzwang that is there in two placements
+abbrev pub second_placed : Selection → Position → Option Position
+second_placed s p = if is_paired s.search then first_placed s.filters.men (counterpart p) turns else None
 
-abbrev pub IsListedAt : Search → ℕ → Type 0
-IsListedAt s n = (p : Position) × (position_numbered s.class n ≡ Some p) × IsListed s p
+-- The image of the position that is listed: the first, as it is first of all, that has men where they are asked for; and where none
+-- of the one placement of a mutual zugzwang has, that of the other.
+abbrev pub shown : Selection → Position → Option Position
+shown s p = or_else (first_placed s.filters.men p turns) (second_placed s p)
 
-abbrev pub IsTextAt : Search → Form → ℕ → List ℕ → Type 0
-IsTextAt s form n text = (p : Position) × (position_numbered s.class n ≡ Some p) × IsTextOf form s.theme p text
+-- The position is looked for, and is not the second placement of a mutual zugzwang; some image of it has men where they are asked
+-- for; and its key is let through.
+pub record IsListed (s : Selection) (p : Position) : Type 0 where
+  pub sought : IsLookedFor s.search p
+  pub first : IsOneOfPair s.search p
+  pub placed : is_some (shown s p) ≡ true
+  pub key : HasWantedKey s.filters p
+
+abbrev pub IsListedAt : Selection → ℕ → Type 0
+IsListedAt s n = (p : Position) × (position_numbered s.search.class n ≡ Some p) × IsListed s p
+
+-- the text of the image that is shown
+abbrev pub IsTextAt : Selection → Form → ℕ → List ℕ → Type 0
+IsTextAt s form n text =
+    (p : Position) × (position_numbered s.search.class n ≡ Some p)
+    × ((q : Position) × (shown s p ≡ Some q) × IsTextOf form s.search.theme q text)
 
 -- the texts of the numbers, one after the other
 abbrev pub AreTexts : (ℕ → List ℕ → Type 0) → List ℕ → List ℕ → Type 0
@@ -60,16 +78,16 @@ AreTexts T [] text = text ≡ []
 AreTexts T (n ∷ ns) text = (first : List ℕ) × (rest : List ℕ) × T n first × AreTexts T ns rest × (text ≡ first ++ rest)
 
 -- Of the numbers from a on and below b, these are listed, each once and ascending, and this is their list.
-pub record IsList (s : Search) (form : Form) (a b : ℕ) (ns text : List ℕ) : Type 0 where
+pub record IsList (s : Selection) (form : Form) (a b : ℕ) (ns text : List ℕ) : Type 0 where
   pub found : AreFound (IsListedAt s) a b ns
   pub texts : AreTexts (IsTextAt s form) ns text
 
 -- so many numbers are listed
-abbrev pub AreSoMany : Search → ℕ → ℕ → ℕ → Type 0
+abbrev pub AreSoMany : Selection → ℕ → ℕ → ℕ → Type 0
 AreSoMany s a b count = (ns : List ℕ) × AreFound (IsListedAt s) a b ns × (length ns ≡ count)
 
 -- the list is written, and the count is that of its numbers
-pub record HasWritten (s : Search) (form : Form) (a b : ℕ) (old new : Option (List ℕ)) (count : ℕ) : Type 0 where
+pub record HasWritten (s : Selection) (form : Form) (a b : ℕ) (old new : Option (List ℕ)) (count : ℕ) : Type 0 where
   pub numbers : List ℕ
   pub text : List ℕ
   pub list : IsList s form a b numbers text
@@ -77,11 +95,11 @@ pub record HasWritten (s : Search) (form : Form) (a b : ℕ) (old new : Option (
   pub counted : length numbers ≡ count
 
 -- the list of all numbers below one of them is written, and nothing else
-abbrev pub HasWrittenSome : Search → Form → ℕ → ℕ → Option (List ℕ) → Option (List ℕ) → Type 0
+abbrev pub HasWrittenSome : Selection → Form → ℕ → ℕ → Option (List ℕ) → Option (List ℕ) → Type 0
 HasWrittenSome s form a b old new = (n : ℕ) × (n ≤ b) × ((count : ℕ) × HasWritten s form a n old new count)
 
 -- the writer stopped inside the list
-pub record HasStopped (s : Search) (form : Form) (a b : ℕ) (old new : Option (List ℕ)) : Type 0 where
+pub record HasStopped (s : Selection) (form : Form) (a b : ℕ) (old new : Option (List ℕ)) : Type 0 where
   pub end : ℕ
   pub within : end ≤ b
   pub numbers : List ℕ
@@ -89,9 +107,10 @@ pub record HasStopped (s : Search) (form : Form) (a b : ℕ) (old new : Option (
   pub list : IsList s form a end numbers text
   pub taken : TakesPrefix old new text
 
--- what is looked for: of a longest mate, the mates of this length, if the side mates at all
-abbrev pub IsSearchOf : Request → Option Search → Type 0
-IsSearchOf (Positions s) search = search ≡ Some s
-IsSearchOf (Longest c side) search = MatchOption search
+-- what is listed: of a longest mate, the mates of this length, if the side mates at all
+abbrev pub IsSelectionOf : Request → Option Selection → Type 0
+IsSelectionOf (Positions s) selection = selection ≡ Some s
+IsSelectionOf (Longest c side) selection = MatchOption selection
     (IsLongest c side None)
-    (λ s. (n : ℕ) × (s ≡ record { class = c; theme = theme.MateIn n; side = Some side }) × IsLongest c side (Some n))
+    (λ s. (n : ℕ) × (s ≡ record { search = record { class = c; theme = theme.MateIn n; side = Some side }; filters = no_filters })
+    × IsLongest c side (Some n))

@@ -1,4 +1,4 @@
--- What the words of a request ask for: a theme, and the side to move.
+-- What the words of a request ask for: a theme, the side to move, and filters.
 use Rattle.std.specs.Prelude.{ℕ, Bool, true, ◌||◌, nat_le, List, [], ◌∷◌, Option, Some, None, Result, Ok, Err, codes, if◌then◌else◌}
 use Rattle.std.specs.Str.{bytes_eq}
 use Rattle.study_board.specs.declared.men.Side.{Side}
@@ -12,8 +12,11 @@ use Rattle.study_search.specs.declared.themes.Theme.{Theme}
 use Rattle.study_search.specs.declared.themes.Theme.TheVariants as theme
 use Rattle.study_listing.specs.declared.request.Request.{Request}
 use Rattle.study_listing.specs.declared.request.Request.TheVariants.{Positions, Longest}
-use Rattle.study_listing.specs.declared.request.Unread.{Unread}
-use Rattle.study_listing.specs.declared.request.Unread.TheVariants.{NoSuchTheme, NoSuchFilter}
+use Rattle.study_listing.specs.declared.filter_words.Behind.{Behind}
+use Rattle.study_listing.specs.declared.filter_words.Unread.{Unread}
+use Rattle.study_listing.specs.declared.filter_words.Unread.TheVariants.{NoSuchTheme, NoSuchFilter}
+use Rattle.study_listing.specs.Filters.{or_else}
+use Rattle.study_listing.specs.FilterWords.{nothing_behind, with_words}
 use Rattle.study_listing.specs.Lists.{has_like_sides, is_of_zugzwangs}
 
 abbrev pub outcome_named : List ℕ → Option Outcome
@@ -52,15 +55,16 @@ theme_of_two first second =
 abbrev pub usual_side : Class → Theme → Option Side
 usual_side c t = if is_of_zugzwangs t || has_like_sides c then Some White else None
 
-abbrev pub with_side : Class → Theme → Option Side → Result Request Unread
-with_side c t None = Err NoSuchFilter
-with_side c t (Some side) = Ok (Positions (record { class = c; theme = t; side = Some side }))
+-- with what stands behind the theme
+abbrev pub selected : Class → Theme → Result Behind Unread → Result Request Unread
+selected c t (Err fault) = Err fault
+selected c t (Ok b) = Ok (Positions (record {
+  search = record { class = c; theme = t; side = or_else b.side (usual_side c t) };
+  filters = b.filters;
+}))
 
--- what stands behind a theme: nothing, or the side to move
 abbrev pub positions_of : Class → Theme → List (List ℕ) → Result Request Unread
-positions_of c t [] = Ok (Positions (record { class = c; theme = t; side = usual_side c t }))
-positions_of c t (word ∷ []) = with_side c t (side_told word)
-positions_of c t (word ∷ next ∷ more) = Err NoSuchFilter
+positions_of c t rest = selected c t (with_words t (Ok nothing_behind) rest)
 
 abbrev pub longest_for : Class → Option Side → List (List ℕ) → Result Request Unread
 longest_for c None rest = Err NoSuchTheme
@@ -88,10 +92,10 @@ request_of c (first ∷ rest) = by_one c (theme_of_one first) first rest
 
 -- the class whose positions are looked at
 abbrev pub class_of_request : Request → Class
-class_of_request (Positions s) = s.class
+class_of_request (Positions s) = s.search.class
 class_of_request (Longest c side) = c
 
 -- values of the class alone are looked at
 abbrev pub needs_one_table : Request → Bool
-needs_one_table (Positions s) = is_of_zugzwangs s.theme
+needs_one_table (Positions s) = is_of_zugzwangs s.search.theme
 needs_one_table (Longest c side) = true

@@ -1,7 +1,7 @@
 //! Laws over the definitions: functions that do nothing.
-ghost use Rattle.study_listing.specs.Laws.{ListsAreUnique, ListsHaveAll};
+ghost use Rattle.study_listing.specs.Laws.{ListsAreUnique, ListsHaveAll, ImagesAreShown, PlacedAreShown};
 
-use study_moves::values_are_unique;
+use study_moves::{bare_agrees, values_are_unique};
 
 /// One list alone is that of a range of numbers.
 pub fn lists_are_unique()
@@ -14,3 +14,15 @@ pub fn lists_are_unique()
 pub fn lists_have_all()
     ensures { ListsHaveAll }
 {}
+
+/// An image is shown just where some image has men where they are asked for, and it has them there.
+pub fn images_are_shown()
+    ensures { ImagesAreShown }
+{}
+
+/// Of each position of the class that has men where they are asked for, an image is shown.
+pub fn placed_are_shown()
+    ensures { PlacedAreShown }
+{
+    bare_agrees();
+}

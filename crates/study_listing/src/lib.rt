@@ -7,17 +7,23 @@
 
 mod facts;
 mod fault;
+mod filter_words;
+mod filters;
 mod laws;
+mod listed;
 mod listing;
 mod request;
 mod text;
 
 pub use facts::{Facts, Wanted, facts_of};
 pub use fault::Stop;
-pub use laws::{lists_are_unique, lists_have_all};
+pub use filter_words::Unread;
+pub use filters::{Filters, Placed, Selection};
+pub use laws::{images_are_shown, lists_are_unique, lists_have_all, placed_are_shown};
+pub use listed::has_like_sides;
 pub use listing::{
-    MAX_STUDIES, NoWatch, Numbers, Watch, count_found, count_numbers, has_like_sides, list_found,
-    list_numbers, search_of,
+    MAX_STUDIES, NoWatch, Numbers, Watch, count_found, count_numbers, list_found, list_numbers,
+    selection_of,
 };
-pub use request::{Request, Unread, read_request};
+pub use request::{Request, read_request};
 pub use text::{Form, Listed, text_of};

@@ -1,24 +1,23 @@
 //! The list of the positions that are found, as they are found.
-ghost use Rattle.std.specs.Prelude.{◌≡◌, ◌↔◌, ◌≤◌, ◌<◌, ℕ, true, false, Some, IfOk, IfErr, IfSome, IfNone, OnErr, IsErrOf};
-ghost use Rattle.study_board.specs.Position.{Position as APosition};
-ghost use Rattle.study_index.specs.Computed.{position_numbered};
+ghost use Rattle.std.specs.Prelude.{◌≡◌, ◌≤◌, ◌<◌, ℕ, false, Some, IfOk, IfErr, OnErr, IsErrOf};
 ghost use Rattle.study_material.specs.declared.class.Class.{Class as AClass};
-ghost use Rattle.study_search.specs.Finding.{IsFound, IsLookedFor};
+ghost use Rattle.study_search.specs.declared.themes.Theme.TheVariants as theme;
 ghost use Rattle.study_values.specs.declared.values.ProbeFault.{ProbeFault as AFault};
 ghost use Rattle.study_values.specs.Number.{cells_of};
 ghost use Rattle.study_values.specs.Values.{IsNotDamage};
-ghost use Rattle.study_listing.specs.Lists.{has_like_sides, is_of_zugzwangs, is_for_white, is_paired, IsOneOfPair, IsListed, IsListedAt, IsTextAt};
-ghost use Rattle.study_listing.specs.Lists.{AreSoMany, HasWritten, HasWrittenSome, HasStopped, IsSearchOf};
+ghost use Rattle.study_listing.specs.Filters.{no_filters};
+ghost use Rattle.study_listing.specs.Lists.{AreSoMany, HasWritten, HasWrittenSome, HasStopped, IsSelectionOf};
 ghost use Rattle.study_listing.specs.Stops.{StopsUndamaged};
 
 use crate::fault::Stop;
+use crate::filters::{Filters, Selection};
+use crate::listed::{listed_at, text_at};
 use crate::request::Request;
-use crate::text::{Form, Listed, text_of};
+use crate::text::Form;
 use std::io::Write;
-use study_board::{Position, Side};
-use study_index::decode;
+use study_board::Side;
 use study_material::Class;
-use study_search::{Search, Theme, is_listed_of_two, longest_mate, next_found};
+use study_search::{Search, Theme, longest_mate, next_found};
 use study_text::write_text;
 use study_values::{ProbeFault, Values, cells};
 
@@ -49,105 +48,6 @@ impl Watch for NoWatch {
     fn passed(&mut self, _number: u32, _end: u32, _found: u32) {}
 }
 
-/// Whether both sides have the same men, so that each position has a colour image in the class.
-pub fn has_like_sides(class: Class) -> bool
-    ensures { result ≡ has_like_sides class }
-{
-    matches!(
-        class,
-        Class::KK | Class::KQKQ | Class::KRKR | Class::KBKB | Class::KNKN | Class::KPKP
-    )
-}
-
-pub(crate) fn is_of_zugzwangs(theme: Theme) -> bool
-    ensures { result ≡ is_of_zugzwangs theme }
-{
-    match theme {
-        Theme::Zugzwang => true,
-        _ => false,
-    }
-}
-
-fn is_for_white(side: Option<Side>) -> bool
-    ensures { result ≡ is_for_white side }
-{
-    match side {
-        Some(Side::White) => true,
-        _ => false,
-    }
-}
-
-/// Whether each mutual zugzwang is found in two placements.
-fn is_paired(search: &Search) -> bool
-    ensures { result ≡ is_paired search.now }
-{
-    is_of_zugzwangs(search.theme) && is_for_white(search.side) && has_like_sides(search.class)
-}
-
-/// Whether a position that is looked for is listed: of the two placements of a mutual zugzwang one is.
-fn is_listed<V: Values>(search: &Search, p: &Position, values: &mut V) -> Result<bool, ProbeFault>
-    ensures game { V.is_honest values.old → IsLookedFor search.now p.now → IfOk result (λ b. (b ≡ true) ↔ IsListed search.now p.now) }
-    ensures no_table { (c : AClass) → IsErrOf result (ProbeFault.NoTable c) → V.held values.old c ≡ false }
-    ensures no_damage { V.is_honest values.old → IfErr result IsNotDamage }
-    ensures honest { V.is_honest values.old → V.is_honest values.new }
-    ensures tables { (c : AClass) → V.held values.new c ≡ V.held values.old c }
-{
-    let paired = is_paired(search);
-    if paired {
-        return is_listed_of_two(p, values);
-    }
-    Ok(true)
-}
-
-/// The position of a number that is found, if it is listed.
-fn listed_at<V: Values>(
-    search: &Search,
-    number: u32,
-    values: &mut V,
-) -> Result<Option<Position>, ProbeFault>
-    ensures some { V.is_honest values.old → IsFound search.now number → IfOk result (λ at. IfSome at (λ p. IsListedAt search.now number)) }
-    ensures none { V.is_honest values.old → IsFound search.now number → IfOk result (λ at. IfNone at (¬ (IsListedAt search.now number))) }
-    ensures position { IfOk result (λ at. IfSome at (λ p. position_numbered search.now.class number ≡ Some p)) }
-    ensures no_table { (c : AClass) → IsErrOf result (ProbeFault.NoTable c) → V.held values.old c ≡ false }
-    ensures no_damage { V.is_honest values.old → IfErr result IsNotDamage }
-    ensures honest { V.is_honest values.old → V.is_honest values.new }
-    ensures tables { (c : AClass) → V.held values.new c ≡ V.held values.old c }
-{
-    match decode(search.class, number) {
-        None => Ok(None),
-        Some(p) => match is_listed(search, &p, values) {
-            Err(fault) => Err(fault),
-            Ok(true) => Ok(Some(p)),
-            Ok(false) => Ok(None),
-        },
-    }
-}
-
-/// The text of a number that is found, if it is listed.
-fn text_at<V: Values>(
-    search: &Search,
-    form: Form,
-    number: u32,
-    values: &mut V,
-) -> Result<Option<Listed>, ProbeFault>
-    ensures some { V.is_honest values.old → IsFound search.now number → IfOk result (λ at. IfSome at (λ p. IsListedAt search.now number)) }
-    ensures none { V.is_honest values.old → IsFound search.now number → IfOk result (λ at. IfNone at (¬ (IsListedAt search.now number))) }
-    ensures text { V.is_honest values.old → IfOk result (λ at. IfSome at (λ text. IsTextAt search.now form number text.bytes)) }
-    ensures no_table { (c : AClass) → IsErrOf result (ProbeFault.NoTable c) → V.held values.old c ≡ false }
-    ensures no_damage { V.is_honest values.old → IfErr result IsNotDamage }
-    ensures honest { V.is_honest values.old → V.is_honest values.new }
-    ensures tables { (c : AClass) → V.held values.new c ≡ V.held values.old c }
-{
-    match listed_at(search, number, values) {
-        Err(fault) => Err(fault),
-        Ok(None) => Ok(None),
-        Ok(Some(p)) => match text_of(&p, form, search.theme, values) {
-            Err(fault) => Err(fault),
-            Ok(text) => Ok(Some(text)),
-        },
-    }
-}
-
 /// Where the next piece of a range ends.
 fn piece_end(at: u32, to: u32) -> u32
     requires { at < to }
@@ -159,12 +59,12 @@ fn piece_end(at: u32, to: u32) -> u32
 
 /// How many positions of a range of numbers are listed.
 pub fn count_numbers<V: Values, H: Watch>(
-    search: &Search,
+    selection: &Selection,
     numbers: Numbers,
     values: &mut V,
     watch: &mut H,
 ) -> Result<u32, ProbeFault>
-    ensures count { V.is_honest values.old → IfOk result (AreSoMany search.now numbers.from numbers.to) }
+    ensures count { V.is_honest values.old → IfOk result (AreSoMany selection.now numbers.from numbers.to) }
     ensures no_table { (c : AClass) → IsErrOf result (ProbeFault.NoTable c) → V.held values.old c ≡ false }
     ensures no_damage { V.is_honest values.old → IfErr result IsNotDamage }
     ensures honest { V.is_honest values.old → V.is_honest values.new }
@@ -174,13 +74,13 @@ pub fn count_numbers<V: Values, H: Watch>(
     let mut count = 0u32;
     while at < numbers.to {
         let end = piece_end(at, numbers.to);
-        match next_found(search, at, end, values) {
+        match next_found(&selection.search, at, end, values) {
             Err(fault) => return Err(fault),
             Ok(None) => {
                 at = end;
                 watch.passed(at, numbers.to, count);
             }
-            Ok(Some(number)) => match listed_at(search, number, values) {
+            Ok(Some(number)) => match listed_at(selection, number, values) {
                 Err(fault) => return Err(fault),
                 Ok(None) => at = number + 1,
                 Ok(Some(_)) => {
@@ -197,18 +97,18 @@ pub fn count_numbers<V: Values, H: Watch>(
 ///
 /// Where a value is not known or the writer fails, what is found before that has been written.
 pub fn list_numbers<V: Values, W: Write, H: Watch>(
-    search: &Search,
+    selection: &Selection,
     form: Form,
     numbers: Numbers,
     values: &mut V,
     out: &mut W,
     watch: &mut H,
 ) -> Result<u32, Stop>
-    ensures list { V.is_honest values.old → IfOk result (HasWritten search.now form numbers.from numbers.to (W.contents out.old) (W.contents out.new)) }
+    ensures list { V.is_honest values.old → IfOk result (HasWritten selection.now form numbers.from numbers.to (W.contents out.old) (W.contents out.new)) }
     ensures values { V.is_honest values.old → (f : AFault) → IsErrOf result (Stop.Values f)
-        → HasWrittenSome search.now form numbers.from numbers.to (W.contents out.old) (W.contents out.new) }
+        → HasWrittenSome selection.now form numbers.from numbers.to (W.contents out.old) (W.contents out.new) }
     ensures device { V.is_honest values.old → IsErrOf result Stop.WriteDevice
-        → HasStopped search.now form numbers.from numbers.to (W.contents out.old) (W.contents out.new) }
+        → HasStopped selection.now form numbers.from numbers.to (W.contents out.old) (W.contents out.new) }
     ensures fits { ¬ (IsErrOf result Stop.TooManyStudies) }
     ensures no_table { (c : AClass) → IsErrOf result (Stop.Values (ProbeFault.NoTable c)) → V.held values.old c ≡ false }
     ensures no_damage { V.is_honest values.old → IfErr result StopsUndamaged }
@@ -219,13 +119,13 @@ pub fn list_numbers<V: Values, W: Write, H: Watch>(
     let mut count = 0u32;
     while at < numbers.to {
         let end = piece_end(at, numbers.to);
-        match next_found(search, at, end, values) {
+        match next_found(&selection.search, at, end, values) {
             Err(fault) => return Err(Stop::Values(fault)),
             Ok(None) => {
                 at = end;
                 watch.passed(at, numbers.to, count);
             }
-            Ok(Some(number)) => match text_at(search, form, number, values) {
+            Ok(Some(number)) => match text_at(selection, form, number, values) {
                 Err(fault) => return Err(Stop::Values(fault)),
                 Ok(None) => at = number + 1,
                 Ok(Some(text)) => match write_text(out, text.as_str().as_bytes()) {
@@ -243,11 +143,11 @@ pub fn list_numbers<V: Values, W: Write, H: Watch>(
 
 /// How many positions are listed.
 pub fn count_found<V: Values, H: Watch>(
-    search: &Search,
+    selection: &Selection,
     values: &mut V,
     watch: &mut H,
 ) -> Result<u32, ProbeFault>
-    ensures count { V.is_honest values.old → IfOk result (AreSoMany search.now 0 (cells_of search.now.class)) }
+    ensures count { V.is_honest values.old → IfOk result (AreSoMany selection.now 0 (cells_of selection.now.search.class)) }
     ensures no_table { (c : AClass) → IsErrOf result (ProbeFault.NoTable c) → V.held values.old c ≡ false }
     ensures no_damage { V.is_honest values.old → IfErr result IsNotDamage }
     ensures honest { V.is_honest values.old → V.is_honest values.new }
@@ -255,23 +155,23 @@ pub fn count_found<V: Values, H: Watch>(
 {
     let all = Numbers {
         from: 0,
-        to: cells(search.class),
+        to: cells(selection.search.class),
     };
-    count_numbers(search, all, values, watch)
+    count_numbers(selection, all, values, watch)
 }
 
 /// Writes the lines.
 fn list_lines<V: Values, W: Write, H: Watch>(
-    search: &Search,
+    selection: &Selection,
     values: &mut V,
     out: &mut W,
     watch: &mut H,
 ) -> Result<u32, Stop>
-    ensures list { V.is_honest values.old → IfOk result (HasWritten search.now Form.Lines 0 (cells_of search.now.class) (W.contents out.old) (W.contents out.new)) }
+    ensures list { V.is_honest values.old → IfOk result (HasWritten selection.now Form.Lines 0 (cells_of selection.now.search.class) (W.contents out.old) (W.contents out.new)) }
     ensures values { V.is_honest values.old → (f : AFault) → IsErrOf result (Stop.Values f)
-        → HasWrittenSome search.now Form.Lines 0 (cells_of search.now.class) (W.contents out.old) (W.contents out.new) }
+        → HasWrittenSome selection.now Form.Lines 0 (cells_of selection.now.search.class) (W.contents out.old) (W.contents out.new) }
     ensures device { V.is_honest values.old → IsErrOf result Stop.WriteDevice
-        → HasStopped search.now Form.Lines 0 (cells_of search.now.class) (W.contents out.old) (W.contents out.new) }
+        → HasStopped selection.now Form.Lines 0 (cells_of selection.now.search.class) (W.contents out.old) (W.contents out.new) }
     ensures fits { ¬ (IsErrOf result Stop.TooManyStudies) }
     ensures no_table { (c : AClass) → IsErrOf result (Stop.Values (ProbeFault.NoTable c)) → V.held values.old c ≡ false }
     ensures no_damage { V.is_honest values.old → IfErr result StopsUndamaged }
@@ -280,27 +180,27 @@ fn list_lines<V: Values, W: Write, H: Watch>(
 {
     let all = Numbers {
         from: 0,
-        to: cells(search.class),
+        to: cells(selection.search.class),
     };
-    list_numbers(search, Form::Lines, all, values, out, watch)
+    list_numbers(selection, Form::Lines, all, values, out, watch)
 }
 
 /// Writes the studies as a script. They are counted first, so that one with too many is refused before its first line.
 fn list_studies<V: Values, W: Write, H: Watch>(
-    search: &Search,
+    selection: &Selection,
     values: &mut V,
     out: &mut W,
     watch: &mut H,
 ) -> Result<u32, Stop>
-    ensures list { V.is_honest values.old → IfOk result (HasWritten search.now Form.Script 0 (cells_of search.now.class) (W.contents out.old) (W.contents out.new)) }
+    ensures list { V.is_honest values.old → IfOk result (HasWritten selection.now Form.Script 0 (cells_of selection.now.search.class) (W.contents out.old) (W.contents out.new)) }
     ensures few { V.is_honest values.old → IfOk result (λ count. count ≤ 25000) }
     ensures many { V.is_honest values.old → IsErrOf result Stop.TooManyStudies
-        → (count : ℕ) × AreSoMany search.now 0 (cells_of search.now.class) count × (25000 < count) }
+        → (count : ℕ) × AreSoMany selection.now 0 (cells_of selection.now.search.class) count × (25000 < count) }
     ensures nothing { IsErrOf result Stop.TooManyStudies → out.new ≡ out.old }
     ensures values { V.is_honest values.old → (f : AFault) → IsErrOf result (Stop.Values f)
-        → HasWrittenSome search.now Form.Script 0 (cells_of search.now.class) (W.contents out.old) (W.contents out.new) }
+        → HasWrittenSome selection.now Form.Script 0 (cells_of selection.now.search.class) (W.contents out.old) (W.contents out.new) }
     ensures device { V.is_honest values.old → IsErrOf result Stop.WriteDevice
-        → HasStopped search.now Form.Script 0 (cells_of search.now.class) (W.contents out.old) (W.contents out.new) }
+        → HasStopped selection.now Form.Script 0 (cells_of selection.now.search.class) (W.contents out.old) (W.contents out.new) }
     ensures no_table { (c : AClass) → IsErrOf result (Stop.Values (ProbeFault.NoTable c)) → V.held values.old c ≡ false }
     ensures no_damage { V.is_honest values.old → IfErr result StopsUndamaged }
     ensures honest { V.is_honest values.old → V.is_honest values.new }
@@ -308,15 +208,15 @@ fn list_studies<V: Values, W: Write, H: Watch>(
 {
     let all = Numbers {
         from: 0,
-        to: cells(search.class),
+        to: cells(selection.search.class),
     };
-    match count_numbers(search, all, values, &mut NoWatch) {
+    match count_numbers(selection, all, values, &mut NoWatch) {
         Err(fault) => Err(Stop::Values(fault)),
         Ok(count) => {
             if count > MAX_STUDIES {
                 return Err(Stop::TooManyStudies);
             }
-            list_numbers(search, Form::Script, all, values, out, watch)
+            list_numbers(selection, Form::Script, all, values, out, watch)
         }
     }
 }
@@ -324,50 +224,64 @@ fn list_studies<V: Values, W: Write, H: Watch>(
 /// Writes the positions that are listed, as they are found, and gives their number. A script that would have too many studies is refused
 /// before its first line.
 pub fn list_found<V: Values, W: Write, H: Watch>(
-    search: &Search,
+    selection: &Selection,
     form: Form,
     values: &mut V,
     out: &mut W,
     watch: &mut H,
 ) -> Result<u32, Stop>
-    ensures list { V.is_honest values.old → IfOk result (HasWritten search.now form 0 (cells_of search.now.class) (W.contents out.old) (W.contents out.new)) }
+    ensures list { V.is_honest values.old → IfOk result (HasWritten selection.now form 0 (cells_of selection.now.search.class) (W.contents out.old) (W.contents out.new)) }
     ensures few { V.is_honest values.old → form ≡ Form.Script → IfOk result (λ count. count ≤ 25000) }
     ensures many { V.is_honest values.old → IsErrOf result Stop.TooManyStudies
-        → (form ≡ Form.Script) × ((count : ℕ) × AreSoMany search.now 0 (cells_of search.now.class) count × (25000 < count)) }
+        → (form ≡ Form.Script) × ((count : ℕ) × AreSoMany selection.now 0 (cells_of selection.now.search.class) count × (25000 < count)) }
     ensures nothing { IsErrOf result Stop.TooManyStudies → out.new ≡ out.old }
     ensures values { V.is_honest values.old → (f : AFault) → IsErrOf result (Stop.Values f)
-        → HasWrittenSome search.now form 0 (cells_of search.now.class) (W.contents out.old) (W.contents out.new) }
+        → HasWrittenSome selection.now form 0 (cells_of selection.now.search.class) (W.contents out.old) (W.contents out.new) }
     ensures device { V.is_honest values.old → IsErrOf result Stop.WriteDevice
-        → HasStopped search.now form 0 (cells_of search.now.class) (W.contents out.old) (W.contents out.new) }
+        → HasStopped selection.now form 0 (cells_of selection.now.search.class) (W.contents out.old) (W.contents out.new) }
     ensures no_table { (c : AClass) → IsErrOf result (Stop.Values (ProbeFault.NoTable c)) → V.held values.old c ≡ false }
     ensures no_damage { V.is_honest values.old → IfErr result StopsUndamaged }
     ensures honest { V.is_honest values.old → V.is_honest values.new }
     ensures tables { (c : AClass) → V.held values.new c ≡ V.held values.old c }
 {
     match form {
-        Form::Lines => list_lines(search, values, out, watch),
-        Form::Script => list_studies(search, values, out, watch),
+        Form::Lines => list_lines(selection, values, out, watch),
+        Form::Script => list_studies(selection, values, out, watch),
     }
 }
 
-/// What is looked for where the longest mate of a side is asked for: no position, where it has none.
-pub fn search_of<V: Values>(request: &Request, values: &mut V) -> Result<Option<Search>, ProbeFault>
-    ensures game { V.is_honest values.old → IfOk result (IsSearchOf request.now) }
+/// What a request lists: of the longest mate of a side, the mates of that length; no position, where it has none.
+pub fn selection_of<V: Values>(
+    request: &Request,
+    values: &mut V,
+) -> Result<Option<Selection>, ProbeFault>
+    ensures game { V.is_honest values.old → IfOk result (IsSelectionOf request.now) }
     ensures no_table { (c : AClass) → IsErrOf result (ProbeFault.NoTable c) → V.held values.old c ≡ false }
     ensures no_damage { V.is_honest values.old → IfErr result IsNotDamage }
     ensures honest { V.is_honest values.old → V.is_honest values.new }
     ensures tables { (c : AClass) → V.held values.new c ≡ V.held values.old c }
 {
     match request {
-        Request::Positions(search) => Ok(Some(*search)),
+        Request::Positions(selection) => Ok(Some(*selection)),
         Request::Longest(class, side) => match longest_mate(*class, *side, values) {
             Err(fault) => Err(fault),
             Ok(None) => Ok(None),
-            Ok(Some(plies)) => Ok(Some(Search {
-                class: *class,
-                theme: Theme::MateIn(plies),
-                side: Some(*side),
-            })),
+            Ok(Some(plies)) => Ok(Some(mates_in(*class, *side, plies))),
         },
+    }
+}
+
+/// The mates in so many plies of a side, which is to move.
+fn mates_in(class: Class, side: Side, plies: u8) -> Selection
+    ensures search { result.search ≡ record { class = class; theme = theme.MateIn plies; side = Some side } }
+    ensures filters { result.filters ≡ no_filters }
+{
+    Selection {
+        search: Search {
+            class,
+            theme: Theme::MateIn(plies),
+            side: Some(side),
+        },
+        filters: Filters::none(),
     }
 }

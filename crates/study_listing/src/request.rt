@@ -2,9 +2,12 @@
 ghost use Rattle.std.specs.Prelude.{◌≡◌, map};
 ghost use Rattle.study_listing.specs.Requests.{outcome_named, theme_of_one, theme_of_two, only_moves_named, usual_side, positions_of};
 ghost use Rattle.study_listing.specs.Requests.{longest_for, by_two, request_of};
+ghost use Rattle.study_listing.specs.Filters.{or_else};
 ghost use Rattle.study_listing.specs.Requests.{class_of_request, needs_one_table};
 
-use crate::listing::{has_like_sides, is_of_zugzwangs};
+use crate::filter_words::{Behind, Unread, with_words};
+use crate::filters::Selection;
+use crate::listed::{has_like_sides, is_of_zugzwangs};
 use study_board::Side;
 use study_command::{read_place, read_side};
 use study_material::Class;
@@ -14,17 +17,9 @@ use study_search::{Outcome, Search, Theme};
 #[derive(Clone, Copy, Debug, PartialEq, Eq)]
 pub enum Request {
     /// The positions with a theme.
-    Positions(Search),
+    Positions(Selection),
     /// The positions with the longest mate of this side, which is to move.
     Longest(Class, Side),
-}
-
-/// Why words ask for nothing.
-#[derive(Clone, Copy, Debug, PartialEq, Eq)]
-pub enum Unread {
-    NoSuchTheme,
-    /// Behind the theme stands what is no side to move, or more than one word.
-    NoSuchFilter,
 }
 
 impl Request {
@@ -33,7 +28,7 @@ impl Request {
         ensures { result ≡ class_of_request self.now }
     {
         match self {
-            Request::Positions(search) => search.class,
+            Request::Positions(selection) => selection.search.class,
             Request::Longest(class, _) => *class,
         }
     }
@@ -43,7 +38,7 @@ impl Request {
         ensures { result ≡ needs_one_table self.now }
     {
         match self {
-            Request::Positions(search) => is_of_zugzwangs(search.theme),
+            Request::Positions(selection) => is_of_zugzwangs(selection.search.theme),
             Request::Longest(_, _) => true,
         }
     }
@@ -111,26 +106,34 @@ fn usual_side(class: Class, theme: Theme) -> Option<Side>
     }
 }
 
-/// The positions with a theme, with a side to move where there is one more word.
-fn positions_of(class: Class, theme: Theme, rest: &[&str]) -> Result<Request, Unread>
+/// The positions with a theme, by the words that stand behind it.
+fn positions_of(class: Class, theme: Theme, rest: &[&[u8]]) -> Result<Request, Unread>
     ensures { result ≡ positions_of class theme (map (λ word. word.now) rest.now) }
 {
-    let side = match rest.split_first() {
-        None => usual_side(class, theme),
-        Some((word, more)) => {
-            if !more.is_empty() {
-                return Err(Unread::NoSuchFilter);
-            }
-            match read_side(word.as_bytes()) {
-                None => return Err(Unread::NoSuchFilter),
-                side => side,
-            }
-        }
-    };
-    Ok(Request::Positions(Search { class, theme, side }))
+    match with_words(theme, Behind::nothing(), rest) {
+        Err(fault) => Err(fault),
+        Ok(behind) => Ok(Request::Positions(Selection {
+            search: Search {
+                class,
+                theme,
+                side: side_or(behind.side, usual_side(class, theme)),
+            },
+            filters: behind.filters,
+        })),
+    }
 }
 
-fn longest_for(class: Class, side: Option<Side>, rest: &[&str]) -> Result<Request, Unread>
+/// The side that is named, or the usual one.
+fn side_or(named: Option<Side>, usual: Option<Side>) -> Option<Side>
+    ensures { result ≡ or_else named usual }
+{
+    match named {
+        None => usual,
+        Some(side) => Some(side),
+    }
+}
+
+fn longest_for(class: Class, side: Option<Side>, rest: &[&[u8]]) -> Result<Request, Unread>
     ensures { result ≡ longest_for class side (map (λ word. word.now) rest.now) }
 {
     match side {
@@ -146,29 +149,29 @@ fn longest_for(class: Class, side: Option<Side>, rest: &[&str]) -> Result<Reques
 }
 
 /// What is asked for by a theme of two words.
-fn by_two(class: Class, first: &str, rest: &[&str]) -> Result<Request, Unread>
+fn by_two(class: Class, first: &[u8], rest: &[&[u8]]) -> Result<Request, Unread>
     ensures { result ≡ by_two class first.now (map (λ word. word.now) rest.now) }
 {
     let Some((second, rest)) = rest.split_first() else {
         return Err(Unread::NoSuchTheme);
     };
-    if first.as_bytes() == b"longest".as_slice() {
-        return longest_for(class, read_side(second.as_bytes()), rest);
+    if first == b"longest".as_slice() {
+        return longest_for(class, read_side(second), rest);
     }
-    match theme_of_two(first.as_bytes(), second.as_bytes()) {
+    match theme_of_two(first, second) {
         None => Err(Unread::NoSuchTheme),
         Some(theme) => positions_of(class, theme, rest),
     }
 }
 
 /// What is to be found, by the words after the class.
-pub fn read_request(class: Class, words: &[&str]) -> Result<Request, Unread>
+pub fn read_request(class: Class, words: &[&[u8]]) -> Result<Request, Unread>
     ensures { result ≡ request_of class (map (λ word. word.now) words.now) }
 {
     let Some((first, rest)) = words.split_first() else {
         return Err(Unread::NoSuchTheme);
     };
-    match theme_of_one(first.as_bytes()) {
+    match theme_of_one(first) {
         None => by_two(class, first, rest),
         Some(theme) => positions_of(class, theme, rest),
     }

@@ -6,9 +6,8 @@ ghost use Rattle.studymine.specs.Listed.{AreSoManyOf, HasCounted, HasListed, Has
 use crate::options::Output;
 use crate::status::put_count;
 use std::io::Write;
-use study_listing::{Form, Request, Stop, Watch, count_found, list_found, search_of};
+use study_listing::{Form, Request, Selection, Stop, Watch, count_found, list_found, selection_of};
 use study_material::order;
-use study_search::Search;
 use study_values::{ProbeFault, Values};
 
 /// Refuses what wants a table that is not there: before the first line, that of the class, or of a class that its moves lead to.
@@ -26,28 +25,28 @@ fn need_tables<V: Values>(request: &Request, values: &V) -> Result<(), ProbeFaul
 
 /// How many positions are listed: none, where nothing is looked for.
 fn count_of<V: Values, H: Watch>(
-    search: Option<Search>,
+    selection: Option<Selection>,
     values: &mut V,
     watch: &mut H,
 ) -> Result<u32, ProbeFault>
-    ensures { V.is_honest values.old → IfOk result (AreSoManyOf search) }
+    ensures { V.is_honest values.old → IfOk result (AreSoManyOf selection) }
 {
-    match search {
+    match selection {
         None => Ok(0),
-        Some(search) => count_found(&search, values, watch),
+        Some(selection) => count_found(&selection, values, watch),
     }
 }
 
 /// Writes how many positions are listed.
 fn write_count<V: Values, W: Write, H: Watch>(
-    search: Option<Search>,
+    selection: Option<Selection>,
     values: &mut V,
     out: &mut W,
     watch: &mut H,
 ) -> Result<(), Stop>
-    ensures { V.is_honest values.old → OnOk result (HasCounted search (W.contents out.old) (W.contents out.new)) }
+    ensures { V.is_honest values.old → OnOk result (HasCounted selection (W.contents out.old) (W.contents out.new)) }
 {
-    match count_of(search, values, watch) {
+    match count_of(selection, values, watch) {
         Err(fault) => Err(Stop::Values(fault)),
         Ok(count) => match put_count(out, count) {
             Err(_) => Err(Stop::WriteDevice),
@@ -59,16 +58,16 @@ fn write_count<V: Values, W: Write, H: Watch>(
 /// Writes the list.
 fn write_list<V: Values, W: Write, H: Watch>(
     form: Form,
-    search: Option<Search>,
+    selection: Option<Selection>,
     values: &mut V,
     out: &mut W,
     watch: &mut H,
 ) -> Result<(), Stop>
-    ensures { V.is_honest values.old → OnOk result (HasListed form search (W.contents out.old) (W.contents out.new)) }
+    ensures { V.is_honest values.old → OnOk result (HasListed form selection (W.contents out.old) (W.contents out.new)) }
 {
-    match search {
+    match selection {
         None => Ok(()),
-        Some(search) => match list_found(&search, form, values, out, watch) {
+        Some(selection) => match list_found(&selection, form, values, out, watch) {
             Err(stop) => Err(stop),
             Ok(_) => Ok(()),
         },
@@ -77,16 +76,16 @@ fn write_list<V: Values, W: Write, H: Watch>(
 
 fn write<V: Values, W: Write, H: Watch>(
     output: Output,
-    search: Option<Search>,
+    selection: Option<Selection>,
     values: &mut V,
     out: &mut W,
     watch: &mut H,
 ) -> Result<(), Stop>
-    ensures { V.is_honest values.old → OnOk result (HasPut output search (W.contents out.old) (W.contents out.new)) }
+    ensures { V.is_honest values.old → OnOk result (HasPut output selection (W.contents out.old) (W.contents out.new)) }
 {
     match output {
-        Output::Count => write_count(search, values, out, watch),
-        Output::List(form) => write_list(form, search, values, out, watch),
+        Output::Count => write_count(selection, values, out, watch),
+        Output::List(form) => write_list(form, selection, values, out, watch),
     }
 }
 
@@ -103,8 +102,8 @@ pub fn answer<V: Values, W: Write, H: Watch>(
     if let Err(fault) = need_tables(request, values) {
         return Err(Stop::Values(fault));
     }
-    match search_of(request, values) {
+    match selection_of(request, values) {
         Err(fault) => Err(Stop::Values(fault)),
-        Ok(search) => write(output, search, values, out, watch),
+        Ok(selection) => write(output, selection, values, out, watch),
     }
 }

@@ -3,7 +3,7 @@ ghost use Rattle.std.specs.Prelude.{◌≤◌, ◌<◌, length};
 
 use clap::builder::ValueParser;
 use clap::{Arg, ArgAction, Command, Error, value_parser};
-use std::alloc::Global;
+use std::alloc::{AllocError, Global};
 use study_listing::{Form, Request, Unread, read_request};
 use study_material::Class;
 use study_program::{VERSION, folder_of};
@@ -18,8 +18,12 @@ const THEMES: &str = "Themes:
   into win, into draw   one move alone wins, or draws, and it leads to a mutual zugzwang
   try win, try draw     the same, and another move fails by one reply alone, which leads to a mutual zugzwang
   longest white, longest black   the longest win of the side, which is to move
-After a theme 'white' or 'black' lists the positions with that side to move; without one, of a zugzwang, and where both sides have the
-same men, those with White to move, and else those with either.
+Filters, after a theme but 'longest', a word each and in any order:
+  white, black          the positions with that side to move; without one, of a zugzwang, and where both sides have the same men, those
+                        with White to move, and else those with either
+  Kf7, pa2-h4           White's king stands on f7, a black pawn in the rectangle from a2 to h4: capitals for White's men, at most four
+                        such words; of the images that the board's symmetries allow the first that has it so is listed
+  no-capture, no-check  the one move that holds captures nothing, gives no check; not with 'zugzwang'
 
 Exit status: 0 the list was made; 2 the command line was refused; 3 the list stopped, and why is on standard error.";
 
@@ -37,6 +41,7 @@ pub enum WordFault {
     NoSuchClass,
     NoSuchTheme,
     NoSuchFilter,
+    NoKeyMove,
 }
 
 /// What the command line asks for.
@@ -65,7 +70,8 @@ pub fn read_words<'a>(
     words: &'a [String],
 ) -> Result<Result<Options<'a>, WordFault>, Error> {
     let matches = command(alloc)?.try_get_matches_from(words)?;
-    let request = match read_words_of_request(matches.get_str("class"), matches.get_strs("theme")) {
+    let theme = bytes_of(alloc, matches.get_strs("theme"))?;
+    let request = match read_words_of_request(matches.get_str("class"), theme.as_slice()) {
         Ok(request) => request,
         Err(fault) => return Ok(Err(fault)),
     };
@@ -115,7 +121,7 @@ fn command<'a>(alloc: Global) -> Result<Command<'a>, Error> {
                 .value_name("THEME")
                 .required(true)
                 .num_args(1..)
-                .help("The theme, and a side to move"),
+                .help("The theme, and filters"),
         )?;
     Ok(command)
 }
@@ -145,24 +151,33 @@ fn flag<'a>(alloc: Global, name: &'a str, help: &'a str) -> Arg<'a> {
         .help(help)
 }
 
+/// The words as bytes.
+fn bytes_of<'a>(
+    alloc: Global,
+    words: Option<&[&'a str]>,
+) -> Result<Vec<&'a [u8], Global>, AllocError> {
+    let mut list = Vec::new(alloc);
+    if let Some(words) = words {
+        for word in words {
+            list.push(word.as_bytes())?;
+        }
+    }
+    Ok(list)
+}
+
 /// What the words of the class and of the theme ask for.
-fn read_words_of_request(
-    class: Option<&str>,
-    theme: Option<&[&str]>,
-) -> Result<Request, WordFault> {
+fn read_words_of_request(class: Option<&str>, theme: &[&[u8]]) -> Result<Request, WordFault> {
     let Some(name) = class else {
         return Err(WordFault::NoSuchClass);
     };
     let Ok(class) = Class::parse(name) else {
         return Err(WordFault::NoSuchClass);
     };
-    let Some(words) = theme else {
-        return Err(WordFault::NoSuchTheme);
-    };
-    match read_request(class, words) {
+    match read_request(class, theme) {
         Ok(request) => Ok(request),
         Err(Unread::NoSuchTheme) => Err(WordFault::NoSuchTheme),
         Err(Unread::NoSuchFilter) => Err(WordFault::NoSuchFilter),
+        Err(Unread::NoKeyMove) => Err(WordFault::NoKeyMove),
     }
 }
 

@@ -62,6 +62,7 @@ fn not_known(rt: &HostRuntime, fault: WordFault) -> u8
         WordFault::NoSuchClass => "NoSuchClass",
         WordFault::NoSuchTheme => "NoSuchTheme",
         WordFault::NoSuchFilter => "NoSuchFilter",
+        WordFault::NoKeyMove => "NoKeyMove",
     };
     let _ = eprintln!(rt; "error: {name}: see 'studymine --help'");
     2

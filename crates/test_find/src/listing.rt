@@ -5,8 +5,8 @@ use std::process::Abort;
 use study_board::Side;
 use study_index::index;
 use study_listing::{
-    Form, MAX_STUDIES, NoWatch, Numbers, Request, Stop, count_found, count_numbers, list_found,
-    list_numbers, search_of,
+    Filters, Form, MAX_STUDIES, NoWatch, Numbers, Request, Selection, Stop, count_found,
+    count_numbers, list_found, list_numbers, selection_of,
 };
 use study_material::Class;
 use study_notation::read_fen;
@@ -55,11 +55,14 @@ fn tables<'a>(rt: &impl Abort, alloc: &'a Global) -> WholeTables<'a, Global> {
     WholeTables::new(set)
 }
 
-fn search(theme: Theme, side: Option<Side>) -> Search {
-    Search {
-        class: Class::KPK,
-        theme,
-        side,
+fn search(theme: Theme, side: Option<Side>) -> Selection {
+    Selection {
+        search: Search {
+            class: Class::KPK,
+            theme,
+            side,
+        },
+        filters: Filters::none(),
     }
 }
 
@@ -100,7 +103,7 @@ fn the_longest_wins_are_listed(rt: HostRuntime) {
     let alloc = rt.alloc();
     let mut values = tables(&rt, &alloc);
     let request = Request::Longest(Class::KPK, Side::White);
-    let found = search_of(&request, &mut values).ok().expect(&rt, "values");
+    let found = selection_of(&request, &mut values).ok().expect(&rt, "values");
     let longest = found.expect(&rt, "a longest win");
     let mut out = MemoryWriter::new(&alloc);
     let found = list_found(&longest, Form::Lines, &mut values, &mut out, &mut NoWatch);

@@ -1,61 +1,109 @@
 //! What the words of a request ask for.
 
-use study_board::Side;
-use study_listing::{Request, Unread, read_request};
+use std::alloc::Global;
+use std::process::Abort;
+use study_board::{Kind, Side, Square};
+use study_listing::{Filters, Placed, Request, Selection, Unread, read_request};
 use study_material::Class;
 use study_search::{Outcome, Search, Theme};
 
-fn asks(class: Class, words: &[&str], theme: Theme, side: Option<Side>) -> bool {
-    read_request(class, words) == Ok(Request::Positions(Search { class, theme, side }))
+/// What the words of a line ask for, behind a class.
+fn read(rt: &impl Abort, alloc: Global, class: Class, line: &str) -> Result<Request, Unread> {
+    let mut words = Vec::new(alloc);
+    for word in line.split_ascii_whitespace() {
+        words.push(word.as_bytes()).ok().expect(rt, "memory");
+    }
+    read_request(class, words.as_slice())
 }
 
-fn is_refused(words: &[&str], fault: Unread) -> bool {
-    read_request(Class::KPK, words) == Err(fault)
+fn positions(class: Class, theme: Theme, side: Option<Side>) -> Selection {
+    Selection {
+        search: Search { class, theme, side },
+        filters: Filters::none(),
+    }
+}
+
+fn placed(side: Side, kind: Kind, from: u8, to: u8) -> Option<Placed> {
+    match (Square::new(from), Square::new(to)) {
+        (Some(from), Some(to)) => Some(Placed {
+            side,
+            kind,
+            from,
+            to,
+        }),
+        _ => None,
+    }
 }
 
 /// Themes of one word and of two, with a side to move and without.
 #[test]
 fn words_are_read(rt: HostRuntime) {
+    let alloc = rt.alloc();
     let white = Some(Side::White);
-    assert!(rt; asks(Class::KPK, &["zugzwang"], Theme::Zugzwang, white));
-    assert!(rt;
-        asks(
-            Class::KPKP,
-            &["underpromotion"],
-            Theme::Underpromotion,
-            white
-        )
-    );
     let six = Theme::OnlyMoves(Outcome::Win, 6);
-    assert!(rt; asks(Class::KPK, &["win", "6"], six, None));
-    assert!(rt; asks(Class::KPK, &["win", "6", "black"], six, Some(Side::Black)));
-    assert!(rt;
-        asks(
-            Class::KPK,
-            &["into", "draw"],
-            Theme::IntoZugzwang(Outcome::Draw),
-            None
-        )
-    );
-    assert!(rt;
-        asks(
-            Class::KPK,
-            &["try", "win"],
-            Theme::ZugzwangTry(Outcome::Win),
-            None
-        )
-    );
-    let longest = read_request(Class::KPK, &["longest", "white"]);
+    let into = Theme::IntoZugzwang(Outcome::Draw);
+    let by_try = Theme::ZugzwangTry(Outcome::Win);
+    for (line, class, theme, side) in [
+        ("zugzwang", Class::KPK, Theme::Zugzwang, white),
+        ("underpromotion", Class::KPKP, Theme::Underpromotion, white),
+        ("win 6", Class::KPK, six, None),
+        ("win 6 black", Class::KPK, six, Some(Side::Black)),
+        ("into draw", Class::KPK, into, None),
+        ("try win", Class::KPK, by_try, None),
+    ] {
+        let want = Request::Positions(positions(class, theme, side));
+        assert!(rt; read(&rt, alloc, class, line) == Ok(want));
+    }
+    let longest = read(&rt, alloc, Class::KPK, "longest white");
     assert!(rt; longest == Ok(Request::Longest(Class::KPK, Side::White)));
 }
 
-/// The theme is refused before what stands behind it.
+/// Filters in any order.
+#[test]
+fn filters_are_read(rt: HostRuntime) {
+    let alloc = rt.alloc();
+    let mut want = positions(
+        Class::KPKP,
+        Theme::OnlyMoves(Outcome::Win, 5),
+        Some(Side::Black),
+    );
+    want.filters.men[0] = placed(Side::White, Kind::King, 53, 53);
+    want.filters.men[1] = placed(Side::Black, Kind::Pawn, 8, 31);
+    want.filters.no_check = true;
+    let line = "win 5 Kf7 no-check pa2-h4 black";
+    assert!(rt; read(&rt, alloc, Class::KPKP, line) == Ok(Request::Positions(want)));
+}
+
+const REFUSED: &str = "mate
+win 256
+longest red white
+win 5 red
+zugzwang white white
+win 5 Kf9
+win 5 Xf7
+win 5 Pa2-
+win 5 Ph4-a2
+win 5 Ka1 Kb1 Kc1 Kd1 Ke1
+longest white Kf7
+zugzwang no-check red
+zugzwang no-capture
+zugzwang white no-check";
+
+/// The theme is refused before what stands behind it, and there the first word that is not known.
 #[test]
 fn words_are_refused(rt: HostRuntime) {
-    assert!(rt; is_refused(&[], Unread::NoSuchTheme));
-    assert!(rt; is_refused(&["mate"], Unread::NoSuchTheme));
-    assert!(rt; is_refused(&["win", "256"], Unread::NoSuchTheme));
-    assert!(rt; is_refused(&["longest", "red", "white"], Unread::NoSuchTheme));
-    assert!(rt; is_refused(&["win", "5", "red"], Unread::NoSuchFilter));
-    assert!(rt; is_refused(&["zugzwang", "white", "white"], Unread::NoSuchFilter));
+    let alloc = rt.alloc();
+    assert!(rt; read(&rt, alloc, Class::KPK, "") == Err(Unread::NoSuchTheme));
+    let mut number = 0;
+    for line in REFUSED.lines() {
+        number += 1;
+        let want = if number <= 3 {
+            Unread::NoSuchTheme
+        } else if number <= 11 {
+            Unread::NoSuchFilter
+        } else {
+            Unread::NoKeyMove
+        };
+        assert!(rt; read(&rt, alloc, Class::KPK, line) == Err(want), "{line}");
+    }
 }

@@ -6,7 +6,7 @@ use Rattle.study_listing.proofs.listing.count_numbers.Goals as goal
 
 pub loop-at-preserved-in-Ok-None : goal.loop-at-preserved-in-Ok-None
 loop-at-preserved-in-Ok-None g c =
-    let s = c.args.search.now in
+    let s = c.args.selection.now in
     let at = c.loop-at.at in
     let end = c.piece_end-end.result in
     let on = c.piece_end-end.ensures.on in
@@ -19,7 +19,7 @@ loop-at-preserved-in-Ok-None g c =
       few = omega (arith, few, on);
       counted = λ h.
           many-on s c.args.numbers.from at end c.loop-at.count (c.loop-at.invariant.counted h) up
-          (not-listed s at end (next-none (IsFound s) at end c.in-Ok-None.field-0 (c.in-Ok-None.ensures.game (c.loop-at.invariant.honest h))
+          (not-listed s at end (next-none (IsFound s.search) at end c.in-Ok-None.field-0 (c.in-Ok-None.ensures.game (c.loop-at.invariant.honest h))
           c.in-Ok-None.field-0-is));
       honest = λ h. c.next_found.ensures.honest (c.loop-at.invariant.honest h);
       tables = λ k. c.next_found.ensures.tables k ∙ c.loop-at.invariant.tables k;
@@ -27,7 +27,7 @@ loop-at-preserved-in-Ok-None g c =
 
 pub loop-at-preserved-in-Ok-None-listed_at : goal.loop-at-preserved-in-Ok-None-listed_at
 loop-at-preserved-in-Ok-None-listed_at g c =
-    let s = c.args.search.now in
+    let s = c.args.selection.now in
     let at = c.loop-at.at in
     let end = c.piece_end-end.result in
     let n = c.in-Ok-Some.number in
@@ -45,7 +45,7 @@ loop-at-preserved-in-Ok-None-listed_at g c =
       few = omega (arith, few, up);
       counted = λ h.
           let honest = c.loop-at.invariant.honest h in
-          let first = next-some (IsFound s) at end n c.in-Ok-Some.field-0 (c.in-Ok-Some.ensures.game honest) c.in-Ok-Some.field-0-is in
+          let first = next-some (IsFound s.search) at end n c.in-Ok-Some.field-0 (c.in-Ok-Some.ensures.game honest) c.in-Ok-Some.field-0-is in
           let not = if-none (¬ (IsListedAt s n)) c.in-Ok-None-listed_at.field-0
           (c.in-Ok-None-listed_at.ensures.none (c.next_found.ensures.honest honest) first.2) c.in-Ok-None-listed_at.field-0-is in
           many-on s c.args.numbers.from at (n + 1) c.loop-at.count (c.loop-at.invariant.counted h) on (none-listed s at n first.3 not);
@@ -55,7 +55,7 @@ loop-at-preserved-in-Ok-None-listed_at g c =
 
 pub loop-at-preserved : goal.loop-at-preserved
 loop-at-preserved g c =
-    let s = c.args.search.now in
+    let s = c.args.selection.now in
     let at = c.loop-at.at in
     let end = c.piece_end-end.result in
     let n = c.in-Ok-Some.number in
@@ -72,7 +72,7 @@ loop-at-preserved g c =
       few = omega (arith, few, up);
       counted = λ h.
           let honest = c.loop-at.invariant.honest h in
-          let first = next-some (IsFound s) at end n c.in-Ok-Some.field-0 (c.in-Ok-Some.ensures.game honest) c.in-Ok-Some.field-0-is in
+          let first = next-some (IsFound s.search) at end n c.in-Ok-Some.field-0 (c.in-Ok-Some.ensures.game honest) c.in-Ok-Some.field-0-is in
           let listed = if-some (λ p. IsListedAt s n) c.in-Ok-Some-listed_at.field-0-0 c.in-Ok-Some-listed_at.field-0
           (c.in-Ok-Some-listed_at.ensures.some (c.next_found.ensures.honest honest) first.2) c.in-Ok-Some-listed_at.field-0-is in
           many-more s c.args.numbers.from at n c.loop-at.count (c.loop-at.invariant.counted h) from up (not-listed s at n first.3) listed;
@@ -83,5 +83,5 @@ loop-at-preserved g c =
 pub returns-clause-count : goal.returns-clause-count
 returns-clause-count g c h =
     let past = c.loop-at-test.false in
-    many-end c.args.search.now c.args.numbers.from c.loop-at.at c.args.numbers.to c.loop-at.count (c.loop-at.invariant.counted h)
+    many-end c.args.selection.now c.args.numbers.from c.loop-at.at c.args.numbers.to c.loop-at.count (c.loop-at.invariant.counted h)
     c.loop-at.invariant.within (omega (arith, past))

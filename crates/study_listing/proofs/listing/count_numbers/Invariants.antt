@@ -8,7 +8,7 @@ invariant-loop-at g l = record {
   within : (l.at ≤ l.numbers.to) ⊎ (l.at ≡ l.numbers.from);
   from : l.numbers.from ≤ l.at;
   few : l.count ≤ l.at;
-  counted : g.V.Values.is_honest l.fn.values → AreSoMany l.search l.numbers.from l.at l.count;
+  counted : g.V.Values.is_honest l.fn.values → AreSoMany l.selection l.numbers.from l.at l.count;
   honest : g.V.Values.is_honest l.fn.values → g.V.Values.is_honest l.values;
   tables : (c : Class) → g.V.Values.held l.values c ≡ g.V.Values.held l.fn.values c;
 }

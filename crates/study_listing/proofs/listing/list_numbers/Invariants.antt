@@ -9,7 +9,7 @@ invariant-loop-at g l = record {
   from : l.numbers.from ≤ l.at;
   few : l.count ≤ l.at;
   written : g.V.Values.is_honest l.fn.values
-      → HasWritten l.search l.form l.numbers.from l.at (g.W.Write.contents l.fn.out) (g.W.Write.contents l.out) l.count;
+      → HasWritten l.selection l.form l.numbers.from l.at (g.W.Write.contents l.fn.out) (g.W.Write.contents l.out) l.count;
   honest : g.V.Values.is_honest l.fn.values → g.V.Values.is_honest l.values;
   tables : (c : Class) → g.V.Values.held l.values c ≡ g.V.Values.held l.fn.values c;
 }

@@ -1,0 +1,38 @@
+-- Words that are refused, keys that are let through, and positions that are listed.
+use Rattle.std.proofs.Common.{◌≡◌, ◌↔◌, ◌||◌, ℕ, Bool, true, List, [], ◌∷◌, Option, Some, None, is_some, Result, Ok, Err, refl, sym, subst}
+use Rattle.std.specs.Prelude.{IfOk}
+use Rattle.std.proofs.lemmas.Bool.{false≢true}
+use Rattle.study_board.specs.Position.{Position}
+use Rattle.study_moves.specs.declared.moves.Move.{Move}
+use Rattle.study_search.specs.declared.themes.Theme.{Theme}
+use Rattle.study_search.specs.Finding.{IsLookedFor}
+use Rattle.study_listing.specs.declared.filters.Filters.{Filters}
+use Rattle.study_listing.specs.declared.filters.Selection.{Selection}
+use Rattle.study_listing.specs.declared.filter_words.Unread.{Unread}
+use Rattle.study_listing.specs.Facts.{IsOneKey}
+use Rattle.study_listing.specs.Filters.{is_let_through, is_key_let_through, HasKeyLetThrough, HasWantedKey}
+use Rattle.study_listing.specs.FilterWords.{with_words}
+use Rattle.study_listing.specs.Lists.{shown, IsOneOfPair, IsListed}
+use Rattle.study_listing.proofs.OneList.{none-some, same-some}
+
+pub still_refused : (t : Theme) (fault : Unread) (words : List (List ℕ)) → with_words t (Err fault) words ≡ Err fault
+still_refused t fault [] = refl
+still_refused t fault (word ∷ more) = refl
+
+pub has_key_let_through : (f : Filters) (p : Position) (key : Option Move) → IsOneKey p key
+    → (is_key_let_through f p key ≡ true) ↔ HasKeyLetThrough f p
+has_key_let_through f p None one = ((λ e. absurd (false≢true e)), (λ h. absurd (none-some h.0 ((one h.0).1 h.1))))
+has_key_let_through f p (Some m) one =
+    ((λ e. (m, (one m).0 refl, e)), (λ h. subst (λ (k : Move). is_let_through f p k ≡ true) (sym (same-some m h.0 ((one h.0).1 h.1))) h.2))
+
+-- where something is asked of the key it is the same
+pub if-asked : {E : Type 0} (f : Filters) (p : Position) (r : Result Bool E) → f.no_capture || f.no_check ≡ true
+    → IfOk r (λ b. (b ≡ true) ↔ HasKeyLetThrough f p) → IfOk r (λ b. (b ≡ true) ↔ HasWantedKey f p)
+if-asked f p (Ok b) asked h = ((λ e. λ x. h.0 e), (λ k. h.1 (k asked)))
+if-asked f p (Err e) asked h = tt
+
+pub if-listed : {E : Type 0} (s : Selection) (p : Position) (r : Result Bool E) → IsLookedFor s.search p → IsOneOfPair s.search p
+    → is_some (shown s p) ≡ true → IfOk r (λ b. (b ≡ true) ↔ HasWantedKey s.filters p) → IfOk r (λ b. (b ≡ true) ↔ IsListed s p)
+if-listed s p (Ok b) sought first placed h =
+    ((λ e. record { sought = sought; first = first; placed = placed; key = h.0 e }), (λ l. h.1 l.key))
+if-listed s p (Err e) sought first placed h = tt

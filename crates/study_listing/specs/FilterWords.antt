@@ -1,0 +1,108 @@
+-- The words that stand behind a theme.
+use Rattle.std.specs.Prelude.{ℕ, ◌+◌, ◌*◌, ◌-◌, ◌==◌, ◌&&◌, nat_le, Bool, true, List, [], ◌∷◌, Option, Some, None, is_some, Result, Ok, Err, codes, if◌then◌else◌}
+use Rattle.std.specs.Option.{option_map}
+use Rattle.std.specs.Str.{bytes_eq}
+use Rattle.study_board.specs.declared.men.Kind.{Kind}
+use Rattle.study_board.specs.declared.men.Kind.TheVariants.{King, Queen, Rook, Bishop, Knight, Pawn}
+use Rattle.study_board.specs.declared.men.Side.{Side}
+use Rattle.study_board.specs.declared.men.Side.TheVariants.{White, Black}
+use Rattle.study_board.specs.Geometry.{file_of, rank_of}
+use Rattle.study_command.specs.Parser.{side_told}
+use Rattle.study_search.specs.declared.themes.Theme.{Theme}
+use Rattle.study_listing.specs.declared.filters.Placed.{Placed}
+use Rattle.study_listing.specs.declared.filter_words.Behind.{Behind}
+use Rattle.study_listing.specs.declared.filter_words.Unread.{Unread}
+use Rattle.study_listing.specs.declared.filter_words.Unread.TheVariants.{NoSuchFilter, NoKeyMove}
+use Rattle.study_listing.specs.Facts.{has_key}
+use Rattle.study_listing.specs.Filters.{no_filters}
+
+-- ---- `Kf7`, `pa2-h4`
+
+-- White's men have capital letters
+abbrev pub is_small : ℕ → Bool
+is_small letter = nat_le 97 letter
+
+abbrev pub side_lettered : ℕ → Side
+side_lettered letter = if is_small letter then Black else White
+
+abbrev pub capital : ℕ → ℕ
+capital letter = if is_small letter then letter - 32 else letter
+
+-- K Q R B N P
+abbrev pub kind_lettered : ℕ → Option Kind
+kind_lettered letter =
+    if letter == 75 then Some King
+    else (if letter == 81 then Some Queen
+    else (if letter == 82 then Some Rook
+    else (if letter == 66 then Some Bishop
+    else (if letter == 78 then Some Knight
+    else (if letter == 80 then Some Pawn
+    else None)))))
+
+-- a file and a rank
+abbrev pub square_spelled : ℕ → ℕ → Option ℕ
+square_spelled file rank =
+    if nat_le 97 file && nat_le file 104 && (nat_le 49 rank && nat_le rank 56) then Some (8 * (rank - 49) + (file - 97)) else None
+
+-- the lower left and the upper right square of a rectangle
+abbrev pub are_corners : ℕ → ℕ → Bool
+are_corners from to = nat_le (file_of from) (file_of to) && nat_le (rank_of from) (rank_of to)
+
+abbrev pub placed_on : Side → Option Kind → Option ℕ → Option ℕ → Option Placed
+placed_on side (Some kind) (Some from) (Some to) =
+    if are_corners from to then Some (record { side = side; kind = kind; from = from; to = to }) else None
+placed_on side _ _ _ = None
+
+abbrev pub placed_by : ℕ → Option ℕ → Option ℕ → Option Placed
+placed_by letter from to = placed_on (side_lettered letter) (kind_lettered (capital letter)) from to
+
+-- a man's letter and a square, or the two corners of a rectangle with a hyphen between them
+abbrev pub placed_told : List ℕ → Option Placed
+placed_told (letter ∷ file ∷ rank ∷ []) = placed_by letter (square_spelled file rank) (square_spelled file rank)
+placed_told (letter ∷ file ∷ rank ∷ hyphen ∷ last_file ∷ last_rank ∷ []) =
+    if hyphen == 45 then placed_by letter (square_spelled file rank) (square_spelled last_file last_rank) else None
+placed_told _ = None
+
+-- ---- what stands behind a theme
+
+abbrev pub nothing_behind : Behind
+nothing_behind = record { side = None; filters = no_filters }
+
+-- one more man, if there is room for him
+abbrev pub put_placed : Placed → List (Option Placed) → Option (List (Option Placed))
+put_placed w [] = None
+put_placed w (None ∷ ws) = Some (Some w ∷ ws)
+put_placed w (Some v ∷ ws) = option_map (λ more. Some v ∷ more) (put_placed w ws)
+
+abbrev pub with_men : Behind → Option (List (Option Placed)) → Result Behind Unread
+with_men b None = Err NoSuchFilter
+with_men b (Some men) = Ok (record b { filters = record b.filters { men = men } })
+
+abbrev pub with_placed : Behind → Option Placed → Result Behind Unread
+with_placed b None = Err NoSuchFilter
+with_placed b (Some w) = with_men b (put_placed w b.filters.men)
+
+-- one side at most
+abbrev pub with_side : Behind → Side → Result Behind Unread
+with_side b side = if is_some b.side then Err NoSuchFilter else Ok (record b { side = Some side })
+
+abbrev pub with_side_or_man : Behind → List ℕ → Option Side → Result Behind Unread
+with_side_or_man b word (Some side) = with_side b side
+with_side_or_man b word None = with_placed b (placed_told word)
+
+-- what is asked of the key wants a theme that has one
+abbrev pub if_key : Theme → Behind → Result Behind Unread
+if_key t b = if has_key t then Ok b else Err NoKeyMove
+
+-- `white`, `black`, `no-capture`, `no-check`, or where a man stands
+abbrev pub with_word : Theme → Behind → List ℕ → Result Behind Unread
+with_word t b word =
+    if bytes_eq word (codes "no-capture") then if_key t (record b { filters = record b.filters { no_capture = true } })
+    else (if bytes_eq word (codes "no-check") then if_key t (record b { filters = record b.filters { no_check = true } })
+    else with_side_or_man b word (side_told word))
+
+-- word by word, up to the first that is refused
+abbrev pub with_words : Theme → Result Behind Unread → List (List ℕ) → Result Behind Unread
+with_words t read [] = read
+with_words t (Ok b) (word ∷ more) = with_words t (with_word t b word) more
+with_words t (Err fault) (word ∷ more) = Err fault

@@ -1,0 +1,95 @@
+-- Filters: where men stand, and how the key goes.
+use Rattle.std.specs.Prelude.{◌≡◌, ◌&&◌, ◌||◌, not, ℕ, nat_le, nat_lt, Bool, true, false, length, replicate, List, [], ◌∷◌, Option, Some, None, if◌then◌else◌}
+use Rattle.std.specs.List.{list_all, list_any}
+use Rattle.study_board.specs.declared.men.Man.{Man}
+use Rattle.study_board.specs.declared.symmetry.Symmetry.{Symmetry}
+use Rattle.study_board.specs.Geometry.{file_of, rank_of}
+use Rattle.study_board.specs.Men.{same_side, same_kind}
+use Rattle.study_board.specs.Position.{Position, in_check}
+use Rattle.study_board.specs.Symmetry.{image, admits}
+use Rattle.study_moves.specs.declared.moves.Move.{Move}
+use Rattle.study_moves.specs.Rules.{after}
+use Rattle.study_search.specs.declared.only_moves.Outcome.{Outcome}
+use Rattle.study_search.specs.OnlyMoves.{IsKey}
+use Rattle.study_listing.specs.declared.filters.Placed.{Placed}
+use Rattle.study_listing.specs.declared.filters.Filters.{Filters}
+
+-- nothing is left out
+abbrev pub no_filters : Filters
+no_filters = record { men = replicate 4 None; no_capture = false; no_check = false }
+
+abbrev pub is_from_to : ℕ → ℕ → ℕ → Bool
+is_from_to low high n = nat_le low n && nat_le n high
+
+-- the square lies in the rectangle whose lower left and upper right squares these are
+abbrev pub is_within : Placed → ℕ → Bool
+is_within w x = is_from_to (file_of w.from) (file_of w.to) (file_of x) && is_from_to (rank_of w.from) (rank_of w.to) (rank_of x)
+
+-- a man of this side and kind, on a square of the rectangle
+abbrev pub is_placed : Placed → Man → Bool
+is_placed w m = same_side m.side w.side && (same_kind m.kind w.kind && is_within w m.at)
+
+-- there is such a man, where one is asked for
+abbrev pub has_placed : List Man → Option Placed → Bool
+has_placed men None = true
+has_placed men (Some w) = list_any (is_placed w) men
+
+-- all that are asked for are there
+abbrev pub are_placed : List (Option Placed) → Position → Bool
+are_placed ws p = list_all (has_placed p.men) ws
+
+-- ---- images
+
+abbrev pub turned_by : Bool → Bool → Bool → Symmetry
+turned_by files ranks diagonal = record { files = files; ranks = ranks; diagonal = diagonal; colours = false }
+
+-- the board mirrored and turned in each way, and the colours kept; as it is first
+unfoldable pub turns : List Symmetry
+turns =
+    turned_by false false false ∷ turned_by true false false ∷ turned_by false true false ∷ turned_by true true false
+    ∷ turned_by false false true ∷ turned_by true false true ∷ turned_by false true true ∷ turned_by true true true ∷ []
+
+abbrev pub or_else : {A : Type 0} → Option A → Option A → Option A
+or_else None b = b
+or_else (Some x) b = Some x
+
+-- the image, if the men admit it (pawns go along files) and the men that are asked for are there
+abbrev pub image_placed : List (Option Placed) → Position → Symmetry → Option Position
+image_placed ws p g = if admits p g && are_placed ws (image g p) then Some (image g p) else None
+
+-- the first of them
+abbrev pub first_placed : List (Option Placed) → Position → List Symmetry → Option Position
+first_placed ws p [] = None
+first_placed ws p (g ∷ gs) = or_else (image_placed ws p g) (first_placed ws p gs)
+
+-- some image that keeps the colours has the men that are asked for
+pub record HasImagePlaced (ws : List (Option Placed)) (p : Position) : Type 0 where
+  pub by : Symmetry
+  pub colours : by.colours ≡ false
+  pub admitted : admits p by ≡ true
+  pub placed : are_placed ws (image by p) ≡ true
+
+-- ---- the key
+
+-- there are fewer men after the move
+abbrev pub is_capture : Position → Move → Bool
+is_capture p m = nat_lt (length (after p m).men) (length p.men)
+
+abbrev pub gives_check : Position → Move → Bool
+gives_check p m = in_check (after p m).men (after p m).to_move
+
+-- neither a capture nor a check, where that is asked for
+abbrev pub is_let_through : Filters → Position → Move → Bool
+is_let_through f p m = not (f.no_capture && is_capture p m) && not (f.no_check && gives_check p m)
+
+-- just one move holds, and it is let through
+abbrev pub HasKeyLetThrough : Filters → Position → Type 0
+HasKeyLetThrough f p = (m : Move) × ((o : Outcome) × IsKey o p m) × (is_let_through f p m ≡ true)
+
+-- where anything is asked of the key
+abbrev pub HasWantedKey : Filters → Position → Type 0
+HasWantedKey f p = f.no_capture || f.no_check ≡ true → HasKeyLetThrough f p
+
+abbrev pub is_key_let_through : Filters → Position → Option Move → Bool
+is_key_let_through f p None = false
+is_key_let_through f p (Some m) = is_let_through f p m

@@ -1,0 +1,226 @@
+//! Filters: where men stand, and how the key goes.
+ghost use Rattle.std.specs.Prelude.{◌≡◌, ◌↔◌, true, false, IfOk, IfErr, IfSome, IsErrOf};
+ghost use Rattle.std.specs.List.{list_any};
+ghost use Rattle.study_material.specs.declared.class.Class.{Class as AClass};
+ghost use Rattle.study_moves.specs.Rules.{is_legal};
+ghost use Rattle.study_values.specs.Values.{IsNotDamage};
+ghost use Rattle.study_listing.specs.Filters.{is_from_to, is_within, is_placed, has_placed, are_placed, turned_by, turns};
+ghost use Rattle.study_listing.specs.Filters.{image_placed, first_placed, is_let_through, is_key_let_through, HasKeyLetThrough, HasWantedKey, no_filters};
+
+use crate::facts::{Wanted, facts_of};
+use study_board::{Kind, Man, Position, Side, Square, Symmetry};
+use study_moves::{Move, in_check, played};
+use study_search::Search;
+use study_values::{ProbeFault, Values};
+
+/// A man that is to stand on one of the squares of a rectangle.
+#[derive(Clone, Copy, Debug, PartialEq, Eq)]
+pub struct Placed {
+    pub side: Side,
+    pub kind: Kind,
+    /// The rectangle's lower left square.
+    pub from: Square,
+    /// Its upper right square.
+    pub to: Square,
+}
+
+/// What positions are left out of a list: those that no image puts on such squares, and those with another key.
+#[derive(Clone, Copy, Debug, PartialEq, Eq)]
+pub struct Filters {
+    /// Men that are to be there, each by itself.
+    pub men: [Option<Placed>; 4],
+    /// The key, the one move that holds, is to capture nothing.
+    pub no_capture: bool,
+    /// The key is to give no check.
+    pub no_check: bool,
+}
+
+/// What is listed: the positions that are looked for and that the filters let through.
+#[derive(Clone, Copy, Debug, PartialEq, Eq)]
+pub struct Selection {
+    pub search: Search,
+    pub filters: Filters,
+}
+
+impl Filters {
+    /// Nothing is left out.
+    pub fn none() -> Filters
+        ensures { result ≡ no_filters }
+    {
+        Filters {
+            men: [None; 4],
+            no_capture: false,
+            no_check: false,
+        }
+    }
+}
+
+fn is_from_to(low: u8, high: u8, n: u8) -> bool
+    ensures { result ≡ is_from_to low high n }
+{
+    low <= n && n <= high
+}
+
+/// Whether the square lies in the rectangle.
+fn is_within(w: &Placed, x: Square) -> bool
+    ensures { result ≡ is_within w.now x }
+{
+    is_from_to(w.from.file(), w.to.file(), x.file())
+        && is_from_to(w.from.rank(), w.to.rank(), x.rank())
+}
+
+/// Whether it is such a man on such a square.
+fn is_placed(w: &Placed, man: &Man) -> bool
+    ensures { result ≡ is_placed w.now man.now }
+{
+    man.side == w.side && man.kind == w.kind && is_within(w, man.at)
+}
+
+/// Whether there is such a man.
+fn has_man(men: &[Man], w: &Placed) -> bool
+    ensures { result ≡ list_any (is_placed w.now) men.now }
+{
+    men.iter().any(|man| is_placed(w, man))
+}
+
+/// The same, where one is asked for.
+fn has_placed(men: &[Man], wanted: &Option<Placed>) -> bool
+    ensures { result ≡ has_placed men.now wanted.now }
+{
+    match wanted {
+        None => true,
+        Some(w) => has_man(men, w),
+    }
+}
+
+/// Whether all men that are asked for are there.
+fn are_placed(wanted: &[Option<Placed>], p: &Position) -> bool
+    ensures { result ≡ are_placed wanted.now p.now }
+{
+    wanted.iter().all(|w| has_placed(p.men(), w))
+}
+
+fn turned_by(files: bool, ranks: bool, diagonal: bool) -> Symmetry
+    ensures { result ≡ turned_by files ranks diagonal }
+{
+    Symmetry {
+        files,
+        ranks,
+        diagonal,
+        colours: false,
+    }
+}
+
+/// The board mirrored and turned in each way, as it is first.
+#[tactic(auto, unfolding(crate::specs::Filters::turns))]
+fn turns() -> [Symmetry; 8]
+    ensures { result ≡ turns }
+{
+    [
+        turned_by(false, false, false),
+        turned_by(true, false, false),
+        turned_by(false, true, false),
+        turned_by(true, true, false),
+        turned_by(false, false, true),
+        turned_by(true, false, true),
+        turned_by(false, true, true),
+        turned_by(true, true, true),
+    ]
+}
+
+/// The image, if the men admit it and the men that are asked for are there.
+fn image_placed(wanted: &[Option<Placed>], p: &Position, by: &Symmetry) -> Option<Position>
+    ensures { result ≡ image_placed wanted.now p.now by.now }
+{
+    if !p.admits(by) {
+        return None;
+    }
+    let turned = p.turned(by);
+    if are_placed(wanted, &turned) {
+        Some(turned)
+    } else {
+        None
+    }
+}
+
+fn first_of(wanted: &[Option<Placed>], p: &Position, by: &[Symmetry]) -> Option<Position>
+    ensures { result ≡ first_placed wanted.now p.now by.now }
+{
+    match by.split_first() {
+        None => None,
+        Some((first, rest)) => match image_placed(wanted, p, first) {
+            Some(turned) => Some(turned),
+            None => first_of(wanted, p, rest),
+        },
+    }
+}
+
+/// The first image of a position, as it is first, in which the men that are asked for are there.
+pub(crate) fn first_placed(wanted: &[Option<Placed>], p: &Position) -> Option<Position>
+    ensures { result ≡ first_placed wanted.now p.now turns }
+{
+    first_of(wanted, p, turns().as_slice())
+}
+
+/// Whether a legal move is let through: neither a capture nor a check, where that is asked for.
+fn is_let_through(filters: &Filters, p: &Position, m: Move) -> bool
+    requires { is_legal p.now m ≡ true }
+    ensures { result ≡ is_let_through filters.now p.now m }
+{
+    let next = played(p, m);
+    let captures = next.men().len() < p.men().len();
+    !(filters.no_capture && captures) && !(filters.no_check && in_check(&next))
+}
+
+/// Whether the position has one key, and it is let through.
+#[tactic(auto, using(crate::proofs::Keys::has_key_let_through))]
+fn has_key_let_through<V: Values>(
+    filters: &Filters,
+    p: &Position,
+    values: &mut V,
+) -> Result<bool, ProbeFault>
+    ensures game { V.is_honest values.old → IfOk result (λ b. (b ≡ true) ↔ HasKeyLetThrough filters.now p.now) }
+    ensures no_table { (c : AClass) → IsErrOf result (ProbeFault.NoTable c) → V.held values.old c ≡ false }
+    ensures no_damage { V.is_honest values.old → IfErr result IsNotDamage }
+    ensures honest { V.is_honest values.old → V.is_honest values.new }
+    ensures tables { (c : AClass) → V.held values.new c ≡ V.held values.old c }
+{
+    let wanted = Wanted {
+        other: false,
+        key: true,
+    };
+    match facts_of(p, wanted, values) {
+        Err(fault) => Err(fault),
+        Ok(facts) => Ok(is_key_let_through(filters, p, facts.key)),
+    }
+}
+
+/// The same, where anything is asked of the key.
+pub(crate) fn has_wanted_key<V: Values>(
+    filters: &Filters,
+    p: &Position,
+    values: &mut V,
+) -> Result<bool, ProbeFault>
+    ensures game { V.is_honest values.old → IfOk result (λ b. (b ≡ true) ↔ HasWantedKey filters.now p.now) }
+    ensures no_table { (c : AClass) → IsErrOf result (ProbeFault.NoTable c) → V.held values.old c ≡ false }
+    ensures no_damage { V.is_honest values.old → IfErr result IsNotDamage }
+    ensures honest { V.is_honest values.old → V.is_honest values.new }
+    ensures tables { (c : AClass) → V.held values.new c ≡ V.held values.old c }
+{
+    let asked = filters.no_capture || filters.no_check;
+    if asked {
+        return has_key_let_through(filters, p, values);
+    }
+    Ok(true)
+}
+
+/// Whether there is a key, and it is let through.
+fn is_key_let_through(filters: &Filters, p: &Position, key: Option<Move>) -> bool
+    requires { IfSome key (λ m. is_legal p.now m ≡ true) }
+    ensures { result ≡ is_key_let_through filters.now p.now key }
+{
+    match key {
+        None => false,
+        Some(m) => is_let_through(filters, p, m),
+    }
+}

@@ -1,0 +1,200 @@
+//! Which positions of those that are found are listed, and which image of each.
+ghost use Rattle.std.specs.Prelude.{◌≡◌, ◌↔◌, ◌⊎◌, true, false, Some, is_some, IfOk, IfErr, IfSome, IfNone, IsErrOf};
+ghost use Rattle.study_board.specs.Position.{IsValid, Position as APosition};
+ghost use Rattle.study_index.specs.Computed.{position_numbered};
+ghost use Rattle.study_material.specs.declared.class.Class.{Class as AClass};
+ghost use Rattle.study_search.specs.Finding.{IsFound, IsLookedFor};
+ghost use Rattle.study_search.specs.Pairs.{counterpart};
+ghost use Rattle.study_search.specs.Zugzwang.{handed_on};
+ghost use Rattle.study_values.specs.Values.{IsNotDamage};
+ghost use Rattle.study_listing.specs.Filters.{first_placed, turns, HasWantedKey};
+ghost use Rattle.study_listing.specs.Lists.{has_like_sides, is_of_zugzwangs, is_for_white, is_paired, second_placed, shown};
+ghost use Rattle.study_listing.specs.Lists.{IsOneOfPair, IsListed, IsListedAt, IsTextAt};
+
+use crate::filters::{Selection, first_placed, has_wanted_key};
+use crate::text::{Form, Listed, text_of};
+use study_board::{Position, Side, Symmetry};
+use study_index::decode;
+use study_material::Class;
+use study_search::{Search, Theme, handed_on, is_listed_of_two};
+use study_values::{ProbeFault, Values};
+
+/// Whether both sides have the same men, so that each position has a colour image in the class.
+pub fn has_like_sides(class: Class) -> bool
+    ensures { result ≡ has_like_sides class }
+{
+    matches!(
+        class,
+        Class::KK | Class::KQKQ | Class::KRKR | Class::KBKB | Class::KNKN | Class::KPKP
+    )
+}
+
+pub(crate) fn is_of_zugzwangs(theme: Theme) -> bool
+    ensures { result ≡ is_of_zugzwangs theme }
+{
+    match theme {
+        Theme::Zugzwang => true,
+        _ => false,
+    }
+}
+
+fn is_for_white(side: Option<Side>) -> bool
+    ensures { result ≡ is_for_white side }
+{
+    match side {
+        Some(Side::White) => true,
+        _ => false,
+    }
+}
+
+/// Whether each mutual zugzwang is found in two placements.
+fn is_paired(search: &Search) -> bool
+    ensures { result ≡ is_paired search.now }
+{
+    is_of_zugzwangs(search.theme) && is_for_white(search.side) && has_like_sides(search.class)
+}
+
+/// Whether a position that is looked for is listed as the first of two placements, where it has two.
+fn is_one_of_pair<V: Values>(
+    search: &Search,
+    p: &Position,
+    values: &mut V,
+) -> Result<bool, ProbeFault>
+    ensures game { V.is_honest values.old → IsLookedFor search.now p.now → IfOk result (λ b. (b ≡ true) ↔ IsOneOfPair search.now p.now) }
+    ensures no_table { (c : AClass) → IsErrOf result (ProbeFault.NoTable c) → V.held values.old c ≡ false }
+    ensures no_damage { V.is_honest values.old → IfErr result IsNotDamage }
+    ensures honest { V.is_honest values.old → V.is_honest values.new }
+    ensures tables { (c : AClass) → V.held values.new c ≡ V.held values.old c }
+{
+    let paired = is_paired(search);
+    if paired {
+        return is_listed_of_two(p, values);
+    }
+    Ok(true)
+}
+
+/// The colour image of a position with the other side to move, in which men are where they are asked for.
+fn counterpart_placed(selection: &Selection, p: &Position) -> Option<Position>
+    ensures { IsValid (handed_on p.now) → result ≡ first_placed selection.now.filters.men (counterpart p.now) turns }
+{
+    let other = handed_on(p)?;
+    let swapped = Symmetry {
+        files: false,
+        ranks: false,
+        diagonal: false,
+        colours: true,
+    };
+    first_placed(selection.filters.men.as_slice(), &other.turned(&swapped))
+}
+
+/// The same, of a mutual zugzwang that is there in two placements.
+fn second_placed(selection: &Selection, p: &Position) -> Option<Position>
+    ensures { (is_paired selection.now.search ≡ true → IsValid (handed_on p.now)) → result ≡ second_placed selection.now p.now }
+{
+    let paired = is_paired(&selection.search);
+    if paired {
+        return counterpart_placed(selection, p);
+    }
+    None
+}
+
+/// The image of a position that is listed: the first in which men are where they are asked for.
+fn shown(selection: &Selection, p: &Position) -> Option<Position>
+    ensures { (is_paired selection.now.search ≡ true → IsValid (handed_on p.now)) → result ≡ shown selection.now p.now }
+{
+    match first_placed(selection.filters.men.as_slice(), p) {
+        Some(image) => Some(image),
+        None => second_placed(selection, p),
+    }
+}
+
+/// Whether a position that is looked for, and of which an image is shown, is listed.
+fn is_listed<V: Values>(
+    selection: &Selection,
+    p: &Position,
+    values: &mut V,
+) -> Result<bool, ProbeFault>
+    ensures game { V.is_honest values.old → IsLookedFor selection.now.search p.now → is_some (shown selection.now p.now) ≡ true
+        → IfOk result (λ b. (b ≡ true) ↔ IsListed selection.now p.now) }
+    ensures no_table { (c : AClass) → IsErrOf result (ProbeFault.NoTable c) → V.held values.old c ≡ false }
+    ensures no_damage { V.is_honest values.old → IfErr result IsNotDamage }
+    ensures honest { V.is_honest values.old → V.is_honest values.new }
+    ensures tables { (c : AClass) → V.held values.new c ≡ V.held values.old c }
+{
+    match is_one_of_pair(&selection.search, p, values) {
+        Err(fault) => Err(fault),
+        Ok(false) => Ok(false),
+        Ok(true) => has_wanted_key(&selection.filters, p, values),
+    }
+}
+
+/// The image of a position that is listed, if it is.
+fn image_listed<V: Values>(
+    selection: &Selection,
+    p: &Position,
+    values: &mut V,
+) -> Result<Option<Position>, ProbeFault>
+    ensures some { V.is_honest values.old → IsLookedFor selection.now.search p.now → IfOk result (λ at. IfSome at (λ q. IsListed selection.now p.now)) }
+    ensures image { V.is_honest values.old → IsLookedFor selection.now.search p.now → IfOk result (λ at. IfSome at (λ q. shown selection.now p.now ≡ Some q)) }
+    ensures none { V.is_honest values.old → IsLookedFor selection.now.search p.now → IfOk result (λ at. IfNone at (¬ (IsListed selection.now p.now))) }
+    ensures no_table { (c : AClass) → IsErrOf result (ProbeFault.NoTable c) → V.held values.old c ≡ false }
+    ensures no_damage { V.is_honest values.old → IfErr result IsNotDamage }
+    ensures honest { V.is_honest values.old → V.is_honest values.new }
+    ensures tables { (c : AClass) → V.held values.new c ≡ V.held values.old c }
+{
+    match shown(selection, p) {
+        None => Ok(None),
+        Some(image) => match is_listed(selection, p, values) {
+            Err(fault) => Err(fault),
+            Ok(true) => Ok(Some(image)),
+            Ok(false) => Ok(None),
+        },
+    }
+}
+
+/// The image of the position of a number that is found, if it is listed.
+pub(crate) fn listed_at<V: Values>(
+    selection: &Selection,
+    number: u32,
+    values: &mut V,
+) -> Result<Option<Position>, ProbeFault>
+    ensures some { V.is_honest values.old → IsFound selection.now.search number → IfOk result (λ at. IfSome at (λ q. IsListedAt selection.now number)) }
+    ensures image { V.is_honest values.old → IsFound selection.now.search number → IfOk result (λ at. IfSome at (λ q.
+        (p : APosition) × (position_numbered selection.now.search.class number ≡ Some p) × (shown selection.now p ≡ Some q))) }
+    ensures none { V.is_honest values.old → IsFound selection.now.search number → IfOk result (λ at. IfNone at (¬ (IsListedAt selection.now number))) }
+    ensures no_table { (c : AClass) → IsErrOf result (ProbeFault.NoTable c) → V.held values.old c ≡ false }
+    ensures no_damage { V.is_honest values.old → IfErr result IsNotDamage }
+    ensures honest { V.is_honest values.old → V.is_honest values.new }
+    ensures tables { (c : AClass) → V.held values.new c ≡ V.held values.old c }
+{
+    match decode(selection.search.class, number) {
+        None => Ok(None),
+        Some(p) => image_listed(selection, &p, values),
+    }
+}
+
+/// The text of a number that is found, if it is listed.
+pub(crate) fn text_at<V: Values>(
+    selection: &Selection,
+    form: Form,
+    number: u32,
+    values: &mut V,
+) -> Result<Option<Listed>, ProbeFault>
+    ensures some { V.is_honest values.old → IsFound selection.now.search number → IfOk result (λ at. IfSome at (λ p. IsListedAt selection.now number)) }
+    ensures text { V.is_honest values.old → IsFound selection.now.search number
+        → IfOk result (λ at. IfSome at (λ text. IsTextAt selection.now form number text.bytes)) }
+    ensures none { V.is_honest values.old → IsFound selection.now.search number → IfOk result (λ at. IfNone at (¬ (IsListedAt selection.now number))) }
+    ensures no_table { (c : AClass) → IsErrOf result (ProbeFault.NoTable c) → V.held values.old c ≡ false }
+    ensures no_damage { V.is_honest values.old → IfErr result IsNotDamage }
+    ensures honest { V.is_honest values.old → V.is_honest values.new }
+    ensures tables { (c : AClass) → V.held values.new c ≡ V.held values.old c }
+{
+    match listed_at(selection, number, values) {
+        Err(fault) => Err(fault),
+        Ok(None) => Ok(None),
+        Ok(Some(image)) => match text_of(&image, form, selection.search.theme, values) {
+            Err(fault) => Err(fault),
+            Ok(text) => Ok(Some(text)),
+        },
+    }
+}
