@@ -15,10 +15,12 @@ pub mod FaultsListed
 pub mod Within
 pub mod Asking
 pub mod WrittenOrder
+pub mod TimeCounted
 pub mod Stands
 pub mod NodesShown
 pub mod NodesTold
 pub mod OneReview
+pub mod TimeFaultsAll
 pub mod ToldMoves
 pub mod MovesTold
 pub mod TextGrows

@@ -5,7 +5,9 @@ use Rattle.std.specs.Prelude.{if◌then◌else◌, is_some, cond}
 use Rattle.std.specs.List.{filter, flat_map}
 use Rattle.std.proofs.lemmas.List.{append-nil}
 use Rattle.std.proofs.lemmas.List.Concat.{flat_map-append}
-use Rattle.std.proofs.lemmas.List.Sums.{sum_by-append}
+use Rattle.std.proofs.lemmas.List.Sums.{sum_by-append, count_by-le-length}
+use Rattle.std.proofs.lemmas.List.Folds.{list_all-append}
+use Rattle.std.proofs.lemmas.Bool.{eqb-true, eqb-false, eq-eqb, ne_eqb}
 use Rattle.study_board.specs.Position.{Position}
 use Rattle.study_moves.specs.declared.moves.Move.{Move}
 use Rattle.study_moves.specs.Rules.{after}
@@ -24,6 +26,7 @@ use Rattle.study_review.specs.Made.{Grew}
 use Rattle.study_review.specs.Time.{IsTimeTold, AreTimed}
 use Rattle.study_review.specs.Told.{AreAlsoLines, AreMissingLines, AreAnswers, besides, apart}
 use Rattle.study_review.specs.Words.{also_line, missing_line, times_lost}
+use Rattle.study_review.specs.TimeFaults.{all_lose_time}
 use Rattle.study_review.proofs.NodesShown.{not-zero}
 
 -- ---- alternatives
@@ -35,8 +38,64 @@ timed-append g line p [] us (y ∷ ys) vs h k = absurd h
 timed-append g line p (x ∷ xs) us [] vs h k = absurd h
 timed-append g line p (x ∷ xs) us (y ∷ ys) vs h k = (h.0, h.1, h.2, timed-append g line p xs us ys vs h.3 k)
 
+pub timed-length : (g : Goal) (line : List Position) (p : Position) (xs : List Continuation) (ys : List Alternative)
+    → AreTimed g line p xs ys → length xs ≡ length ys
+timed-length g line p [] [] h = refl
+timed-length g line p [] (y ∷ ys) h = absurd h
+timed-length g line p (x ∷ xs) [] h = absurd h
+timed-length g line p (x ∷ xs) (y ∷ ys) h = let e = timed-length g line p xs ys h.3 in omega (arith, e)
+
 times-append : (ys vs : List Alternative) → times_lost (ys ++ vs) ≡ times_lost ys + times_lost vs
 times-append ys vs = sum_by-append (λ y. cond (is_some y.time) 1 0) ys vs
+
+same-count : (a b : ℕ) → (1 + a == 1 + b) ≡ (a == b)
+same-count a b = go (a == b) refl
+  where
+    go : (t : Bool) → (a == b) ≡ t → (1 + a == 1 + b) ≡ t
+    go true e = eq-eqb (1 + a) (1 + b) (ap (λ i. 1 + i) (eqb-true a b e))
+    go false e =
+        let n : (a ≡ b → ⊥) = eqb-false a b e in
+        ne_eqb (1 + a) (1 + b) (λ k. n (omega (arith, k)))
+
+one-lost : (x : Alternative) → times_lost (x ∷ []) ≡ (if is_some x.time then 1 else 0)
+one-lost x = go (is_some x.time) refl
+  where
+    go : (b : Bool) → is_some x.time ≡ b → times_lost (x ∷ []) ≡ (if is_some x.time then 1 else 0)
+    go true e = rw e refl
+    go false e = rw e refl
+
+one-loses : (x : Alternative) → all_lose_time (x ∷ []) ≡ is_some x.time
+one-loses x = go (is_some x.time) refl
+  where
+    go : (b : Bool) → is_some x.time ≡ b → all_lose_time (x ∷ []) ≡ is_some x.time
+    go true e = rw e refl
+    go false e = rw e refl
+
+-- as many lose time as there are exactly where each does
+pub all-counted : (list : List Alternative) → (times_lost list == length list) ≡ all_lose_time list
+all-counted [] = refl
+all-counted (x ∷ xs) = go (all-counted xs) (is_some x.time) refl
+  where
+    both : all_lose_time (x ∷ xs) ≡ (all_lose_time (x ∷ []) && all_lose_time xs)
+    both = list_all-append (λ (y : Alternative). is_some y.time) (x ∷ []) xs
+
+    go : (times_lost xs == length xs) ≡ all_lose_time xs → (b : Bool) → is_some x.time ≡ b
+        → (times_lost (x ∷ xs) == length (x ∷ xs)) ≡ all_lose_time (x ∷ xs)
+    go more true e =
+        let one : times_lost (x ∷ []) ≡ 1 = one-lost x ∙ ap (λ b. if b then 1 else 0) e in
+        let sum = times-append (x ∷ []) xs in
+        let count : times_lost (x ∷ xs) ≡ 1 + times_lost xs = omega (arith, one, sum) in
+        let len : length (x ∷ xs) ≡ 1 + length xs = omega arith in
+        let all : all_lose_time (x ∷ xs) ≡ all_lose_time xs = both ∙ ap (λ b. b && all_lose_time xs) (one-loses x ∙ e) in
+        ap (λ n. n == length (x ∷ xs)) count ∙ ap (λ n. 1 + times_lost xs == n) len ∙ same-count (times_lost xs) (length xs) ∙ more ∙ sym all
+    go more false e =
+        let one : times_lost (x ∷ []) ≡ 0 = one-lost x ∙ ap (λ b. if b then 1 else 0) e in
+        let sum = times-append (x ∷ []) xs in
+        let count : times_lost (x ∷ xs) ≡ times_lost xs = omega (arith, one, sum) in
+        let all : all_lose_time (x ∷ xs) ≡ false = both ∙ ap (λ b. b && all_lose_time xs) (one-loses x ∙ e) in
+        let few = count_by-le-length (λ (y : Alternative). is_some y.time) xs in
+        let len : length (x ∷ xs) ≡ 1 + length xs = omega arith in
+        ne_eqb (times_lost (x ∷ xs)) (length (x ∷ xs)) (λ k. absurd (omega (arith, k, count, few, len))) ∙ sym all
 
 module _ {X : Type 0} (f : X → Bool) where
   filter-more : (x : X) (xs : List X) → filter f (x ∷ xs) ≡ filter f (x ∷ []) ++ filter f xs

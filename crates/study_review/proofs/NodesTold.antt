@@ -1,5 +1,5 @@
 -- The lines of one node, kind by kind.
-use Rattle.std.proofs.Common.{◌≡◌, ◌==◌, ℕ, Bool, true, false, not, ◌&&◌, List, [], ◌++◌, Option, Some, None, length, refl, sym, ap, subst, ◌∙◌, append_assoc}
+use Rattle.std.proofs.Common.{◌≡◌, ◌==◌, ℕ, ◌+◌, ◌<◌, ◌^◌, Bool, true, false, not, ◌&&◌, List, [], ◌∷◌, ◌++◌, Option, Some, None, length, refl, sym, ap, subst, ◌∙◌, append_assoc, arith}
 use Rattle.std.specs.Prelude.{MatchOption, if◌then◌else◌}
 use Rattle.std.specs.List.{flat_map}
 use Rattle.std.proofs.lemmas.List.{append-nil}
@@ -28,10 +28,12 @@ use Rattle.study_review.specs.Line.{line_to, moves_of}
 use Rattle.study_review.specs.Words.{also_line, missing_line, keep_line, dual_line, mistake_line, times_lost}
 use Rattle.study_review.specs.Nodes.{front_of, has_none, is_dual, is_try, is_defended, is_open_end, is_solution_move, mark_at, value_at}
 use Rattle.study_review.specs.Nodes.{refuted_text, AreAlso, AlsoLines, RefutedLines, MissingLines, IsEnd, EndLines, NodeLines, IsFaultOf, FaultLines}
-use Rattle.study_review.specs.Made.{Grew}
+use Rattle.study_review.specs.Made.{Grew, Rose}
+use Rattle.study_review.specs.TimeFaults.{CountWhere, IsTimeFaultOf, IsTimeFault, all_lose_time}
 use Rattle.study_review.specs.Stand.{IsNodeAt, IsStep}
-use Rattle.study_review.specs.Told.{AreAlsoLines, AreMissingLines, OwnLines, failing, drawing}
+use Rattle.study_review.specs.Told.{AreAlsoLines, AreMissingLines, OwnLines, besides, failing, drawing}
 use Rattle.study_review.proofs.NodesShown.{are-there, not-there, none-counted}
+use Rattle.study_review.proofs.MovesTold.{timed-length, all-counted}
 use Rattle.study_review.proofs.ToldMoves.{failing-told, drawing-told, apart-told, besides-told}
 
 module _ (s : Study Mark) (path : List ℕ) where
@@ -96,6 +98,45 @@ module _ (s : Study Mark) (path : List ℕ) where
               (ap (λ (q : Position). mistake_line path q m v) h.before.position ∙ ap (mistake_line path (position_at s (front_of path)) m) value),
           grew,
         )
+
+    -- a fault that loses time alone, by its mark
+    time-of : (mark : Option MoveMark) (n : ℕ) → mark ≡ mark_at s path → IsTimeFaultOf s path m mark n
+        → MatchOption (played_by (spot_at s.tree path)) (n ≡ 0) (λ i. IsTimeFaultOf s path i (mark_at s path) n)
+    time-of mark n e k =
+        subst (λ (o : Option Move). MatchOption o (n ≡ 0) (λ i. IsTimeFaultOf s path i (mark_at s path) n)) (sym h.played)
+        (subst (λ (o : Option MoveMark). IsTimeFaultOf s path m o n) e k)
+
+    time-where : (n : ℕ) → is_solution_move s path ≡ true
+        → MatchOption (played_by (spot_at s.tree path)) (n ≡ 0) (λ i. IsTimeFaultOf s path i (mark_at s path) n) → IsTimeFault s path n
+    time-where n e k =
+        subst (λ b. CountWhere b (λ j. MatchOption (played_by (spot_at s.tree path)) (j ≡ 0) (λ i. IsTimeFaultOf s path i (mark_at s path) j)) n)
+        (sym e) k
+
+    no-time-where : is_solution_move s path ≡ false → IsTimeFault s path 0
+    no-time-where e =
+        subst (λ b. CountWhere b (λ j. MatchOption (played_by (spot_at s.tree path)) (j ≡ 0) (λ i. IsTimeFaultOf s path i (mark_at s path) j)) 0)
+        (sym e) refl
+
+    pub dual-timed : (told : List Continuation) (n others k : ℕ) (listed alone : Bool) (also : List ℕ) (old new : ℕ)
+        → mark_at s path ≡ Some (Dual k) → listed ≡ is_solution_move s path → others ≡ length (besides a d (m ∷ []) told)
+        → AreChosen (λ w. true) p (legal_list p) told → AreAlsoLines path a d line p m told n also
+        → alone ≡ (listed && (n == others)) → (old + (if alone then 1 else 0) < 2 ^ 32 → new ≡ old + (if alone then 1 else 0))
+        → Rose (IsTimeFault s path) old new
+    dual-timed told n others k true alone also old new mark so count all lines is rose =
+        let list = lines.0 in
+        let timed : AreTimedAlternatives a d line p m list = (_, besides-told a d p m told all, lines.1) in
+        let number = if alone then 1 else 0 in
+        let same : number ≡ (if all_lose_time list then 1 else 0) =
+        ap (λ b. if b then 1 else 0) is ∙ ap (λ t. if t == others then 1 else 0) lines.2
+        ∙ ap (λ o. if times_lost list == o then 1 else 0) (count ∙ timed-length a.goal line p (besides a d (m ∷ []) told) list lines.1)
+        ∙ ap (λ b. if b then 1 else 0) (all-counted list) in (
+          number,
+          time-where number (sym so) (time-of (Some (Dual k)) number (sym mark) (list, alternatives-at list timed, same)),
+          rose,
+        )
+    dual-timed told n others k false alone also old new mark so count all lines is rose =
+        let none : (if alone then 1 else 0) ≡ 0 = ap (λ b. if b then 1 else 0) is in
+        (0, no-time-where (sym so), λ few. (let z : new ≡ old + 0 = ap (λ i. i) (rose (omega (arith, few, none))) ∙ ap (λ i. old + i) none in z))
 
     -- a move with no such mark has no such line
     abbrev IsPlain : Option MoveMark → Type 0

@@ -1,7 +1,7 @@
 -- A study has one review.
 use Rattle.std.proofs.Common.{◌≡◌, ℕ, ◌+◌, ◌<◌, suc, zero, Bool, true, false, not, List, []}
 use Rattle.std.proofs.Common.{◌∷◌, ◌++◌, Option, Some, None, length, refl, sym, ap, subst, ◌∙◌, arith}
-use Rattle.std.specs.Prelude.{MatchOption}
+use Rattle.std.specs.Prelude.{MatchOption, if◌then◌else◌}
 use Rattle.std.specs.List.{flat_map}
 use Rattle.study_board.specs.Position.{Position}
 use Rattle.study_moves.specs.declared.moves.Move.{Move}
@@ -34,7 +34,8 @@ use Rattle.study_review.specs.Line.{line_to, moves_of}
 use Rattle.study_review.specs.Words.{also_line, missing_line, play_line, keep_line, dual_line, times_lost}
 use Rattle.study_review.specs.Nodes.{front_of, OnlyWhere, is_dual, is_try, is_defended, is_open_end, is_solution_move, mark_at, value_at, refuted_text}
 use Rattle.study_review.specs.Nodes.{AreAlso, AlsoLines, RefutedLines, MissingLines, IsPlay, IsEnd, EndLines, NodeLines, IsFaultOf, FaultLines}
-use Rattle.study_review.specs.Review.{study_line, stipulation_line, empty_line, written_order, LinesOfEach, ReviewsAreUnique}
+use Rattle.study_review.specs.Review.{study_line, stipulation_line, empty_line, waste_line, written_order, LinesOfEach, SumOfEach, AreTimeFaults, ReviewsAreUnique}
+use Rattle.study_review.specs.TimeFaults.{CountWhere, IsTimeFaultOf, IsTimeFault, all_lose_time}
 
 pub one-chosen : EachHasAtMostOneValue → (wanted : Value → Bool) (p : Position) (ms : List Move) (l k : List Continuation)
     → AreChosen wanted p ms l → AreChosen wanted p ms k → l ≡ k
@@ -186,9 +187,48 @@ one-each Lines f [] t u h j = h ∙ sym j
 one-each Lines f (x ∷ xs) t u h j =
     h.4 ∙ ap (λ (o : List ℕ). o ++ h.1) (f x h.0 j.0 h.2 j.2) ∙ ap (λ (r : List ℕ). j.0 ++ r) (one-each Lines f xs h.1 j.1 h.3 j.3) ∙ sym j.4
 
+-- ---- how many faults lose time alone
+
+abbrev pub OneNumber : (ℕ → Type 0) → Type 0
+OneNumber Count = (m n : ℕ) → Count m → Count n → m ≡ n
+
+count-where : (b : Bool) (Count : ℕ → Type 0) → OneNumber Count → OneNumber (CountWhere b Count)
+count-where true Count f m n h j = f m n h j
+count-where false Count f m n h j = h ∙ sym j
+
+count-match : (o : Option Move) (Count : Move → ℕ → Type 0) → ((m : Move) → OneNumber (Count m)) → OneNumber (λ n. MatchOption o (n ≡ 0) (λ m. Count m n))
+count-match None Count f m n h j = h ∙ sym j
+count-match (Some x) Count f m n h j = f x m n h j
+
+module _ (law : EachHasAtMostOneValue) (s : Study Mark) (path : List ℕ) where
+  time-fault-once : (x : Move) (mark : Option MoveMark) → OneNumber (IsTimeFaultOf s path x mark)
+  time-fault-once x None m n h j = h ∙ sym j
+  time-fault-once x (Some (Dual k)) m n h j =
+      h.2 ∙ ap (λ l. if all_lose_time l then 1 else 0)
+      (one-alternatives law (aim_of s) (length (front_of path)) (line_to s (front_of path)) (position_at s (front_of path)) x h.0 j.0 h.1 j.1) ∙ sym j.2
+  time-fault-once x (Some Mistake) m n h j = h ∙ sym j
+  time-fault-once x (Some Only) m n h j = h ∙ sym j
+  time-fault-once x (Some Idle) m n h j = h ∙ sym j
+  time-fault-once x (Some Reply) m n h j = h ∙ sym j
+
+  time-once : OneNumber (IsTimeFault s path)
+  time-once =
+      count-where (is_solution_move s path) _
+      (count-match (played_by (spot_at s.tree path)) (λ x n. IsTimeFaultOf s path x (mark_at s path) n) (λ x. time-fault-once x (mark_at s path)))
+
+one-sum : (Count : List ℕ → ℕ → Type 0) → ((path : List ℕ) → OneNumber (Count path)) → (paths : List (List ℕ)) → OneNumber (SumOfEach Count paths)
+one-sum Count f [] m n h j = h ∙ sym j
+one-sum Count f (x ∷ xs) m n h j =
+    h.4 ∙ ap (λ i. i + h.1) (f x h.0 j.0 h.2 j.2) ∙ ap (λ i. j.0 + i) (one-sum Count f xs h.1 j.1 h.3 j.3) ∙ sym j.4
+
+pub one-time-count : EachHasAtMostOneValue → (s : Study Mark) → OneNumber (AreTimeFaults s)
+one-time-count law s = one-sum (IsTimeFault s) (time-once law s) (written_order s)
+
 pub one-review : EachHasAtMostOneValue → ReviewsAreUnique
 one-review law s number t u h j =
-    h.4 ∙ ap (λ (f : List ℕ). study_line s number ++ (stipulation_line s ++ (empty_line s ++ (f ++ h.1))))
-    (one-each (FaultLines s) (faults-once law s) (written_order s) h.0 j.0 h.2 j.2)
-    ∙ ap (λ (n : List ℕ). study_line s number ++ (stipulation_line s ++ (empty_line s ++ (j.0 ++ n))))
-    (one-each (NodeLines s) (node-once law s) (written_order s) h.1 j.1 h.3 j.3) ∙ sym j.4
+    h.6 ∙ ap (λ (f : List ℕ). study_line s number ++ (stipulation_line s ++ (empty_line s ++ (f ++ (waste_line s h.2 ++ h.1)))))
+    (one-each (FaultLines s) (faults-once law s) (written_order s) h.0 j.0 h.3 j.3)
+    ∙ ap (λ t. study_line s number ++ (stipulation_line s ++ (empty_line s ++ (j.0 ++ (waste_line s t ++ h.1)))))
+    (one-time-count law s h.2 j.2 h.5 j.5)
+    ∙ ap (λ (n : List ℕ). study_line s number ++ (stipulation_line s ++ (empty_line s ++ (j.0 ++ (waste_line s j.2 ++ n)))))
+    (one-each (NodeLines s) (node-once law s) (written_order s) h.1 j.1 h.4 j.4) ∙ sym j.6

@@ -1,17 +1,20 @@
 -- The parts of a review, one behind the other.
 use Rattle.std.specs.Prelude.{codes, decimal}
-use Rattle.std.proofs.Common.{◌≡◌, ℕ, Bool, true, false, List, [], ◌∷◌, ◌++◌, refl, sym, ap, subst, ◌∙◌, append_assoc, ◌-◌, length, take, arith, length-append}
+use Rattle.std.proofs.Common.{◌≡◌, ◌≤◌, ◌<◌, ◌+◌, ◌^◌, ℕ, Bool, true, false, List, [], ◌∷◌, ◌++◌, refl, sym, ap, subst, ◌∙◌, append_assoc, ◌-◌, length, take, arith, length-append}
 use Rattle.std.proofs.lemmas.List.{append-nil}
 use Rattle.std.proofs.Math.Seq.{take-append_seam}
 use Rattle.study_marks.specs.declared.mark.Mark.{Mark}
+use Rattle.study_marks.specs.FaultSums.{below_at}
 use Rattle.study_marks.specs.Study.{Study}
-use Rattle.study_review.specs.Made.{Grew}
+use Rattle.study_tree.specs.Tree.{size_of}
+use Rattle.study_review.specs.Made.{Grew, Rose}
 use Rattle.study_review.specs.Nodes.{AlsoLines, FaultLines, NodeLines, is_dual, mark_at}
 use Rattle.study_notation.specs.FenSpelling.{fen_text}
-use Rattle.study_review.specs.Review.{study_line, stipulation_line, empty_line, paths_from, LinesOfEach, written_order, IsReview, BeginsReview}
+use Rattle.study_review.specs.Review.{study_line, stipulation_line, empty_line, waste_line, paths_from, LinesOfEach, AreTimeFaults, written_order, IsReview, BeginsReview}
 use Rattle.study_review.specs.Told.{OwnLines}
 use Rattle.study_review.proofs.NodesShown.{are-there, not-there}
 use Rattle.study_review.proofs.NodesTold.{node-told}
+use Rattle.study_review.proofs.TimeCounted.{few-time-faults}
 use Rattle.study_review.proofs.WrittenOrder.{both-written}
 
 -- a last one is pushed, and taken off again
@@ -38,38 +41,51 @@ module _ (s : Study Mark) where
   pub root-told : (old new : List ℕ) → Grew (OwnLines s []) old new → Grew (NodeLines s []) old new
   root-told old new h = node-told s [] old old new (root-also old) h
 
-  pub faults-all : (p t0 t1 t2 : List ℕ) → p ≡ [] → t1 ≡ t0 → Grew (LinesOfEach (FaultLines s) (paths_from p 0 s.tree.below)) t1 t2
+  pub faults-all : (p t0 t1 t2 : List ℕ) → p ≡ [] → t1 ≡ t0 → Grew (LinesOfEach (FaultLines s) (paths_from p 0 (below_at s.tree.below p))) t1 t2
       → Grew (LinesOfEach (FaultLines s) (written_order s)) t0 t2
   faults-all p t0 t1 t2 e same h =
       both-written (FaultLines s) [] (paths_from [] 0 s.tree.below) t0 t0 t2 (root-fault t0)
       (subst (λ (t : List ℕ). Grew (LinesOfEach (FaultLines s) (paths_from [] 0 s.tree.below)) t t2) same
-      (subst (λ (q : List ℕ). Grew (LinesOfEach (FaultLines s) (paths_from q 0 s.tree.below)) t1 t2) e h))
+      (subst (λ (q : List ℕ). Grew (LinesOfEach (FaultLines s) (paths_from q 0 (below_at s.tree.below q))) t1 t2) e h))
 
-  pub nodes-all : (p t0 t1 t2 : List ℕ) → p ≡ [] → Grew (NodeLines s []) t0 t1 → Grew (LinesOfEach (NodeLines s) (paths_from p 0 s.tree.below)) t1 t2
+  pub nodes-all : (p t0 t1 t2 : List ℕ) → p ≡ [] → Grew (NodeLines s []) t0 t1 → Grew (LinesOfEach (NodeLines s) (paths_from p 0 (below_at s.tree.below p))) t1 t2
       → Grew (LinesOfEach (NodeLines s) (written_order s)) t0 t2
   nodes-all p t0 t1 t2 e own h =
       both-written (NodeLines s) [] (paths_from [] 0 s.tree.below) t0 t1 t2 own
-      (subst (λ (q : List ℕ). Grew (LinesOfEach (NodeLines s) (paths_from q 0 s.tree.below)) t1 t2) e h)
+      (subst (λ (q : List ℕ). Grew (LinesOfEach (NodeLines s) (paths_from q 0 (below_at s.tree.below q))) t1 t2) e h)
 
-pub whole : (s : Study Mark) (number : ℕ) (t0 t1 f0 f1 t2 n0 n2 text : List ℕ) → t0 ≡ [] → f0 ≡ [] → n0 ≡ []
+-- where the count begins at 0, it is the number of the faults that lose time alone
+pub time-counted : (s : Study Mark) (size old new : ℕ) → old ≡ 0 → size ≡ size_of s.tree → size ≤ 4096
+    → Rose (AreTimeFaults s) old new → AreTimeFaults s new
+time-counted s size old new zero is few h =
+    let at_most = few-time-faults s h.0 h.1 in
+    let same : new ≡ old + h.0 = h.2 (let z : old + h.0 < 2 ^ 32 = omega (arith, zero, is, few, at_most) in z) in
+    subst (λ n. AreTimeFaults s n) (let z : h.0 ≡ new = omega (arith, same, zero) in z) h.1
+
+pub whole : (s : Study Mark) (number time : ℕ) (t0 t1 f0 f1 f2 t2 n0 n2 text : List ℕ) → t0 ≡ [] → f0 ≡ [] → n0 ≡ []
     → t1 ≡ t0 ++ (study_line s number ++ (stipulation_line s ++ empty_line s))
-    → Grew (LinesOfEach (FaultLines s) (written_order s)) f0 f1 → t2 ≡ t1 ++ f1
+    → Grew (LinesOfEach (FaultLines s) (written_order s)) f0 f1 → AreTimeFaults s time → f2 ≡ f1 ++ waste_line s time → t2 ≡ t1 ++ f2
     → Grew (LinesOfEach (NodeLines s) (written_order s)) n0 n2 → text ≡ t2 ++ n2 → IsReview s number text
-whole s number t0 t1 f0 f1 t2 n0 n2 text te fe ne h f t n e =
+whole s number time t0 t1 f0 f1 f2 t2 n0 n2 text te fe ne h f timed w t n e =
     let a = study_line s number in
     let b = stipulation_line s in
     let c = empty_line s in
+    let l = waste_line s time in
     let faults : f1 ≡ f.0 = f.2 ∙ ap (λ (u : List ℕ). u ++ f.0) fe in
+    let lines : f2 ≡ f.0 ++ l = w ∙ ap (λ (u : List ℕ). u ++ l) faults in
     let nodes : n2 ≡ n.0 = n.2 ∙ ap (λ (u : List ℕ). u ++ n.0) ne in (
       f.0,
       n.0,
+      time,
       f.1,
       n.1,
+      timed,
       e ∙ ap (λ (u : List ℕ). t2 ++ u) nodes
-          ∙ ap (λ (u : List ℕ). u ++ n.0) (t ∙ ap (λ (u : List ℕ). t1 ++ u) faults
-          ∙ ap (λ (u : List ℕ). u ++ f.0) (h ∙ ap (λ (u : List ℕ). u ++ (a ++ (b ++ c))) te))
-          ∙ append_assoc (a ++ (b ++ c)) f.0 n.0 ∙ append_assoc a (b ++ c) (f.0 ++ n.0)
-          ∙ ap (λ (u : List ℕ). a ++ u) (append_assoc b c (f.0 ++ n.0)),
+          ∙ ap (λ (u : List ℕ). u ++ n.0) (t ∙ ap (λ (u : List ℕ). t1 ++ u) lines
+          ∙ ap (λ (u : List ℕ). u ++ (f.0 ++ l)) (h ∙ ap (λ (u : List ℕ). u ++ (a ++ (b ++ c))) te))
+          ∙ append_assoc (a ++ (b ++ c)) (f.0 ++ l) n.0 ∙ append_assoc a (b ++ c) ((f.0 ++ l) ++ n.0)
+          ∙ ap (λ (u : List ℕ). a ++ u) (append_assoc b c ((f.0 ++ l) ++ n.0))
+          ∙ ap (λ (u : List ℕ). a ++ (b ++ (c ++ u))) (append_assoc f.0 l n.0),
     )
 
 four-behind : (a d s x z : List ℕ) → (a ++ (d ++ (s ++ x))) ++ z ≡ a ++ (d ++ (s ++ (x ++ z)))

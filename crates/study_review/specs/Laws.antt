@@ -1,5 +1,5 @@
 -- Laws over the definitions.
-use Rattle.std.specs.Prelude.{◌≡◌, ◌↔◌, ◌≤◌, ◌+◌, ◌*◌, ℕ, true, false, List, [], ◌∷◌, length}
+use Rattle.std.specs.Prelude.{◌≡◌, ◌↔◌, ◌≤◌, ◌+◌, ◌*◌, ℕ, Bool, true, false, ◌&&◌, List, [], ◌∷◌, length, Option, Some, None}
 use Rattle.study_board.specs.Position.{Position, IsValid}
 use Rattle.study_moves.specs.declared.moves.Move.{Move}
 use Rattle.study_moves.specs.Rules.{after}
@@ -10,12 +10,22 @@ use Rattle.study_marks.specs.declared.mark_rules.Aim.{Aim}
 use Rattle.study_marks.specs.declared.mark.MoveMark.{MoveMark}
 use Rattle.study_marks.specs.declared.mark.MoveMark.TheVariants.{Only, Dual}
 use Rattle.study_marks.specs.declared.stipulation.Goal.TheVariants.{Win}
-use Rattle.study_marks.specs.Study.{position_after}
-use Rattle.study_marks.specs.Goals.{hero_moves, holds}
-use Rattle.study_marks.specs.Annotated.{IsMoveMark}
+use Rattle.study_marks.specs.declared.mark.Mark.{Mark}
+use Rattle.study_marks.specs.Bench.{played_by}
+use Rattle.study_marks.specs.Marks.{is_fault}
+use Rattle.study_marks.specs.Study.{Study, position_after, position_at}
+use Rattle.study_tree.specs.Tree.{spot_at}
+use Rattle.study_marks.specs.Goals.{aim_of, hero_moves, holds}
+use Rattle.study_marks.specs.Annotated.{IsMoveMark, IsAnnotated}
 use Rattle.study_review.specs.declared.continuation.Continuation.{Continuation}
 use Rattle.study_review.specs.Continuations.{AreAlternatives, AreRefutations}
 use Rattle.study_review.specs.Back.{HasLost, Wins, IsBack, stands_in}
+use Rattle.study_review.specs.declared.time.Alternative.{Alternative}
+use Rattle.study_review.specs.Time.{AreTimedAlternatives}
+use Rattle.study_review.specs.Line.{line_to}
+use Rattle.study_review.specs.Nodes.{front_of, is_dual, mark_at, is_solution_move}
+use Rattle.study_review.specs.TimeFaults.{all_lose_time}
+use Rattle.study_review.specs.Review.{AreTimeFaults, written_order}
 
 -- where the hero is to win and the opponent moves, a position with this value holds exactly where the side to move is mated
 abbrev pub WonPositionsHold : Type 0
@@ -52,3 +62,33 @@ abbrev pub TimeLossIsForced : Type 0
 TimeLossIsForced =
     (line : List Position) (m : ℕ) (q : Position) (answer : Position → Move) → IsBack line m q → AnswersByWins answer
     → (play : List Move) × IsPlayAgainst answer q play × (length play ≤ 2 * m + 1) × (stands_in line (position_after q play) ≡ true)
+
+-- a dual, or a mistake
+abbrev pub has_fault : Option MoveMark → Bool
+has_fault None = false
+has_fault (Some mark) = is_fault mark
+
+abbrev pub is_solution_fault : Study Mark → List ℕ → Bool
+is_solution_fault s path = is_solution_move s path && has_fault (mark_at s path)
+
+-- a move to the node at the path is a dual, and each other move that holds loses time: without them it would be an only move
+abbrev pub LosesTimeAlone : Study Mark → List ℕ → Move → Type 0
+LosesTimeAlone s path m =
+    (is_dual (mark_at s path) ≡ true)
+    × ((list : List Alternative)
+    → AreTimedAlternatives (aim_of s) (length (front_of path)) (line_to s (front_of path)) (position_at s (front_of path)) m list
+    → all_lose_time list ≡ true)
+
+-- where the move to the node is a fault of the solution, it loses time alone
+abbrev pub LosesTimeAt : Study Mark → List ℕ → Type 0
+LosesTimeAt s path = (m : Move) → played_by (spot_at s.tree path) ≡ Some m → is_solution_fault s path ≡ true → LosesTimeAlone s path m
+
+abbrev pub EachLosesTime : Study Mark → List (List ℕ) → Type 0
+EachLosesTime s [] = Unit {0}
+EachLosesTime s (path ∷ paths) = LosesTimeAt s path × EachLosesTime s paths
+
+-- as many faults lose time alone as an annotated study has exactly where there is no mistake, and each dual of the solution would be an only move
+-- but for moves that lose time
+abbrev pub TimeFaultsAreAll : Type 0
+TimeFaultsAreAll =
+    (s : Study Mark) (n : ℕ) → IsAnnotated s → AreTimeFaults s n → (n ≡ s.tree.label.faults) ↔ EachLosesTime s (written_order s)

@@ -7,11 +7,12 @@ pub mod Line
 pub mod Time
 pub mod Defences
 pub mod Faults
-pub mod Laws
 pub mod Play
 pub mod Words
 pub mod Nodes
+pub mod TimeFaults
 pub mod Review
 pub mod Made
 pub mod Told
 pub mod Stand
+pub mod Laws

@@ -1,5 +1,5 @@
 -- Not part of any public contract: how a review is made.
-use Rattle.std.specs.Prelude.{◌≡◌, ℕ, Bool, List, ◌++◌, Result, Ok, Err}
+use Rattle.std.specs.Prelude.{◌≡◌, ℕ, ◌+◌, ◌<◌, ◌^◌, Bool, List, ◌++◌, Result, Ok, Err}
 use Rattle.study_board.specs.Position.{Position}
 use Rattle.study_material.specs.declared.class.Class.{Class}
 use Rattle.study_values.specs.declared.fault.SourceFault.{SourceFault}
@@ -18,6 +18,10 @@ fault_of (Untold f) = fault.Values f
 -- the text grew by some such lines
 abbrev pub Grew : (List ℕ → Type 0) → List ℕ → List ℕ → Type 0
 Grew Lines old new = (text : List ℕ) × Lines text × (new ≡ old ++ text)
+
+-- the count rose by such a number, where the sum fits into 32 bits
+abbrev pub Rose : (ℕ → Type 0) → ℕ → ℕ → Type 0
+Rose Count old new = (n : ℕ) × Count n × (old + n < 2 ^ 32 → new ≡ old + n)
 
 module _ {V : Type 0} (held : V → Class → Bool) (gives : V → Position → ProbeAnswer → Type 0)
     (may_fail : V → Class → SourceFault → Type 0) (asked_of failed_of : V → ℕ) (is_honest : V → Type 0) where

@@ -1,5 +1,5 @@
 -- The review of a study.
-use Rattle.std.specs.Prelude.{◌≡◌, ℕ, ◌+◌, Bool, true, false, ◌&&◌, List, [], ◌∷◌, ◌++◌, codes, decimal, if◌then◌else◌, Result, Ok, Err}
+use Rattle.std.specs.Prelude.{◌≡◌, ◌==◌, ℕ, ◌+◌, Bool, true, false, ◌&&◌, List, [], ◌∷◌, ◌++◌, codes, decimal, if◌then◌else◌, Result, Ok, Err}
 use Rattle.study_board.specs.Position.{Position}
 use Rattle.study_material.specs.declared.class.Class.{Class}
 use Rattle.study_values.specs.declared.fault.SourceFault.{SourceFault}
@@ -9,12 +9,15 @@ use Rattle.study_tree.specs.Forest.{Forest, none, more}
 use Rattle.study_marks.specs.declared.mark.Mark.{Mark}
 use Rattle.study_marks.specs.Study.{Study, plain_study}
 use Rattle.study_marks.specs.Annotated.{IsAnnotated}
+use Rattle.study_marks.specs.Verdict.{Verdict, wrong, sound, unsound, verdict}
 use Rattle.study_marks.specs.Goals.{aim_of}
 use Rattle.study_pgn.specs.Pgn.{opening_words}
 use Rattle.study_review.specs.declared.fault.ReviewFault.{ReviewFault}
 use Rattle.study_review.specs.declared.fault.ReviewFault.TheVariants.{OutOfMemory, Device, Values}
 use Rattle.study_review.specs.Asked.{AllTold, Stopped}
 use Rattle.study_review.specs.Nodes.{has_none, NodeLines, FaultLines}
+use Rattle.study_review.specs.TimeFaults.{IsTimeFault}
+use Rattle.study_review.specs.Words.{time_verdict}
 
 -- `study 1 k7/8/1K6/8/8/8/8/6Q1 w - - 0 1`
 unfoldable pub study_line : Study Mark → ℕ → List ℕ
@@ -51,13 +54,32 @@ LinesOfEach Lines (path ∷ paths) text = (own rest : List ℕ) × Lines path ow
 abbrev pub written_order : {L : Type 0} → Study L → List (List ℕ)
 written_order s = [] ∷ paths_from [] 0 s.tree.below
 
--- the review of an annotated study: its start, its verdict, its faults, and then node by node
+-- how many there are at these paths together
+abbrev pub SumOfEach : (List ℕ → ℕ → Type 0) → List (List ℕ) → ℕ → Type 0
+SumOfEach Count [] n = n ≡ 0
+SumOfEach Count (path ∷ paths) n = (own rest : ℕ) × Count path own × SumOfEach Count paths rest × (n ≡ own + rest)
+
+-- how many faults of the solution lose time alone
+abbrev pub AreTimeFaults : Study Mark → ℕ → Type 0
+AreTimeFaults s n = SumOfEach (IsTimeFault s) (written_order s) n
+
+-- `waste unsound 5, 4 lose time alone`, where the study is unsound and some of its faults lose time alone
+abbrev pub waste_words : Verdict → ℕ → List ℕ
+waste_words wrong n = []
+waste_words sound n = []
+waste_words (unsound faults) n = if n == 0 then [] else codes "waste " ++ (time_verdict faults n ++ codes "\n")
+
+unfoldable pub waste_line : Study Mark → ℕ → List ℕ
+waste_line s n = waste_words (verdict s) n
+
+-- the review of an annotated study: its start, its verdict, its faults, how many of them lose time alone, and then node by node
 abbrev pub IsReview : Study Mark → ℕ → List ℕ → Type 0
 IsReview s number text =
-    (faults nodes : List ℕ)
+    (faults nodes : List ℕ) × (time : ℕ)
     × LinesOfEach (FaultLines s) (written_order s) faults
     × LinesOfEach (NodeLines s) (written_order s) nodes
-    × (text ≡ study_line s number ++ (stipulation_line s ++ (empty_line s ++ (faults ++ nodes))))
+    × AreTimeFaults s time
+    × (text ≡ study_line s number ++ (stipulation_line s ++ (empty_line s ++ (faults ++ (waste_line s time ++ nodes)))))
 
 -- how each review begins, whatever the values are: with its study's number
 abbrev pub BeginsReview : ℕ → List ℕ → Type 0

@@ -88,5 +88,14 @@ dual_line path p m v k t =
     front_words (codes "fault ") path
     ++ (told_move p m v ++ (codes " dual " ++ (decimal k ++ (codes " time " ++ (decimal t ++ codes "\n")))))
 
+-- `sound but for loss of time` where all of so many faults lose time alone, and else how many do: `unsound 5, 4 lose time alone`
+abbrev pub alone_words : ℕ → List ℕ
+alone_words n = if n == 1 then codes " loses time alone" else codes " lose time alone"
+
+unfoldable pub time_verdict : ℕ → ℕ → List ℕ
+time_verdict faults n =
+    if n == faults then codes "sound but for loss of time"
+    else codes "unsound " ++ (decimal faults ++ (codes ", " ++ (decimal n ++ alone_words n)))
+
 unfoldable pub mistake_line : List ℕ → Position → Move → Value → List ℕ
 mistake_line path p m v = front_words (codes "fault ") path ++ (told_move p m v ++ codes " mistake\n")

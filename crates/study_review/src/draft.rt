@@ -5,10 +5,11 @@ use std::alloc::Allocator;
 use study_board::Position;
 use study_text::Text;
 
-/// The lines of the faults, the lines of the nodes, and the moves that were asked last.
+/// The lines of the faults, how many of these lose time alone, the lines of the nodes, and the moves that were evaluated last.
 #[derive(Drop)]
 pub struct Draft<'a, A: Allocator> {
     pub faults: Text<'a, A>,
+    pub time_faults: u32,
     pub nodes: Text<'a, A>,
     pub told: Vec<Continuation, &'a A>,
 }

@@ -1,6 +1,6 @@
 //! Laws over the definitions, stated by functions that do nothing.
 ghost use Rattle.study_review.specs.Review.{ReviewsAreUnique, PlainStudiesHaveOneReview};
-ghost use Rattle.study_review.specs.Laws.{AlternativesAreCounted, FailuresAreRefuted, TimeLossIsForced, WonPositionsHold};
+ghost use Rattle.study_review.specs.Laws.{AlternativesAreCounted, FailuresAreRefuted, TimeFaultsAreAll, TimeLossIsForced, WonPositionsHold};
 
 use study_marks::{annotations_are_unique, duals_count_other_moves};
 use study_moves::{legal_list_is_exact, mates_are_sound, values_are_unique};
@@ -46,4 +46,12 @@ pub fn plain_studies_have_one_review()
 {
     annotations_are_unique();
     reviews_are_unique();
+}
+
+/// As many faults lose time alone as a study has exactly where no move of the solution is a mistake, and each dual of it would be an only
+/// move but for moves that lose time.
+pub fn time_faults_are_all()
+    ensures { TimeFaultsAreAll }
+{
+    values_are_unique();
 }

@@ -39,14 +39,17 @@ pub use continuation::{Continuation, Node};
 pub use fault::ReviewFault;
 pub use laws::{
     alternatives_are_counted, failures_are_refuted, plain_studies_have_one_review,
-    reviews_are_unique, time_loss_is_forced, won_positions_hold,
+    reviews_are_unique, time_faults_are_all, time_loss_is_forced, won_positions_hold,
 };
 pub use line::{Line, Made, Place, made_in, move_to, place_in};
 pub use lists::{alternatives, drawing_moves, holding_moves, missing_moves, refutations};
 pub use missing::{Defence, defences};
+pub use moves::count_where;
 pub use signs::{aim_in, is_idle, is_mistake, value_at};
 pub use solution::{faults_are_of_the_solution, is_in_solution};
-pub use time::{Alternative, timed_alternatives};
+pub use time::{Alternative, all_lose_time, timed_alternatives};
 pub use walk::count_at;
-pub use words::{add_counted, add_front, add_move, add_path, add_value};
+pub use words::{
+    add_alone, add_counted, add_front, add_move, add_path, add_time_verdict, add_value,
+};
 pub use writing::{add_stipulation_line, is_empty, write_review};

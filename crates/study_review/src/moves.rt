@@ -1,13 +1,16 @@
 //! The lines of a move: its fault, and its alternatives.
-ghost use Rattle.std.specs.Prelude.{◌≡◌, ◌+◌, ◌++◌, ◌∷◌, [], ◌<◌, ◌≤◌, ◌^◌, true, length, Some, OnOk, IfOk, if◌then◌else◌};
+ghost use Rattle.std.specs.Prelude.{◌≡◌, ◌+◌, ◌++◌, ◌∷◌, [], ◌<◌, ◌≤◌, ◌^◌, ◌==◌, not, ◌&&◌, true, length, Some, OnOk, IfOk, if◌then◌else◌};
 ghost use Rattle.std.specs.List.{All};
 ghost use Rattle.study_moves.specs.Rules.{is_legal};
 ghost use Rattle.study_marks.specs.BenchState.{marked};
+ghost use Rattle.study_marks.specs.Goals.{holds};
 ghost use Rattle.study_review.specs.Asked.{within};
-ghost use Rattle.study_review.specs.Made.{Grew, HasAsked};
+ghost use Rattle.study_review.specs.Continuations.{is_among};
+ghost use Rattle.study_review.specs.Made.{Grew, Rose, HasAsked};
 ghost use Rattle.study_review.specs.Nodes.{AlsoLines, FaultLines, is_solution_move, mark_at, value_at};
-ghost use Rattle.study_review.specs.Told.{AreAlsoLines};
+ghost use Rattle.study_review.specs.Told.{AreAlsoLines, besides};
 ghost use Rattle.study_review.specs.Stand.{IsStep};
+ghost use Rattle.study_review.specs.TimeFaults.{IsTimeFault};
 ghost use Rattle.study_review.specs.Words.{dual_line};
 
 use crate::beside::is_among;
@@ -115,6 +118,45 @@ fn add_listed_dual<A: Allocator>(
     add_dual(text, step.steps, step.before.position, &x, counts)
 }
 
+/// Whether it is another move, and one that holds.
+fn is_alternative(step: &Step<'_>, x: &Continuation) -> bool
+    requires { step.now.before.depth + 1 < 2 ^ 64 }
+    ensures { result ≡ (not (is_among x.now.played (step.now.played ∷ []))
+        && holds step.now.before.aim.now (step.now.before.depth + 1) x.now.value) }
+{
+    let before = &step.before;
+    !is_among(&x.played, &[step.played]) && holds(before.aim, before.depth + 1, x.value)
+}
+
+/// How many of these moves are alternatives.
+fn count_alternatives(step: &Step<'_>, told: &[Continuation]) -> u16
+    requires depth { step.now.before.depth + 1 < 2 ^ 64 }
+    requires few { length told.now < 2 ^ 16 }
+    ensures count { result ≡ length (besides step.now.before.aim.now step.now.before.depth (step.now.played ∷ []) told.now) }
+    ensures few { result ≤ length told.now }
+{
+    match told.split_first() {
+        None => 0,
+        Some((x, rest)) => {
+            count_alternatives(step, rest) + if is_alternative(step, x) { 1 } else { 0 }
+        }
+    }
+}
+
+/// Whether a dual with so many others, of which so many lose time, is listed and loses time alone.
+fn loses_time_alone(listed: bool, others: u16, time: u16) -> bool
+    ensures { result ≡ (listed && (time == others)) }
+{
+    listed && time == others
+}
+
+/// The count with one more, where it is so; it stays at the last value of its type.
+pub fn count_where(count: u32, so: bool) -> u32
+    ensures { count + (if so then 1 else 0) < 2 ^ 32 → result ≡ count + (if so then 1 else 0) }
+{
+    if so { count.saturating_add(1) } else { count }
+}
+
 /// A line for each alternative of a dual with so many others, and the line of the dual, if it is listed.
 fn add_dual_lines<'a, 'b, A: Allocator, B: Allocator, V: Values>(
     draft: &mut Draft<'a, A>,
@@ -134,11 +176,18 @@ fn add_dual_lines<'a, 'b, A: Allocator, B: Allocator, V: Values>(
     requires listed { listed ≡ is_solution_move (marked bench.now) step.now.steps.now }
     ensures also { V.is_honest values.old → OnOk result (Grew (AlsoLines (marked bench.now) step.now.steps.now) draft.old.nodes draft.new.nodes) }
     ensures fault { V.is_honest values.old → OnOk result (Grew (FaultLines (marked bench.now) step.now.steps.now) draft.old.faults draft.new.faults) }
+    ensures time { V.is_honest values.old → OnOk result (Rose (IsTimeFault (marked bench.now) step.now.steps.now) draft.old.time_faults draft.new.time_faults) }
     ensures asked { HasAsked V.held (within step.now.before.position.now V.gives) V.may_fail V.asked_of V.failed_of V.is_honest values.old result values.new }
 {
     ask_moves(step.before.position, values, &mut draft.told)?;
     let time = add_alternatives(&mut draft.nodes, step, draft.told.as_slice(), values)?;
     add_listed_dual(&mut draft.faults, step, value, (others, time), listed)?;
+    let alone = loses_time_alone(
+        listed,
+        count_alternatives(step, draft.told.as_slice()),
+        time,
+    );
+    draft.time_faults = count_where(draft.time_faults, alone);
     Ok(())
 }
 
@@ -192,6 +241,7 @@ pub fn add_move<'a, 'b, A: Allocator, B: Allocator, V: Values>(
     requires listed { listed ≡ is_solution_move (marked bench.now) step.now.steps.now }
     ensures also { V.is_honest values.old → OnOk result (Grew (AlsoLines (marked bench.now) step.now.steps.now) draft.old.nodes draft.new.nodes) }
     ensures fault { V.is_honest values.old → OnOk result (Grew (FaultLines (marked bench.now) step.now.steps.now) draft.old.faults draft.new.faults) }
+    ensures time { V.is_honest values.old → OnOk result (Rose (IsTimeFault (marked bench.now) step.now.steps.now) draft.old.time_faults draft.new.time_faults) }
     ensures asked { HasAsked V.held (within step.now.before.position.now V.gives) V.may_fail V.asked_of V.failed_of V.is_honest values.old result values.new }
 {
     match on_move(mark) {

@@ -7,6 +7,7 @@ ghost use Rattle.study_material.specs.declared.class.Class.{Class as AClass};
 ghost use Rattle.study_moves.specs.Rules.{is_legal};
 ghost use Rattle.study_marks.specs.Told.{failures_told};
 ghost use Rattle.study_review.specs.Asked.{HasTold, within};
+ghost use Rattle.study_review.specs.TimeFaults.{all_lose_time};
 ghost use Rattle.study_review.specs.Time.{IsTimeTold, AreTimed, AreTimedAlternatives};
 ghost use Rattle.study_review.specs.declared.time.Alternative.{Alternative as AnAlternative};
 
@@ -41,6 +42,13 @@ impl Default for Alternative {
             time: None,
         }
     }
+}
+
+/// Whether each of these other moves loses time.
+pub fn all_lose_time(list: &[Alternative]) -> bool
+    ensures { result ≡ all_lose_time list.now }
+{
+    list.iter().all(|x| x.time.is_some())
 }
 
 /// The time that is lost by a move to this position, told where the hero is to win.

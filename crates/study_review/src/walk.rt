@@ -1,5 +1,5 @@
 //! One walk of a study, in written order: what it finds of each node is handed on to those below it.
-ghost use Rattle.std.specs.Prelude.{◌≡◌, ◌++◌, ◌∷◌, [], ◌<◌, length, Some, OnOk, IfOk};
+ghost use Rattle.std.specs.Prelude.{◌≡◌, ◌++◌, ◌∷◌, [], ◌<◌, length, Some, OnOk, IfOk, IfErr};
 ghost use Rattle.study_tree.specs.Edits.{width};
 ghost use Rattle.study_tree.specs.Tree.{spot_at};
 ghost use Rattle.study_marks.specs.Goals.{aim_of};
@@ -7,10 +7,11 @@ ghost use Rattle.study_marks.specs.BenchState.{marked};
 ghost use Rattle.study_marks.specs.FaultSums.{below_at};
 ghost use Rattle.study_review.specs.Asked.{within};
 ghost use Rattle.study_review.specs.Line.{line_to};
-ghost use Rattle.study_review.specs.Made.{Grew, HasAsked};
+ghost use Rattle.study_review.specs.Made.{Grew, Rose, HasAsked};
 ghost use Rattle.study_review.specs.Nodes.{front_of, NodeLines, FaultLines};
-ghost use Rattle.study_review.specs.Review.{paths_from, LinesOfEach, written_order};
+ghost use Rattle.study_review.specs.Review.{paths_from, LinesOfEach, SumOfEach, AreTimeFaults, written_order};
 ghost use Rattle.study_review.specs.Stand.{arrival_of, IsStand};
+ghost use Rattle.study_review.specs.TimeFaults.{IsTimeFault};
 
 use crate::continuation::Node;
 use crate::draft::{Draft, Trail};
@@ -53,6 +54,7 @@ fn add_lines<'a, 'b, A: Allocator, B: Allocator, V: Values>(
     requires here { IsStand (marked bench.now) steps.now stands.1.now }
     requires by { arrival_of (spot_at (marked bench.now).tree steps.now) ≡ Some by.now }
     ensures faults { V.is_honest values.old → OnOk result (Grew (FaultLines (marked bench.now) steps.now) draft.old.faults draft.new.faults) }
+    ensures time { V.is_honest values.old → OnOk result (Rose (IsTimeFault (marked bench.now) steps.now) draft.old.time_faults draft.new.time_faults) }
     ensures nodes { V.is_honest values.old → OnOk result (Grew (NodeLines (marked bench.now) steps.now) draft.old.nodes draft.new.nodes) }
     ensures asked { HasAsked V.held (within (marked bench.now).start.position V.gives) V.may_fail V.asked_of V.failed_of V.is_honest values.old result values.new }
 {
@@ -114,6 +116,8 @@ fn enter<'a, 'b, A: Allocator, B: Allocator, V: Values>(
     ensures line_to { IfOk result (λ x. trail.new.line.items ≡ line_to (marked bench.now) trail.new.steps.items) }
     ensures stand { IfOk result (IsStand (marked bench.now) trail.new.steps.items) }
     ensures faults { V.is_honest values.old → OnOk result (Grew (FaultLines (marked bench.now) trail.new.steps.items) draft.old.faults draft.new.faults) }
+    ensures time { V.is_honest values.old → OnOk result (Rose (IsTimeFault (marked bench.now) trail.new.steps.items)
+        draft.old.time_faults draft.new.time_faults) }
     ensures nodes { V.is_honest values.old → OnOk result (Grew (NodeLines (marked bench.now) trail.new.steps.items) draft.old.nodes draft.new.nodes) }
     ensures asked { HasAsked V.held (within (marked bench.now).start.position V.gives) V.may_fail V.asked_of V.failed_of V.is_honest values.old result values.new }
 {
@@ -159,6 +163,9 @@ fn add_below<'a, 'b, A: Allocator, B: Allocator, V: Values>(
     ensures line { OnOk result (trail.new.line.items ≡ trail.old.line.items) }
     ensures faults { V.is_honest values.old → OnOk result (Grew (LinesOfEach (FaultLines (marked bench.now))
         (paths_from trail.old.steps.items 0 (below_at (marked bench.now).tree.below trail.old.steps.items))) draft.old.faults draft.new.faults) }
+    ensures time { V.is_honest values.old → OnOk result (Rose (SumOfEach (IsTimeFault (marked bench.now))
+        (paths_from trail.old.steps.items 0 (below_at (marked bench.now).tree.below trail.old.steps.items)))
+        draft.old.time_faults draft.new.time_faults) }
     ensures nodes { V.is_honest values.old → OnOk result (Grew (LinesOfEach (NodeLines (marked bench.now))
         (paths_from trail.old.steps.items 0 (below_at (marked bench.now).tree.below trail.old.steps.items))) draft.old.nodes draft.new.nodes) }
     ensures asked { HasAsked V.held (within (marked bench.now).start.position V.gives) V.may_fail V.asked_of V.failed_of V.is_honest values.old result values.new }
@@ -186,6 +193,7 @@ fn add_root<'a, 'b, A: Allocator, B: Allocator, V: Values>(
     requires root { IsStand (marked bench.now) [] root.now }
     requires mark { mark ≡ (marked bench.now).tree.label }
     ensures faults { draft.new.faults ≡ draft.old.faults }
+    ensures time { draft.new.time_faults ≡ draft.old.time_faults }
     ensures nodes { V.is_honest values.old → OnOk result (Grew (NodeLines (marked bench.now) []) draft.old.nodes draft.new.nodes) }
     ensures asked { HasAsked V.held (within (marked bench.now).start.position V.gives) V.may_fail V.asked_of V.failed_of V.is_honest values.old result values.new }
 {
@@ -211,6 +219,20 @@ fn add_root<'a, 'b, A: Allocator, B: Allocator, V: Values>(
     )
 }
 
+/// The trail of the root, where this position stands.
+fn root_trail<'a, A: Allocator>(alloc: &'a A, position: &Position) -> Result<Trail<'a, A>, NotMade>
+    ensures steps { IfOk result (λ trail. trail.steps.items ≡ []) }
+    ensures line { IfOk result (λ trail. trail.line.items ≡ position.now ∷ []) }
+    ensures memory { IfErr result (λ reason. reason ≡ NotMade.OutOfMemory) }
+{
+    let mut line = Vec::new(alloc);
+    line.push(position.copied())?;
+    Ok(Trail {
+        steps: Vec::new(alloc),
+        line,
+    })
+}
+
 /// The lines of all nodes.
 pub fn add_all<'a, 'b, A: Allocator, B: Allocator, V: Values>(
     alloc: &'a A,
@@ -222,6 +244,7 @@ pub fn add_all<'a, 'b, A: Allocator, B: Allocator, V: Values>(
     requires { root ≡ (marked bench.now).tree.label }
     ensures faults { V.is_honest values.old → OnOk result (Grew (LinesOfEach (FaultLines (marked bench.now)) (written_order (marked bench.now)))
         draft.old.faults draft.new.faults) }
+    ensures time { V.is_honest values.old → OnOk result (Rose (AreTimeFaults (marked bench.now)) draft.old.time_faults draft.new.time_faults) }
     ensures nodes { V.is_honest values.old → OnOk result (Grew (LinesOfEach (NodeLines (marked bench.now)) (written_order (marked bench.now)))
         draft.old.nodes draft.new.nodes) }
     ensures asked { HasAsked V.held (within (marked bench.now).start.position V.gives) V.may_fail V.asked_of V.failed_of V.is_honest values.old result values.new }
@@ -229,10 +252,7 @@ pub fn add_all<'a, 'b, A: Allocator, B: Allocator, V: Values>(
     let aim = aim_in(bench);
     let stand = root_stand(bench, count_at(bench, &[]));
     add_root(alloc, draft, bench, &aim, &stand, root, values)?;
-    let mut trail = Trail {
-        steps: Vec::new(alloc),
-        line: Vec::new(alloc),
-    };
-    trail.line.push(stand.position.copied())?;
-    add_below(alloc, draft, &mut trail, bench, &aim, &stand, values)
+    let mut trail = root_trail(alloc, &stand.position)?;
+    add_below(alloc, draft, &mut trail, bench, &aim, &stand, values)?;
+    Ok(())
 }

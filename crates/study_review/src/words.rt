@@ -7,7 +7,7 @@ ghost use Rattle.study_review.specs.Play.{IsPlayed, ArePlayed};
 ghost use Rattle.study_notation.specs.Written.{move_text};
 ghost use Rattle.study_review.specs.Words.{value_words, front_words, told_move, time_words, also_line, refuted_line, stalemate_line};
 ghost use Rattle.study_review.specs.Words.{only_words, none_words, answers_words, missing_line, play_words, play_line};
-ghost use Rattle.study_review.specs.Words.{move_words, keep_line, dual_line, mistake_line};
+ghost use Rattle.study_review.specs.Words.{move_words, keep_line, dual_line, mistake_line, alone_words, time_verdict};
 ghost use Rattle.study_moves.specs.LegalList.{legal_list};
 ghost use Rattle.study_review.specs.Told.{failing, drawing};
 
@@ -374,4 +374,35 @@ pub fn add_mistake<A: Allocator>(
     add_front(text, b"fault ", steps)?;
     add_told(text, p, x.played, x.value)?;
     text.add(b" mistake\n")
+}
+
+/// That so many lose time alone.
+pub fn add_alone<A: Allocator>(text: &mut Text<'_, A>, time: u32) -> Result<(), AllocError>
+    ensures { OnOk result (text.new ≡ text.old ++ alone_words time) }
+{
+    if time == 1 {
+        text.add(b" loses time alone")
+    } else {
+        text.add(b" lose time alone")
+    }
+}
+
+/// The verdict on a solution with so many faults, of which so many lose time alone: `sound but for loss of time` where these
+/// are all.
+#[tactic(auto, unfolding(crate::specs::Words::time_verdict))]
+pub fn add_time_verdict<A: Allocator>(
+    text: &mut Text<'_, A>,
+    faults: u32,
+    time: u32,
+) -> Result<(), AllocError>
+    ensures { OnOk result (text.new ≡ text.old ++ time_verdict faults time) }
+{
+    if time == faults {
+        return text.add(b"sound but for loss of time");
+    }
+    text.add(b"unsound ")?;
+    text.add_number(faults)?;
+    text.add(b", ")?;
+    text.add_number(time)?;
+    add_alone(text, time)
 }

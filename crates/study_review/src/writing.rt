@@ -5,23 +5,27 @@ ghost use Rattle.study_text.specs.Taken.{TakesPrefix};
 ghost use Rattle.study_tree.specs.Edits.{width};
 ghost use Rattle.study_marks.specs.Goals.{aim_of};
 ghost use Rattle.study_marks.specs.BenchState.{marked, IsKeptRight};
-ghost use Rattle.study_marks.specs.Study.{plain_study};
+ghost use Rattle.study_marks.specs.Study.{Study, plain_study};
+ghost use Rattle.study_marks.specs.Verdict.{verdict};
+ghost use Rattle.study_marks.specs.declared.mark.Mark.{Mark as AMark};
 ghost use Rattle.study_values.specs.declared.values.ProbeFault.{ProbeFault as AProbeFault};
 ghost use Rattle.study_marks.specs.FaultSums.{skipped};
 ghost use Rattle.study_review.specs.Asked.{within};
 ghost use Rattle.study_review.specs.Made.{HasAsked};
-ghost use Rattle.study_review.specs.Review.{study_line, stipulation_line, empty_line, is_empty, none_below};
+ghost use Rattle.study_review.specs.Review.{study_line, stipulation_line, empty_line, is_empty, none_below, waste_line, waste_words};
 ghost use Rattle.study_review.specs.Review.{IsReview, IsReviewOf, BeginsReview, HasReviewed};
 
 use crate::draft::Draft;
 use crate::fault::{NotMade, ReviewFault};
 use crate::signs::aim_in;
 use crate::walk::{add_all, count_at};
+use crate::words::add_time_verdict;
 use std::alloc::{AllocError, Allocator};
 use std::io::Write;
-use study_marks::{Bench, Mark, hero_moves};
+use study_board::Side;
+use study_marks::{Bench, Mark, Stipulation, hero_moves};
 use study_notation::write_fen;
-use study_pgn::{add_opening_words, root_mark};
+use study_pgn::{add_opening_words, is_right, root_mark};
 use study_text::{Text, write_text};
 use study_values::Values;
 
@@ -115,6 +119,46 @@ fn add_head<'b, A: Allocator, B: Allocator>(
     add_empty(text, bench)
 }
 
+/// The line of a study in which this side moves first, by how many of its faults lose time alone.
+fn add_waste_words<A: Allocator>(
+    text: &mut Text<'_, A>,
+    stipulation: Stipulation,
+    first: Side,
+    root: Mark,
+    time: u32,
+) -> Result<(), AllocError>
+    ensures { (s : Study AMark) → s.stipulation ≡ stipulation → s.start.position.to_move ≡ first → s.tree.label ≡ root
+        → OnOk result (text.new ≡ text.old ++ waste_words (verdict s) time) }
+{
+    let right = is_right(stipulation.goal, stipulation.hero == first, root.value);
+    if !right || root.faults == 0 || time == 0 {
+        return Ok(());
+    }
+    text.add(b"waste ")?;
+    add_time_verdict(text, root.faults, time)?;
+    text.add(b"\n")
+}
+
+/// The line that says how many faults lose time alone, where the study is unsound and some do.
+#[tactic(auto, unfolding(crate::specs::Review::waste_line))]
+fn add_waste<'b, A: Allocator, B: Allocator>(
+    text: &mut Text<'_, A>,
+    bench: &Bench<'b, B>,
+    root: Mark,
+    time: u32,
+) -> Result<(), AllocError>
+    requires { root ≡ (marked bench.now).tree.label }
+    ensures { OnOk result (text.new ≡ text.old ++ waste_line (marked bench.now) time) }
+{
+    add_waste_words(
+        text,
+        bench.stipulation(),
+        bench.start().position.to_move(),
+        root,
+        time,
+    )
+}
+
 /// Three texts, one behind the other.
 fn join<'a, A: Allocator>(
     mut text: Text<'a, A>,
@@ -140,15 +184,20 @@ fn text_of<'a, 'b, A: Allocator, B: Allocator, V: Values>(
     ensures begins { IfOk result (BeginsReview number) }
     ensures asked { HasAsked V.held (within (marked bench.now).start.position V.gives) V.may_fail V.asked_of V.failed_of V.is_honest values.old result values.new }
 {
+    // (the study has at most 4,096 nodes)
+    let _size = bench.size();
     let root = root_mark(bench);
     let mut head = Text::new(alloc);
     let mut draft = Draft {
         faults: Text::new(alloc),
+        time_faults: 0,
         nodes: Text::new(alloc),
         told: Vec::new(alloc),
     };
     add_head(&mut head, bench, root, number)?;
     add_all(alloc, &mut draft, bench, root, values)?;
+    let time = draft.time_faults;
+    add_waste(&mut draft.faults, bench, root, time)?;
     join(head, draft.faults, draft.nodes)
 }
 

@@ -1,11 +1,12 @@
-use Rattle.std.proofs.Common.{true, length, List, sym, ap, subst, arith}
+use Rattle.std.proofs.Common.{◌≡◌, true, length, List, [], ◌∷◌, sym, ap, subst, arith, ◌∙◌}
 use Rattle.study_marks.specs.BenchState.{marked}
 use Rattle.study_moves.specs.LegalList.{legal_list}
 use Rattle.study_review.specs.declared.continuation.Continuation.{Continuation}
 use Rattle.study_review.specs.Continuations.{AreChosen}
 use Rattle.study_review.specs.Asked.{within}
+use Rattle.study_review.specs.Told.{besides}
 use Rattle.study_review.proofs.Asking.{all-then, asks-then, same-asks, no-memory}
-use Rattle.study_review.proofs.NodesTold.{also-told, dual-told}
+use Rattle.study_review.proofs.NodesTold.{also-told, dual-told, dual-timed}
 use Rattle.study_review.proofs.moves.add_dual_lines.Goals as goal
 
 pub add_alternatives-requires-clause-few : goal.add_alternatives-requires-clause-few
@@ -47,3 +48,19 @@ pub returns-clause-asked : goal.returns-clause-asked
 returns-clause-asked g c =
     all-then g.V.Values.held (within c.args.step.now.before.position.now g.V.Values.gives) g.V.Values.may_fail g.V.Values.asked_of g.V.Values.failed_of g.V.Values.is_honest
     c.args.values.now c.ask_moves.new.values c.add_alternatives.new.values c.in_ok-ask_moves.ensures.asked c.in_ok-time.ensures.asked
+
+pub count_alternatives-requires-clause-few : goal.count_alternatives-requires-clause-few
+count_alternatives-requires-clause-few g c = omega (arith, c.in_ok-ask_moves.ensures.few, ap length c.as_slice-2.ensures.value)
+
+pub returns-clause-time : goal.returns-clause-time
+returns-clause-time g c h =
+    let grew = c.in_ok-time.ensures.text (c.in_ok-ask_moves.ensures.asked.honest h) in
+    let told = c.as_slice.result.now in
+    let same : c.as_slice-2.result.now ≡ told = c.as_slice-2.ensures.value ∙ sym c.as_slice.ensures.value in
+    let before = c.args.step.now.before in
+    dual-timed (marked c.args.bench.now) c.args.step.now.steps.now before.aim.now before.depth c.args.step.now.line.now before.position.now c.args.step.now.played c.requires.step
+    told c.in_ok-time.time c.count_alternatives.result c.args.others c.args.listed c.loses_time_alone-alone.result grew.0 c.args.draft.now.time_faults c.count_where-draft.result
+    c.requires.mark c.requires.listed
+    (c.count_alternatives.ensures.count ∙ ap (λ (l : List Continuation). length (besides before.aim.now before.depth (c.args.step.now.played ∷ []) l)) same)
+    (subst (λ (l : List Continuation). AreChosen (λ v. true) before.position.now (legal_list before.position.now) l) (sym c.as_slice.ensures.value) (c.in_ok-ask_moves.ensures.game h))
+    grew.1 c.loses_time_alone-alone.ensures c.count_where-draft.ensures

@@ -7,8 +7,10 @@ use Rattle.study_marks.specs.FaultSums.{below_at}
 use Rattle.study_review.specs.Nodes.{NodeLines, FaultLines}
 use Rattle.study_review.specs.Review.{paths_from}
 use Rattle.study_review.specs.Asked.{within}
+use Rattle.study_review.specs.TimeFaults.{IsTimeFault}
 use Rattle.study_review.proofs.Asking.{all-then, asks-then, same-asks}
 use Rattle.study_review.proofs.WholeReview.{taken-off}
+use Rattle.study_review.proofs.TimeCounted.{child-summed, both-summed, below-summed}
 use Rattle.study_review.proofs.WrittenOrder.{fewer-child, child-written, both-written, below-written}
 use Rattle.study_review.proofs.walk.+add_below.Goals as goal
 
@@ -60,6 +62,12 @@ loop-place-preserved g t c =
           c.loop-place.draft.nodes c.enter.new.draft.nodes c.add_below.new.draft.nodes (c.in_ok-next.ensures.nodes (c.loop-place.invariant.told.honest h))
           (c.in_ok-add_below.ensures.nodes (c.in_ok-next.ensures.asked.honest (c.loop-place.invariant.told.honest h))))
           (c.loop-place.invariant.nodes h);
+      time = λ h.
+          child-summed (IsTimeFault (marked c.args.bench.now)) tree.below steps c.enter.new.trail.steps.items k c.args.draft.now.time_faults c.loop-place.draft.time_faults c.add_below.new.draft.time_faults path lt
+          (both-summed (IsTimeFault (marked c.args.bench.now)) c.enter.new.trail.steps.items (paths_from c.enter.new.trail.steps.items 0 (below_at tree.below c.enter.new.trail.steps.items))
+          c.loop-place.draft.time_faults c.enter.new.draft.time_faults c.add_below.new.draft.time_faults (c.in_ok-next.ensures.time (c.loop-place.invariant.told.honest h))
+          (c.in_ok-add_below.ensures.time (c.in_ok-next.ensures.asked.honest (c.loop-place.invariant.told.honest h))))
+          (c.loop-place.invariant.time h);
       steps = taken-off steps c.add_below.new.trail.steps.items c.pop-in-loop-place.new.self.items k (vec_len c.add_below.new.trail.steps)
           (c.in_ok-add_below.ensures.steps ∙ path) (omega (arith, c.add_below.new.trail.steps.ok.0)) c.pop-in-loop-place.ensures.rest;
       line = taken-off c.args.trail.now.line.items c.add_below.new.trail.line.items c.pop.new.self.items c.in_ok-next.next.position (vec_len c.add_below.new.trail.line)
@@ -84,3 +92,10 @@ returns-clause-nodes g t c h =
     let steps = c.args.trail.now.steps.items in
     let few : width (below_at tree.below steps) ≤ c.loop-place.place = omega (arith, c.loop-place-test.false, c.requires.stand.children) in
     below-written (NodeLines (marked c.args.bench.now)) tree.below steps c.loop-place.place c.args.draft.now.nodes c.loop-place.draft.nodes few (c.loop-place.invariant.nodes h)
+
+pub returns-clause-time : goal.returns-clause-time
+returns-clause-time g t c h =
+    let tree = (marked c.args.bench.now).tree in
+    let steps = c.args.trail.now.steps.items in
+    let few : width (below_at tree.below steps) ≤ c.loop-place.place = omega (arith, c.loop-place-test.false, c.requires.stand.children) in
+    below-summed (IsTimeFault (marked c.args.bench.now)) tree.below steps c.loop-place.place c.args.draft.now.time_faults c.loop-place.draft.time_faults few (c.loop-place.invariant.time h)

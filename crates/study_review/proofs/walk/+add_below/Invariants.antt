@@ -4,6 +4,8 @@ use Rattle.study_marks.specs.BenchState.{marked}
 use Rattle.study_marks.specs.FaultSums.{below_at}
 use Rattle.study_review.specs.Asked.{AllTold, within}
 use Rattle.study_review.specs.Nodes.{NodeLines, FaultLines}
+use Rattle.study_review.specs.TimeFaults.{IsTimeFault}
+use Rattle.study_review.proofs.TimeCounted.{SumGoesOn}
 use Rattle.study_review.proofs.WrittenOrder.{GoesOn}
 use Rattle.study_review.proofs.walk.+add_below.Given as goal
 
@@ -18,6 +20,8 @@ invariant-loop-place g l = record {
       (below_at (marked l.bench).tree.below l.fn.trail.steps.items) l.place l.fn.draft.faults l.draft.faults;
   nodes : g.V.Values.is_honest l.fn.values → GoesOn (NodeLines (marked l.bench)) l.fn.trail.steps.items
       (below_at (marked l.bench).tree.below l.fn.trail.steps.items) l.place l.fn.draft.nodes l.draft.nodes;
+  time : g.V.Values.is_honest l.fn.values → SumGoesOn (IsTimeFault (marked l.bench)) l.fn.trail.steps.items
+      (below_at (marked l.bench).tree.below l.fn.trail.steps.items) l.place l.fn.draft.time_faults l.draft.time_faults;
   steps : l.trail.steps.items ≡ l.fn.trail.steps.items;
   line : l.trail.line.items ≡ l.fn.trail.line.items;
   told : AllTold g.V.Values.held (within (marked l.bench).start.position g.V.Values.gives) g.V.Values.may_fail g.V.Values.asked_of g.V.Values.failed_of g.V.Values.is_honest

@@ -1,9 +1,34 @@
 use Rattle.study_marks.specs.BenchState.{marked}
 use Rattle.study_review.specs.Asked.{within}
-use Rattle.study_review.proofs.Asking.{asks-then}
+use Rattle.study_review.proofs.Asking.{all-then, asks-then, same-asks}
+use Rattle.study_review.proofs.TimeCounted.{time-all}
+use Rattle.study_review.proofs.WholeReview.{faults-all, nodes-all}
 use Rattle.study_review.proofs.walk.add_all.Goals as goal
+
+pub returns-in_err-add_below-clause-asked : goal.returns-in_err-add_below-clause-asked
+returns-in_err-add_below-clause-asked g c =
+    asks-then g.V.Values.held (within (marked c.args.bench.now).start.position g.V.Values.gives) g.V.Values.may_fail g.V.Values.asked_of g.V.Values.failed_of g.V.Values.is_honest
+    c.args.values.now c.add_root.new.values c.add_below.new.values c.from_residual-in_err-add_below.result c.in_ok-add_root.ensures.asked
+    (same-asks g.V.Values.held (within (marked c.args.bench.now).start.position g.V.Values.gives) g.V.Values.may_fail g.V.Values.asked_of g.V.Values.failed_of g.V.Values.is_honest
+    c.add_root.new.values c.add_below.new.values c.from_residual-in_err-add_below.result c.in_err-add_below.field-0.0
+    c.from_residual-in_err-add_below.ensures.1 c.in_err-add_below.ensures.asked)
 
 pub returns-clause-asked : goal.returns-clause-asked
 returns-clause-asked g c =
-    asks-then g.V.Values.held (within (marked c.args.bench.now).start.position g.V.Values.gives) g.V.Values.may_fail g.V.Values.asked_of g.V.Values.failed_of g.V.Values.is_honest
-    c.args.values.now c.add_root.new.values c.add_below.new.values c.add_below.result c.in_ok-add_root.ensures.asked c.add_below.ensures.asked
+    all-then g.V.Values.held (within (marked c.args.bench.now).start.position g.V.Values.gives) g.V.Values.may_fail g.V.Values.asked_of g.V.Values.failed_of g.V.Values.is_honest
+    c.args.values.now c.add_root.new.values c.add_below.new.values c.in_ok-add_root.ensures.asked c.in_ok-add_below.ensures.asked
+
+pub returns-clause-faults : goal.returns-clause-faults
+returns-clause-faults g c h =
+    faults-all (marked c.args.bench.now) c.in_ok-trail.trail.steps.items c.args.draft.now.faults c.add_root.new.draft.faults c.add_below.new.draft.faults
+    c.in_ok-trail.ensures.steps c.add_root.ensures.faults (c.in_ok-add_below.ensures.faults (c.in_ok-add_root.ensures.asked.honest h))
+
+pub returns-clause-time : goal.returns-clause-time
+returns-clause-time g c h =
+    time-all (marked c.args.bench.now) c.in_ok-trail.trail.steps.items c.args.draft.now.time_faults c.add_root.new.draft.time_faults c.add_below.new.draft.time_faults
+    c.in_ok-trail.ensures.steps c.add_root.ensures.time (c.in_ok-add_below.ensures.time (c.in_ok-add_root.ensures.asked.honest h))
+
+pub returns-clause-nodes : goal.returns-clause-nodes
+returns-clause-nodes g c h =
+    nodes-all (marked c.args.bench.now) c.in_ok-trail.trail.steps.items c.args.draft.now.nodes c.add_root.new.draft.nodes c.add_below.new.draft.nodes
+    c.in_ok-trail.ensures.steps (c.in_ok-add_root.ensures.nodes h) (c.in_ok-add_below.ensures.nodes (c.in_ok-add_root.ensures.asked.honest h))
