@@ -16,6 +16,7 @@ pub mod Within
 pub mod Asking
 pub mod WrittenOrder
 pub mod TimeCounted
+pub mod ZugzwangTold
 pub mod Stands
 pub mod NodesShown
 pub mod NodesTold

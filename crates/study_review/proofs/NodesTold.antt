@@ -31,7 +31,9 @@ use Rattle.study_review.specs.Nodes.{refuted_text, AreAlso, AlsoLines, RefutedLi
 use Rattle.study_review.specs.Made.{Grew, Rose}
 use Rattle.study_review.specs.TimeFaults.{CountWhere, IsTimeFaultOf, IsTimeFault, all_lose_time}
 use Rattle.study_review.specs.Stand.{IsNodeAt, IsStep}
-use Rattle.study_review.specs.Told.{AreAlsoLines, AreMissingLines, OwnLines, besides, failing, drawing}
+use Rattle.study_review.specs.Told.{AreAlsoLines, AreMissingLines, OwnLines, HereLines, besides, failing, drawing}
+use Rattle.study_review.specs.declared.zugzwang.Zugzwang.{Zugzwang}
+use Rattle.study_review.specs.Zugzwang.{IsZugzwangOf, zugzwang_line}
 use Rattle.study_review.proofs.NodesShown.{are-there, not-there, none-counted}
 use Rattle.study_review.proofs.MovesTold.{timed-length, all-counted}
 use Rattle.study_review.proofs.ToldMoves.{failing-told, drawing-told, apart-told, besides-told}
@@ -245,12 +247,26 @@ module _ (s : Study Mark) (path : List ℕ) where
         (sym (open-here children (length (legal_list p)) c refl) ∙ ap (λ b. b && not (length (legal_list p) == 0)) some) in
         own-told text text text text r m n
 
+  -- the line of a mutual zugzwang, behind the others of its node
+  pub here-told : (p : Position) (t0 t1 t2 : List ℕ) → p ≡ position_at s path → Grew (OwnLines s path) t0 t1
+      → ((z : Option Zugzwang) × IsZugzwangOf p z × (t2 ≡ t1 ++ zugzwang_line path z)) → Grew (HereLines s path) t0 t2
+  here-told p t0 t1 t2 e x y =
+      let line = zugzwang_line path y.0 in (
+        x.0 ++ line,
+        (x.0, line, x.1, (y.0, subst (λ (q : Position). IsZugzwangOf q y.0) e y.1, refl), refl),
+        y.2 ∙ ap (λ (t : List ℕ). t ++ line) x.2 ∙ append_assoc t0 x.0 line,
+      )
+
   -- the lines of a node, behind those of the move to it
-  pub node-told : (t0 t1 t2 : List ℕ) → Grew (AlsoLines s path) t0 t1 → Grew (OwnLines s path) t1 t2 → Grew (NodeLines s path) t0 t2
+  pub node-told : (t0 t1 t2 : List ℕ) → Grew (AlsoLines s path) t0 t1 → Grew (HereLines s path) t1 t2 → Grew (NodeLines s path) t0 t2
   node-told t0 t1 t2 x y =
-      let k = y.1 in (
+      let k = y.1 in
+      let own = k.2 in
+      let parts : y.0 ≡ own.0 ++ (own.1 ++ (own.2 ++ k.1)) =
+      k.4 ∙ ap (λ (t : List ℕ). t ++ k.1) own.6 ∙ append_assoc own.0 (own.1 ++ own.2) k.1
+      ∙ ap (λ (t : List ℕ). own.0 ++ t) (append_assoc own.1 own.2 k.1) in (
         x.0 ++ y.0,
-        (x.0, k.0, k.1, k.2, x.1, k.3, k.4, k.5, ap (λ (t : List ℕ). x.0 ++ t) k.6),
+        (x.0, own.0, own.1, own.2, k.1, x.1, own.3, own.4, own.5, k.3, ap (λ (t : List ℕ). x.0 ++ t) parts),
         y.2 ∙ ap (λ (t : List ℕ). t ++ y.0) x.2 ∙ append_assoc t0 x.0 y.0,
       )
 

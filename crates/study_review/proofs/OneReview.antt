@@ -35,6 +35,8 @@ use Rattle.study_review.specs.Words.{also_line, missing_line, play_line, keep_li
 use Rattle.study_review.specs.Nodes.{front_of, OnlyWhere, is_dual, is_try, is_defended, is_open_end, is_solution_move, mark_at, value_at, refuted_text}
 use Rattle.study_review.specs.Nodes.{AreAlso, AlsoLines, RefutedLines, MissingLines, IsPlay, IsEnd, EndLines, NodeLines, IsFaultOf, FaultLines}
 use Rattle.study_review.specs.Review.{study_line, stipulation_line, empty_line, waste_line, written_order, LinesOfEach, SumOfEach, AreTimeFaults, ReviewsAreUnique}
+use Rattle.study_review.specs.Zugzwang.{zugzwang_line, ZugzwangLines}
+use Rattle.study_review.proofs.ZugzwangTold.{one-kind}
 use Rattle.study_review.specs.TimeFaults.{CountWhere, IsTimeFaultOf, IsTimeFault, all_lose_time}
 
 pub one-chosen : EachHasAtMostOneValue → (wanted : Value → Bool) (p : Position) (ms : List Move) (l k : List Continuation)
@@ -160,12 +162,16 @@ module _ (law : EachHasAtMostOneValue) (s : Study Mark) (path : List ℕ) where
   ends-once : One (EndLines s path)
   ends-once = one-where (is_open_end s path) _ (end-once (position_at s path) (value_at s path))
 
+  pub zugzwang-once : One (ZugzwangLines s path)
+  zugzwang-once t u h j = h.2 ∙ ap (zugzwang_line path) (one-kind law (position_at s path) h.0 j.0 h.1 j.1) ∙ sym j.2
+
   node-once : One (NodeLines s path)
   node-once t u h j =
-      h.8 ∙ ap (λ (x : List ℕ). x ++ (h.1 ++ (h.2 ++ h.3))) (also-once h.0 j.0 h.4 j.4)
-      ∙ ap (λ (x : List ℕ). j.0 ++ (x ++ (h.2 ++ h.3))) (refuted-once h.1 j.1 h.5 j.5)
-      ∙ ap (λ (x : List ℕ). j.0 ++ (j.1 ++ (x ++ h.3))) (missing-once h.2 j.2 h.6 j.6)
-      ∙ ap (λ (x : List ℕ). j.0 ++ (j.1 ++ (j.2 ++ x))) (ends-once h.3 j.3 h.7 j.7) ∙ sym j.8
+      h.10 ∙ ap (λ (x : List ℕ). x ++ (h.1 ++ (h.2 ++ (h.3 ++ h.4)))) (also-once h.0 j.0 h.5 j.5)
+      ∙ ap (λ (x : List ℕ). j.0 ++ (x ++ (h.2 ++ (h.3 ++ h.4)))) (refuted-once h.1 j.1 h.6 j.6)
+      ∙ ap (λ (x : List ℕ). j.0 ++ (j.1 ++ (x ++ (h.3 ++ h.4)))) (missing-once h.2 j.2 h.7 j.7)
+      ∙ ap (λ (x : List ℕ). j.0 ++ (j.1 ++ (j.2 ++ (x ++ h.4)))) (ends-once h.3 j.3 h.8 j.8)
+      ∙ ap (λ (x : List ℕ). j.0 ++ (j.1 ++ (j.2 ++ (j.3 ++ x)))) (zugzwang-once h.4 j.4 h.9 j.9) ∙ sym j.10
 
   fault-once : (m : Move) (mark : Option MoveMark) → One (IsFaultOf s path m mark)
   fault-once m None t u h j = h ∙ sym j

@@ -11,7 +11,7 @@ use Rattle.study_review.specs.Made.{Grew, Rose}
 use Rattle.study_review.specs.Nodes.{AlsoLines, FaultLines, NodeLines, is_dual, mark_at}
 use Rattle.study_notation.specs.FenSpelling.{fen_text}
 use Rattle.study_review.specs.Review.{study_line, stipulation_line, empty_line, waste_line, paths_from, LinesOfEach, AreTimeFaults, written_order, IsReview, BeginsReview}
-use Rattle.study_review.specs.Told.{OwnLines}
+use Rattle.study_review.specs.Told.{HereLines}
 use Rattle.study_review.proofs.NodesShown.{are-there, not-there}
 use Rattle.study_review.proofs.NodesTold.{node-told}
 use Rattle.study_review.proofs.TimeCounted.{few-time-faults}
@@ -38,7 +38,7 @@ module _ (s : Study Mark) where
   root-fault : (text : List ℕ) → Grew (FaultLines s []) text text
   root-fault text = ([], refl, sym (append-nil text))
 
-  pub root-told : (old new : List ℕ) → Grew (OwnLines s []) old new → Grew (NodeLines s []) old new
+  pub root-told : (old new : List ℕ) → Grew (HereLines s []) old new → Grew (NodeLines s []) old new
   root-told old new h = node-told s [] old old new (root-also old) h
 
   pub faults-all : (p t0 t1 t2 : List ℕ) → p ≡ [] → t1 ≡ t0 → Grew (LinesOfEach (FaultLines s) (paths_from p 0 (below_at s.tree.below p))) t1 t2

@@ -9,6 +9,7 @@ pub mod Defences
 pub mod Faults
 pub mod Play
 pub mod Words
+pub mod Zugzwang
 pub mod Nodes
 pub mod TimeFaults
 pub mod Review

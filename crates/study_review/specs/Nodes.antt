@@ -26,6 +26,7 @@ use Rattle.study_review.specs.Defences.{AreDefences}
 use Rattle.study_review.specs.Best.{IsBestPlay}
 use Rattle.study_review.specs.Line.{line_to, moves_of}
 use Rattle.study_review.specs.Faults.{in_solution}
+use Rattle.study_review.specs.Zugzwang.{ZugzwangLines}
 use Rattle.study_review.specs.Words.{also_line, refuted_line, stalemate_line, missing_line, play_line, keep_line, dual_line, mistake_line, times_lost}
 
 -- the path of the node before the one at this path
@@ -153,9 +154,9 @@ EndLines s path text = OnlyWhere (is_open_end s path) (IsEnd path (position_at s
 -- the lines of the node at the path
 abbrev pub NodeLines : Study Mark → List ℕ → List ℕ → Type 0
 NodeLines s path text =
-    (also refuted missing end : List ℕ)
+    (also refuted missing end zugzwang : List ℕ)
     × AlsoLines s path also × RefutedLines s path refuted × MissingLines s path missing × EndLines s path end
-    × (text ≡ also ++ (refuted ++ (missing ++ end)))
+    × ZugzwangLines s path zugzwang × (text ≡ also ++ (refuted ++ (missing ++ (end ++ zugzwang))))
 
 -- ---- fault
 

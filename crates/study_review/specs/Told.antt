@@ -14,6 +14,7 @@ use Rattle.study_review.specs.declared.time.Alternative.{Alternative}
 use Rattle.study_review.specs.declared.missing.Defence.{Defence}
 use Rattle.study_review.specs.declared.answers.Answers.{Answers}
 use Rattle.study_review.specs.Nodes.{RefutedLines, MissingLines, EndLines}
+use Rattle.study_review.specs.Zugzwang.{ZugzwangLines}
 use Rattle.study_review.specs.Continuations.{chosen, is_among, is_draw, AreChosen}
 use Rattle.study_review.specs.Time.{AreTimed}
 use Rattle.study_review.specs.Defences.{the_only, AreAnswered}
@@ -55,8 +56,12 @@ abbrev pub AreAnswers : Aim → ℕ → Position → List Move → Answers → T
 AreAnswers a d q ms y =
     (list : List Continuation) × AreChosen (holds a (d + 1)) q ms list × (y.count ≡ length list) × (y.only ≡ the_only list)
 
--- the lines of a node but for those of the move to it
+-- the lines of a node by the values after its legal moves
 abbrev pub OwnLines : Study Mark → List ℕ → List ℕ → Type 0
 OwnLines s path text =
     (refuted missing end : List ℕ) × RefutedLines s path refuted × MissingLines s path missing × EndLines s path end
     × (text ≡ refuted ++ (missing ++ end))
+
+-- the lines of a node but for those of the move to it
+abbrev pub HereLines : Study Mark → List ℕ → List ℕ → Type 0
+HereLines s path text = (own zugzwang : List ℕ) × OwnLines s path own × ZugzwangLines s path zugzwang × (text ≡ own ++ zugzwang)

@@ -31,6 +31,7 @@ mod told;
 mod walk;
 mod words;
 mod writing;
+mod zugzwang;
 
 pub use back::{is_back, time_lost};
 pub use best::{best_move, best_play};
@@ -53,3 +54,4 @@ pub use words::{
     add_alone, add_counted, add_front, add_move, add_path, add_time_verdict, add_value,
 };
 pub use writing::{add_stipulation_line, is_empty, write_review};
+pub use zugzwang::{Zugzwang, add_zugzwang_line, add_zugzwang_words, zugzwang_at};

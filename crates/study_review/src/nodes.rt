@@ -1,5 +1,5 @@
 //! The lines of a node: refutations, defences that are missing, and how it goes on.
-ghost use Rattle.std.specs.Prelude.{◌≡◌, ◌++◌, ◌+◌, ◌^◌, ◌<◌, ◌==◌, true, not, ◌&&◌, length, IsTrue, OnOk};
+ghost use Rattle.std.specs.Prelude.{◌≡◌, ◌++◌, Option, ◌+◌, ◌^◌, ◌<◌, ◌==◌, true, not, ◌&&◌, length, IsTrue, OnOk};
 ghost use Rattle.std.specs.List.{All};
 ghost use Rattle.study_moves.specs.Rules.{is_legal};
 ghost use Rattle.study_moves.specs.LegalList.{legal_list};
@@ -14,7 +14,9 @@ ghost use Rattle.study_review.specs.Faults.{in_solution};
 ghost use Rattle.study_review.specs.Made.{Grew, HasAsked};
 ghost use Rattle.study_review.specs.Nodes.{RefutedLines, MissingLines, EndLines, is_stalemate, refuted_text, is_try, value_at};
 ghost use Rattle.study_review.specs.Stand.{IsNodeAt};
-ghost use Rattle.study_review.specs.Told.{OwnLines, failing};
+ghost use Rattle.study_review.specs.Told.{OwnLines, HereLines, failing};
+ghost use Rattle.study_review.specs.Zugzwang.{IsZugzwangOf, zugzwang_line};
+ghost use Rattle.study_review.specs.declared.zugzwang.Zugzwang.{Zugzwang as AZugzwang};
 
 use crate::answers::add_defences;
 use crate::children::children_in;
@@ -23,6 +25,7 @@ use crate::ends::add_continued;
 use crate::fault::NotMade;
 use crate::told::ask_moves;
 use crate::words::{add_refuted_lines, add_stalemate};
+use crate::zugzwang::{add_zugzwang_line, zugzwang_at};
 use std::alloc::{AllocError, Allocator};
 use study_board::Position;
 use study_marks::{Bench, hero_moves, holds};
@@ -190,8 +193,8 @@ fn add_told<'a, 'b, A: Allocator, B: Allocator, V: Values>(
     add_end(text, bench, here, told, values)
 }
 
-/// The lines of a node but for those of the move to it. Its legal moves are asked once, where any line may need them.
-pub fn add_own<'a, 'b, A: Allocator, B: Allocator, V: Values>(
+/// The lines of a node by the values after its legal moves. They are evaluated once, where any line may need them.
+fn add_own<'a, 'b, A: Allocator, B: Allocator, V: Values>(
     alloc: &'a A,
     text: &mut Text<'_, A>,
     bench: &Bench<'b, B>,
@@ -213,4 +216,45 @@ pub fn add_own<'a, 'b, A: Allocator, B: Allocator, V: Values>(
     }
     ask_moves(here.node.position, values, told)?;
     add_told(alloc, text, bench, here, told.as_slice(), values)
+}
+
+/// The line of a mutual zugzwang.
+fn add_zugzwang<A: Allocator, V: Values>(
+    text: &mut Text<'_, A>,
+    here: &Here<'_>,
+    values: &mut V,
+) -> Result<(), NotMade>
+    ensures text { V.is_honest values.old → OnOk result ((z : Option AZugzwang) × IsZugzwangOf here.now.node.position.now z
+        × (text.new ≡ text.old ++ zugzwang_line here.now.steps.now z)) }
+    ensures asked { HasAsked V.held (within here.now.node.position.now V.gives) V.may_fail V.asked_of V.failed_of V.is_honest values.old result values.new }
+{
+    match zugzwang_at(here.node.position, values) {
+        Err(fault) => Err(NotMade::Untold(fault)),
+        Ok(zugzwang) => {
+            add_zugzwang_line(text, here.steps, zugzwang)?;
+            Ok(())
+        }
+    }
+}
+
+/// The lines of a node but for those of the move to it.
+pub fn add_here<'a, 'b, A: Allocator, B: Allocator, V: Values>(
+    alloc: &'a A,
+    text: &mut Text<'_, A>,
+    bench: &Bench<'b, B>,
+    here: &Here<'_>,
+    told: &mut Vec<Continuation, &'a A>,
+    values: &mut V,
+) -> Result<(), NotMade>
+    requires found { IsTrue (has_spot (marked bench.now).tree here.now.steps.now) }
+    requires node { IsNodeAt (marked bench.now) here.now.steps.now here.now.node.aim.now here.now.node.depth here.now.node.position.now }
+    requires value { here.now.value ≡ value_at (marked bench.now) here.now.steps.now }
+    requires children { here.now.children ≡ width (below_at (marked bench.now).tree.below here.now.steps.now) }
+    requires solution { here.now.solution ≡ in_solution (aim_of (marked bench.now)) 0 here.now.steps.now }
+    requires tried { here.now.tried ≡ is_try (marked bench.now) here.now.steps.now }
+    ensures text { V.is_honest values.old → OnOk result (Grew (HereLines (marked bench.now) here.now.steps.now) text.old text.new) }
+    ensures asked { HasAsked V.held (within here.now.node.position.now V.gives) V.may_fail V.asked_of V.failed_of V.is_honest values.old result values.new }
+{
+    add_own(alloc, text, bench, here, told, values)?;
+    add_zugzwang(text, here, values)
 }

@@ -17,7 +17,7 @@ use crate::continuation::Node;
 use crate::draft::{Draft, Trail};
 use crate::fault::NotMade;
 use crate::moves::{Step, add_move};
-use crate::nodes::{Here, add_own};
+use crate::nodes::{Here, add_here};
 use crate::signs::{aim_in, is_solution_move, is_try};
 use crate::stand::{Arrival, Stand, arrival_at, root_stand, stand_after};
 use std::alloc::Allocator;
@@ -85,7 +85,7 @@ fn add_lines<'a, 'b, A: Allocator, B: Allocator, V: Values>(
         solution: here.solution,
         tried: is_try(made, by.mark.on_move, before),
     };
-    add_own(
+    add_here(
         alloc,
         &mut draft.nodes,
         bench,
@@ -209,7 +209,7 @@ fn add_root<'a, 'b, A: Allocator, B: Allocator, V: Values>(
         solution: true,
         tried: false,
     };
-    add_own(
+    add_here(
         alloc,
         &mut draft.nodes,
         bench,

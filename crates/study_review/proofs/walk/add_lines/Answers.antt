@@ -24,14 +24,14 @@ add_move-requires-clause-listed g c =
     c.is_solution_move-listed.ensures ∙ ap (λ b. b && c.args.stands.1.now.solution) c.hero_moves-made.ensures
     ∙ solution-move (marked c.args.bench.now) c.args.steps.now c.requires.some c.args.aim.now (length c.args.steps.now - 1) c.args.stands.1.now c.requires.aim (let z : length c.args.steps.now - 1 + 1 ≡ length c.args.steps.now = omega (arith, c.requires.some) in z) c.requires.here
 
-pub add_own-requires-clause-found : goal.add_own-requires-clause-found
-add_own-requires-clause-found g c = arrival-there (marked c.args.bench.now) c.args.steps.now c.args.by.now c.requires.by
+pub add_here-requires-clause-found : goal.add_here-requires-clause-found
+add_here-requires-clause-found g c = arrival-there (marked c.args.bench.now) c.args.steps.now c.args.by.now c.requires.by
 
-pub add_own-requires-clause-children : goal.add_own-requires-clause-children
-add_own-requires-clause-children g c = arrival-children (marked c.args.bench.now) c.args.steps.now c.args.by.now c.requires.by
+pub add_here-requires-clause-children : goal.add_here-requires-clause-children
+add_here-requires-clause-children g c = arrival-children (marked c.args.bench.now) c.args.steps.now c.args.by.now c.requires.by
 
-pub add_own-requires-clause-tried : goal.add_own-requires-clause-tried
-add_own-requires-clause-tried g c =
+pub add_here-requires-clause-tried : goal.add_here-requires-clause-tried
+add_here-requires-clause-tried g c =
     let mark = c.args.by.now.mark.on_move in
     let before = c.args.stands.0.now in
     c.is_try.ensures ∙ ap (λ b. b && (is_mistake mark || (is_idle mark && (before.solution && before.quiet)))) c.hero_moves-made.ensures
@@ -40,13 +40,13 @@ add_own-requires-clause-tried g c =
 pub returns-clause-asked : goal.returns-clause-asked
 returns-clause-asked g c =
     asks-then g.V.Values.held (within (marked c.args.bench.now).start.position g.V.Values.gives) g.V.Values.may_fail g.V.Values.asked_of g.V.Values.failed_of g.V.Values.is_honest
-    c.args.values.now c.add_move.new.values c.add_own.new.values c.add_own.result
+    c.args.values.now c.add_move.new.values c.add_here.new.values c.add_here.result
     (all-wider g.V.Values.held g.V.Values.gives g.V.Values.may_fail g.V.Values.asked_of g.V.Values.failed_of g.V.Values.is_honest (marked c.args.bench.now).start.position c.args.stands.0.now.position
     (leads-at (marked c.args.bench.now) (front_of c.args.steps.now) c.args.stands.0.now.position c.start-first.ensures.study.playable c.requires.before.position)
     c.args.values.now c.add_move.new.values c.in_ok-add_move.ensures.asked)
     (asks-wider g.V.Values.held g.V.Values.gives g.V.Values.may_fail g.V.Values.asked_of g.V.Values.failed_of g.V.Values.is_honest (marked c.args.bench.now).start.position c.args.stands.1.now.position
     (leads-at (marked c.args.bench.now) c.args.steps.now c.args.stands.1.now.position c.start-first.ensures.study.playable c.requires.here.position)
-    c.add_move.new.values c.add_own.new.values c.add_own.result c.add_own.ensures.asked)
+    c.add_move.new.values c.add_here.new.values c.add_here.result c.add_here.ensures.asked)
 
 pub returns-in_err-add_move-clause-asked : goal.returns-in_err-add_move-clause-asked
 returns-in_err-add_move-clause-asked g c =

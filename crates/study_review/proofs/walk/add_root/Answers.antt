@@ -5,4 +5,4 @@ use Rattle.study_review.proofs.walk.add_root.Goals as goal
 
 pub returns-clause-nodes : goal.returns-clause-nodes
 returns-clause-nodes g c h =
-    on_ok_weaker c.add_own.result (root-told (marked c.args.bench.now) c.args.draft.now.nodes c.add_own.new.text) (c.add_own.ensures.text h)
+    on_ok_weaker c.add_here.result (root-told (marked c.args.bench.now) c.args.draft.now.nodes c.add_here.new.text) (c.add_here.ensures.text h)

@@ -1,0 +1,194 @@
+//! Mutual zugzwangs at the nodes of a study.
+ghost use Rattle.std.specs.Prelude.{◌≡◌, ◌++◌, ◌<◌, ◌&&◌, false, Some, OnOk, IfOk, IfErr, IsErrOf};
+ghost use Rattle.study_board.specs.Position.{IsValid};
+ghost use Rattle.study_material.specs.declared.class.Class.{Class as AClass};
+ghost use Rattle.study_moves.specs.EnPassant.{has_legal_en_passant, is_taken};
+ghost use Rattle.study_moves.specs.Rules.{is_en_passant, is_legal};
+ghost use Rattle.study_values.specs.Values.{IsNotDamage};
+ghost use Rattle.study_marks.specs.Told.{failures_told};
+ghost use Rattle.study_search.specs.Zugzwang.{Scores, handed_on};
+ghost use Rattle.study_review.specs.Asked.{HasTold, within};
+ghost use Rattle.study_review.specs.Zugzwang.{IsZugzwangOf, kind_of, zugzwang_words, zugzwang_line};
+
+use crate::words::add_front;
+use std::alloc::{AllocError, Allocator};
+use study_board::{Man, Position, Side, Square};
+use study_moves::{Move, is_en_passant, is_legal, values_are_unique};
+use study_search::{half_points, handed_on};
+use study_text::Text;
+use study_values::{ProbeFault, Values};
+
+/// A mutual zugzwang: for a full point, where each side loses if it is to move; or for half a point of a side, which draws if it is to
+/// move, and wins if the other is.
+#[derive(Clone, Copy, Debug, PartialEq, Eq)]
+pub enum Zugzwang {
+    Full,
+    Half(Side),
+}
+
+/// Whether the man is a pawn that captures on the passed square by a legal move.
+fn captures(p: &Position, man: &Man, x: Square) -> bool
+    ensures { result ≡ (is_en_passant p.now.passed man.now x && is_legal p.now (record { origin = man.now.at; target = x; promoted = None })) }
+{
+    is_en_passant(p.passed(), man, x)
+        && is_legal(
+            p,
+            Move {
+                origin: man.at,
+                target: x,
+                promoted: None,
+            },
+        )
+}
+
+/// Whether some man captures on this passed square.
+fn is_taken(p: &Position, x: Square) -> bool
+    ensures { result ≡ is_taken p.now (Some x) }
+{
+    p.men().iter().any(|man| captures(p, man, x))
+}
+
+/// Whether a capture in passing is legal. (study_index and study_search have the same and keep it to themselves.)
+fn has_legal_en_passant(p: &Position) -> bool
+    ensures { result ≡ has_legal_en_passant p.now }
+{
+    match p.passed() {
+        None => false,
+        Some(x) => is_taken(p, x),
+    }
+}
+
+/// How many half points the side to move scores.
+fn score<V: Values>(q: &Position, values: &mut V) -> Result<u8, ProbeFault>
+    ensures game { V.is_honest values.old → IfOk result (Scores q.now) }
+    ensures few { IfOk result (λ k. k < 3) }
+    ensures untold { (c : AClass) → IsErrOf result (ProbeFault.NoTable c) → V.held values.old c ≡ false }
+    ensures told { HasTold (within q.now V.gives) V.may_fail V.asked_of values.old result values.new }
+    ensures no_damage { V.is_honest values.old → IfErr result IsNotDamage }
+    ensures failures { V.failed_of values.new ≡ failures_told result (V.failed_of values.old) }
+    ensures honest { V.is_honest values.old → V.is_honest values.new }
+    ensures tables { (c : AClass) → V.held values.new c ≡ V.held values.old c }
+{
+    // (the position is valid, as the clauses on its answer say)
+    let _men = q.men();
+    match values.value(q) {
+        Err(fault) => Err(fault),
+        Ok(value) => Ok(half_points(value)),
+    }
+}
+
+/// What it is, where this side is to move, by the half points that each scores.
+fn kind_of(side: Side, here: u8, there: u8) -> Option<Zugzwang>
+    requires here { here < 3 }
+    requires there { there < 3 }
+    ensures { result ≡ kind_of side here there }
+{
+    if here + there == 0 {
+        Some(Zugzwang::Full)
+    } else if here + there == 1 {
+        Some(Zugzwang::Half(if here == 1 { side } else { side.other() }))
+    } else {
+        None
+    }
+}
+
+/// The same of a position in which the side to move scores so much, and of the one with the other side to move.
+fn kind_beside<V: Values>(
+    p: &Position,
+    here: u8,
+    q: &Position,
+    values: &mut V,
+) -> Result<Option<Zugzwang>, ProbeFault>
+    requires passed { has_legal_en_passant p.now ≡ false }
+    requires other { q.now ≡ handed_on p.now }
+    requires few { here < 3 }
+    ensures game { Scores p.now here → V.is_honest values.old → IfOk result (IsZugzwangOf p.now) }
+    ensures untold { (c : AClass) → IsErrOf result (ProbeFault.NoTable c) → V.held values.old c ≡ false }
+    ensures told { HasTold (within p.now V.gives) V.may_fail V.asked_of values.old result values.new }
+    ensures no_damage { V.is_honest values.old → IfErr result IsNotDamage }
+    ensures failures { V.failed_of values.new ≡ failures_told result (V.failed_of values.old) }
+    ensures honest { V.is_honest values.old → V.is_honest values.new }
+    ensures tables { (c : AClass) → V.held values.new c ≡ V.held values.old c }
+{
+    values_are_unique();
+    // (the position is valid, as the clauses on its answer say)
+    let _men = q.men();
+    match score(q, values) {
+        Err(fault) => Err(fault),
+        Ok(there) => Ok(kind_of(p.to_move(), here, there)),
+    }
+}
+
+/// The same of a position and the one with the other side to move.
+fn zugzwang_of<V: Values>(
+    p: &Position,
+    q: &Position,
+    values: &mut V,
+) -> Result<Option<Zugzwang>, ProbeFault>
+    requires passed { has_legal_en_passant p.now ≡ false }
+    requires other { q.now ≡ handed_on p.now }
+    ensures game { V.is_honest values.old → IfOk result (IsZugzwangOf p.now) }
+    ensures untold { (c : AClass) → IsErrOf result (ProbeFault.NoTable c) → V.held values.old c ≡ false }
+    ensures told { HasTold (within p.now V.gives) V.may_fail V.asked_of values.old result values.new }
+    ensures no_damage { V.is_honest values.old → IfErr result IsNotDamage }
+    ensures failures { V.failed_of values.new ≡ failures_told result (V.failed_of values.old) }
+    ensures honest { V.is_honest values.old → V.is_honest values.new }
+    ensures tables { (c : AClass) → V.held values.new c ≡ V.held values.old c }
+{
+    match score(p, values) {
+        Err(fault) => Err(fault),
+        Ok(here) => kind_beside(p, here, q, values),
+    }
+}
+
+/// Whether the position is a mutual zugzwang, whoever is to move, and of which kind.
+pub fn zugzwang_at<V: Values>(p: &Position, values: &mut V) -> Result<Option<Zugzwang>, ProbeFault>
+    ensures game { V.is_honest values.old → IfOk result (IsZugzwangOf p.now) }
+    ensures untold { (c : AClass) → IsErrOf result (ProbeFault.NoTable c) → V.held values.old c ≡ false }
+    ensures told { HasTold (within p.now V.gives) V.may_fail V.asked_of values.old result values.new }
+    ensures no_damage { V.is_honest values.old → IfErr result IsNotDamage }
+    ensures failures { V.failed_of values.new ≡ failures_told result (V.failed_of values.old) }
+    ensures honest { V.is_honest values.old → V.is_honest values.new }
+    ensures tables { (c : AClass) → V.held values.new c ≡ V.held values.old c }
+{
+    let passing = has_legal_en_passant(p);
+    if passing {
+        return Ok(None);
+    }
+    match handed_on(p) {
+        None => Ok(None),
+        Some(q) => zugzwang_of(p, &q, values),
+    }
+}
+
+/// `full`, `half white`, `half black`.
+pub fn add_zugzwang_words<A: Allocator>(
+    text: &mut Text<'_, A>,
+    zugzwang: Zugzwang,
+) -> Result<(), AllocError>
+    ensures { OnOk result (text.new ≡ text.old ++ zugzwang_words zugzwang) }
+{
+    match zugzwang {
+        Zugzwang::Full => text.add(b"full"),
+        Zugzwang::Half(Side::White) => text.add(b"half white"),
+        Zugzwang::Half(Side::Black) => text.add(b"half black"),
+    }
+}
+
+/// The line of a mutual zugzwang, where it is one.
+pub fn add_zugzwang_line<A: Allocator>(
+    text: &mut Text<'_, A>,
+    steps: &[u16],
+    zugzwang: Option<Zugzwang>,
+) -> Result<(), AllocError>
+    ensures { OnOk result (text.new ≡ text.old ++ zugzwang_line steps.now zugzwang) }
+{
+    match zugzwang {
+        None => Ok(()),
+        Some(zugzwang) => {
+            add_front(text, b"zugzwang ", steps)?;
+            add_zugzwang_words(text, zugzwang)?;
+            text.add(b"\n")
+        }
+    }
+}
