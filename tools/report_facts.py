@@ -5,10 +5,12 @@
     tools/report_facts.py agree TABLES [SCRIPT ..]  the lines and the page of any script by one program: each fact of the lines has to be
                                                     in the page, and no other (without scripts, those of the gallery)
     tools/report_facts.py print NAME ..             what is expected of the scripts in one run: the whole file of pages
-    tools/report_facts.py gate                      writes what the gate expects of the pages of gallery, and of studyreport
+    tools/report_facts.py gate                      writes what the gate expects of the lines and pages of gallery, and of studyreport
+    tools/report_facts.py facts                     writes into examples/NAME.lines which faults lose time alone, by the other lines, and which
+                                                    nodes are mutual zugzwangs, by tools/finding/zugzwangs.txt
 
 The facts are those of examples/NAME.lines and the games of PGN in examples/NAME.expected; both come from a program that shares
-nothing with this repository. `agree` takes the lines of studyreport itself, and the games of studybench. The layout is that of
+nothing with this repository; so does the list of all mutual zugzwangs. `agree` takes the lines of studyreport itself, and the games of studybench. The layout is that of
 docs/REPORT.md, written here once more.
 """
 import copy
@@ -213,6 +215,82 @@ class Study:
     def of(self, kind, path=None):
         wanted = None if path is None else ("root" if not path else ".".join(map(str, path)))
         return [f[1:] for f in self.facts if f[0] == kind and (wanted is None or f[1] == wanted)]
+
+
+# ---- facts that follow from others
+
+def sound_but_for(faults, time):
+    """The verdict on a solution with so many faults, of which so many lose time alone."""
+    if time == faults:
+        return "sound but for loss of time"
+    return f"unsound {faults}, {time} lose{'s' if time == 1 else ''} time alone"
+
+
+def time_faults(facts):
+    """How many `fault` lines are duals of which each other move loses time."""
+    words = [fact.split(" ") for fact in facts if fact.startswith("fault ")]
+    return sum(w[-4] == "dual" and w[-3] == w[-1] for w in words if w[-1] != "mistake")
+
+
+def images(men):
+    """The men in each placement that a symmetry gives, and whether colours are exchanged in it."""
+    pawns = any(kind == "P" for _, kind in men.values())
+    for swapped in (False, True):
+        for turn in range(2 if pawns else 8):
+            image = {}
+            for (file, rank), (white, kind) in men.items():
+                file = 7 - file if turn & 1 else file
+                rank = 7 - rank if (turn & 2) // 2 != swapped else rank
+                if turn & 4:
+                    file, rank = rank, file
+                image[(file, rank)] = (white != swapped, kind)
+            yield frozenset(image.items()), swapped
+
+
+def zugzwangs():
+    """The men of all mutual zugzwangs, each in one placement, with what it is: `full`, `half white` or `half black`."""
+    found = {}
+    for line in read(TOP, "tools/finding/zugzwangs.txt").splitlines():
+        if not line.startswith("#"):
+            white, black = re.fullmatch(r".* 0 1 (draw|loss|win)(?: \d+)? (draw|loss|win)(?: \d+)?", line).groups()
+            kind = {("loss", "loss"): "full", ("draw", "loss"): "half white", ("loss", "draw"): "half black"}[white, black]
+            found[frozenset(Position.of(line).men.items())] = kind
+    return found
+
+
+ZUGZWANGS = {}
+
+
+def zugzwang(position):
+    """Of which kind of mutual zugzwang the position is, or None."""
+    ZUGZWANGS.update(ZUGZWANGS or zugzwangs())
+    captures = any(end == position.passed and position.men[at][1] == "P" and at[0] != end[0] for at, end, _ in position.moves())
+    for image, swapped in [] if captures else images(position.men):
+        if image in ZUGZWANGS:
+            kind = ZUGZWANGS[image]
+            return {"half white": "half black", "half black": "half white"}.get(kind, kind) if swapped else kind
+    return None
+
+
+def path_words(path):
+    return ".".join(map(str, path)) or "root"
+
+
+def with_facts(study, facts):
+    """The lines of a study with those that follow from others."""
+    plain = [fact for fact in facts if fact.split(" ")[0] not in ("waste", "zugzwang")]
+    head = [fact for fact in plain if fact.split(" ")[0] in ("study", "stipulation", "empty", "fault")]
+    time, verdict = time_faults(facts), study.verdict.split()
+    if verdict[0] == "unsound" and time:
+        head.append("waste " + sound_but_for(int(verdict[1]), time))
+    rest = plain[len([fact for fact in head if not fact.startswith("waste ")]):]
+    for path in study.order:
+        words = path_words(path)
+        head += [fact for fact in rest if fact.split(" ")[1] == words]
+        if kind := zugzwang(study.position[path]):
+            head.append(f"zugzwang {words} {kind}")
+    assert len(head) >= len(plain)
+    return head
 
 
 # ---- words
@@ -715,9 +793,19 @@ if __name__ == "__main__":
         sys.exit(0 if agree(words[1], words[2:] or [os.path.join(EXAMPLES, name + ".script") for name in gallery()]) else 1)
     if len(words) >= 2 and words[0] == "print":
         sys.stdout.write(expected_file(words[1:]))
+    elif words == ["facts"]:
+        for name in gallery():
+            lines, studies = read(EXAMPLES, name + ".lines"), told_in(name)
+            parts = re.split(r"^(?=study |refused )", lines, flags=re.M)[1:]
+            text = "".join(part if part.startswith("refused ") else "\n".join(with_facts(studies.pop(0), part.splitlines())) + "\n" for part in parts)
+            if text != lines:
+                print(name)
+                with open(os.path.join(EXAMPLES, name + ".lines"), "w", encoding="latin-1") as file:
+                    file.write(text)
     elif words == ["gate"]:
         two = told_in("krk_waiting")
         front = read(TOP, "crates/gallery/stdout").split("== pages\n")[0]
+        front = re.sub(r"(?m)^(== (\S+), lines of a report\n)(?:(?!== ).*\n)*", lambda m: m.group(1) + read(EXAMPLES, m.group(2) + ".lines"), front)
         with open(os.path.join(TOP, "crates/gallery/stdout"), "w", encoding="latin-1") as file:
             file.write(front + "== pages\n" + opening() + "".join(page(study, number) for number, study in enumerate(two, 1))
                        + refusal(7, "insert root <b>\xe9", "BadByte", "a letter outside plain ASCII & 'so'") + summary(two) + "</body></html>\n")

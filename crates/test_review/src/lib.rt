@@ -12,4 +12,6 @@ mod review_time;
 #[cfg(test)]
 mod review_writing;
 #[cfg(test)]
+mod review_zugzwang;
+#[cfg(test)]
 mod studies;
