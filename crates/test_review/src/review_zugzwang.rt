@@ -78,13 +78,11 @@ fn a_zugzwang_is_not_told_where_a_value_is_not(rt: HostRuntime) {
 }
 
 /// Beside 2. b5+ only 2. Kc5 wins, after which Black goes back to a7.
-const LOST_TIME: &[(&str, Moves, &[u8])] = &[
-    (
-        "8/k7/8/2K5/1P6/8/8/8 w - - 0 1",
-        &[(&[], "Kc6"), (&[0], "Ka6"), (&[0, 0], "b5+")],
-        b"dual 1 time 1\nwaste sound but for loss of time\nmissing ",
-    ),
-];
+const LOST_TIME: &[(&str, Moves, &[u8])] = &[(
+    "8/k7/8/2K5/1P6/8/8/8 w - - 0 1",
+    &[(&[], "Kc6"), (&[0], "Ka6"), (&[0, 0], "b5+")],
+    b"dual 1 time 1\nwaste sound but for loss of time\nmissing ",
+)];
 
 /// The line comes right behind the faults.
 #[test]
