@@ -1,13 +1,16 @@
 #!/usr/bin/env python3
 """Writes which views and surveys crates/gallery makes, and what they have to be, from the files of an independent program:
 FOLDER/NAME.views, where each view follows a line `# view PATH`, and FOLDER/surveys.txt, where each survey follows a line
-`# FEN | SQUARE | SIDE GOAL`. Only those are taken whose tables the program makes. That program has looked at each study where its
+`# FEN | SQUARE | SIDE GOAL`. Lines of mutual zugzwangs are added to the views by the list in tools/finding. Only those are taken whose tables the program makes. That program has looked at each study where its
 script first asks for the PGN, so the scripts are those of the gallery up to there.
 
     tools/expected_views.py FOLDER
+    tools/expected_views.py zugzwangs    adds these lines alone to the views that are expected
 """
 import sys
 from pathlib import Path
+
+import report_facts
 
 CRATES = Path(__file__).resolve().parent.parent / "crates"
 CRATE = CRATES / "gallery"
@@ -40,12 +43,29 @@ def script(name):
     return "".join(lines[:lines.index("pgn\n") + 1])
 
 
+def with_zugzwangs(view):
+    """A view with a line for each of its nodes that is a mutual zugzwang."""
+    lines = [line for line in view.splitlines() if not line.startswith("zugzwang ")]
+    for words in [line.split(" ") for line in lines if line.startswith("node ")]:
+        if kind := report_facts.zugzwang(report_facts.Position.of(" ".join(words[-6:]))):
+            lines.append(f"zugzwang {words[1]} {kind}")
+    return "".join(line + "\n" for line in lines)
+
+
+def stored():
+    """The views and surveys that are expected, with these lines."""
+    front, rest = (CRATE / "stdout").read_text("latin-1").split("== views and surveys\n")
+    views = parts(rest[:rest.index("== pages\n")], "# ")
+    text = "".join(f"# {heading}\n" + (with_zugzwangs(view) if view.startswith("study ") else view) for heading, view in views)
+    (CRATE / "stdout").write_text(front + "== views and surveys\n" + text + rest[rest.index("== pages\n"):], "latin-1")
+
+
 def main(folder):
     asked = []
     for file in sorted(folder.glob("*.views")):
         for heading, view in parts(file.read_text(), "# "):
             if material(view.splitlines()[0].removeprefix("study ")) in MADE:
-                asked.append((file.stem, heading, view))
+                asked.append((file.stem, heading, with_zugzwangs(view)))
     for heading, survey in parts((folder / "surveys.txt").read_text(), "# "):
         fen, square, stipulation = heading.split(" | ")
         if material(fen) in MADE:
@@ -61,4 +81,7 @@ def main(folder):
 
 
 if __name__ == "__main__":
-    main(Path(sys.argv[1]))
+    if sys.argv[1] == "zugzwangs":
+        stored()
+    else:
+        main(Path(sys.argv[1]))

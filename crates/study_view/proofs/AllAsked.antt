@@ -1,5 +1,5 @@
 -- The values after all legal moves, asked in their order.
-use Rattle.std.proofs.Common.{◌≡◌, ℕ, Bool, true, false, not, List, [], ◌∷◌, Result, Ok, Err, OnOk, IfErr, IsErrAnd, IsErrOf, refl, sym, ap, subst, ◌∙◌}
+use Rattle.std.proofs.Common.{◌≡◌, ℕ, Bool, true, false, not, List, [], ◌∷◌, ◌++◌, inl, inr, append-nil, append_assoc, Result, Ok, Err, OnOk, IfErr, IsErrAnd, IsErrOf, refl, sym, ap, subst, ◌∙◌}
 use Rattle.std.specs.List.{filter}
 use Rattle.study_board.specs.Position.{Position, IsValid}
 use Rattle.study_material.specs.declared.class.Class.{Class}
@@ -10,7 +10,8 @@ use Rattle.study_values.specs.declared.value.Value.{Value}
 use Rattle.study_values.specs.Values.{ProbeAnswer, IsNotDamage, faults_after}
 use Rattle.study_values.specs.declared.values.ProbeFault.{ProbeFault}
 use Rattle.study_values.specs.declared.values.ProbeFault.TheVariants as probe
-use Rattle.study_marks.specs.Answers.{WereTold, IsFirstFault}
+use Rattle.study_marks.specs.Answers.{Answers, WereTold, IsFirstFault}
+use Rattle.study_marks.proofs.FaultsTold.{told-append}
 use Rattle.study_marks.specs.Told.{IsUntold, failures_told}
 use Rattle.study_review.specs.Continuations.{others}
 use Rattle.study_text.specs.Counts.{counted}
@@ -18,8 +19,8 @@ use Rattle.study_material.specs.Class.{IsOf}
 use Rattle.study_review.proofs.Asking.{of-told, of-fault, all-then, stops-then, none-asked}
 use Rattle.study_review.proofs.AskedSteps.{asked-one}
 use Rattle.study_review.proofs.NotHeld.{untold-of}
-use Rattle.study_view.specs.Asked.{EachTold, StoppedAt, HasToldEach, HasToldSome, HasViewed}
-use Rattle.study_review.specs.Asked.{AllTold, within}
+use Rattle.study_view.specs.Asked.{EachTold, StoppedAt, HasToldEach, HasToldSome, HasWalked, HasViewed}
+use Rattle.study_review.specs.Asked.{AllTold, Stopped, within}
 use Rattle.study_review.proofs.Within.{LeadsTo, EachReached, all-wider, stops-wider}
 use Rattle.study_review.proofs.Within.{some-told as told-within, some-fault as fault-within}
 use Rattle.study_view.specs.declared.fault.ViewFault.{ViewFault}
@@ -53,11 +54,11 @@ module _ {V : Type 0} (held : V → Class → Bool) (gives : V → Position → 
       → failed_of new ≡ failures_told r (failed_of old) → (is_honest old → is_honest new)
       → ((c : Class) → held new c ≡ held old c) → HasToldEach held gives may_fail asked_of failed_of is_honest {T = T} p asked old r new
   told-each p asked reached old new (Ok x) t f u d n i s = record {
-    each = t;
+    each = ([], subst (λ (qs : List Position). WereTold gives may_fail asked_of old qs new) (sym (append-nil asked)) t);
     all = of-told held (within p gives) may_fail asked_of failed_of is_honest old new (told-within may_fail asked_of gives p old new asked reached t) n i s;
   }
   told-each {T = T} p asked reached old new (Err e) t f u d n i s = record {
-    first = f;
+    first = ([], subst (λ (qs : List Position). IsFirstFault gives may_fail asked_of old qs e new) (sym (append-nil asked)) f);
     stopped = of-fault held (within p gives) may_fail asked_of failed_of is_honest T old new e
         (fault-within may_fail asked_of gives p (held old) old new asked e reached u f)
         (λ c q. untold-of (held old) asked e c u q) d n i s;
@@ -79,6 +80,100 @@ module _ {V : Type 0} (held : V → Class → Bool) (gives : V → Position → 
       → HasToldSome held (within p gives) may_fail asked_of failed_of is_honest {T = T} old r new
   some-wider p q lead old new (Ok x) h = all-wider held gives may_fail asked_of failed_of is_honest p q lead old new h
   some-wider p q lead old new (Err f) h = stops-wider held gives may_fail asked_of failed_of is_honest p q lead old new f h
+
+  -- what may be answered of positions to which one leads may be answered
+  plain-answer : (p : Position) (old : V) (q : Position) (a : ProbeAnswer) (new : V)
+      → Answers (within p gives) may_fail asked_of old q a new → Answers gives may_fail asked_of old q a new
+  plain-answer p old q a new h = record {
+    valid = h.valid;
+    given = h.given.0;
+    asked = h.asked;
+    failed_so = h.failed_so;
+    fails_as_before = h.fails_as_before;
+  }
+
+  plain-told : (p : Position) (old new : V) (qs : List Position) → WereTold (within p gives) may_fail asked_of old qs new
+      → WereTold gives may_fail asked_of old qs new
+  plain-told p old new [] h = h
+  plain-told p old new (q ∷ qs) (v, mid, a, h) = (v, mid, plain-answer p old q (Ok v) mid a, plain-told p mid new qs h)
+
+  plain-fault : (p : Position) (old new : V) (qs : List Position) (e : ProbeFault) → IsFirstFault (within p gives) may_fail asked_of old qs e new
+      → IsFirstFault gives may_fail asked_of old qs e new
+  plain-fault p old new [] e h = h
+  plain-fault p old new (q ∷ qs) e (inl a) = inl (plain-answer p old q (Err e) new a)
+  plain-fault p old new (q ∷ qs) e (inr (v, mid, a, h)) = inr (v, mid, plain-answer p old q (Ok v) mid a, plain-fault p mid new qs e h)
+
+  fault-behind : (old mid new : V) (xs ys : List Position) (f : ProbeFault) → WereTold gives may_fail asked_of old xs mid
+      → IsFirstFault gives may_fail asked_of mid ys f new → IsFirstFault gives may_fail asked_of old (xs ++ ys) f new
+  fault-behind old mid new [] ys f h k = subst (λ (s : V). IsFirstFault gives may_fail asked_of s ys f new) h k
+  fault-behind old mid new (x ∷ xs) ys f h k = inr (h.0, h.1, h.2, fault-behind h.1 mid new xs ys f h.3 k)
+
+  -- more questions after these
+  pub each-more : (p : Position) (asked : List Position) (old mid new : V)
+      → EachTold held gives may_fail asked_of failed_of is_honest p asked old mid
+      → AllTold held (within p gives) may_fail asked_of failed_of is_honest mid new
+      → EachTold held gives may_fail asked_of failed_of is_honest p asked old new
+  each-more p asked old mid new h k =
+      let xs = h.each.0 in
+      let ys = k.told.0 in
+      record {
+        each = (
+          xs ++ ys,
+          subst (λ (qs : List Position). WereTold gives may_fail asked_of old qs new) (append_assoc asked xs ys)
+              (told-append gives may_fail asked_of old mid new (asked ++ xs) ys h.each.1 (plain-told p mid new ys k.told.1)),
+        );
+        all = all-then held (within p gives) may_fail asked_of failed_of is_honest old mid new h.all k;
+      }
+
+  pub stopped-more : (p : Position) (asked : List Position) (old mid new : V) (f : ProbeFault)
+      → EachTold held gives may_fail asked_of failed_of is_honest p asked old mid
+      → Stopped held (within p gives) may_fail asked_of failed_of is_honest mid f new
+      → StoppedAt held gives may_fail asked_of failed_of is_honest p asked old f new
+  stopped-more p asked old mid new f h k =
+      let xs = h.each.0 in
+      let ys = k.told.0 in
+      record {
+        first = (
+          xs ++ ys,
+          subst (λ (qs : List Position). IsFirstFault gives may_fail asked_of old qs f new) (append_assoc asked xs ys)
+              (fault-behind old mid new (asked ++ xs) ys f h.each.1 (plain-fault p mid new ys f k.told.1)),
+        );
+        stopped = stops-then held (within p gives) may_fail asked_of failed_of is_honest old mid new f h.all k;
+      }
+
+  pub walked-more : (T U : Type 0) (p : Position) (asked : List Position) (old mid new : V) (e : ViewFault)
+      → EachTold held gives may_fail asked_of failed_of is_honest p asked old mid
+      → HasWalked held (within p gives) may_fail asked_of failed_of is_honest {T = T} mid (Err e) new
+      → HasViewed held gives may_fail asked_of failed_of is_honest {T = U} p asked old (Err e) new
+  walked-more T U p asked old mid new NoSuchNode h k = absurd k
+  walked-more T U p asked old mid new OutOfMemory h k = each-more p asked old mid new h k
+  walked-more T U p asked old mid new Device h k = absurd k
+  walked-more T U p asked old mid new (Values f) h k = stopped-more p asked old mid new f h k
+
+  -- ---- walks
+
+  pub walks-then : {T : Type 0} (old mid new : V) (r : Result T ViewFault) → AllTold held gives may_fail asked_of failed_of is_honest old mid
+      → HasWalked held gives may_fail asked_of failed_of is_honest {T = T} mid r new
+      → HasWalked held gives may_fail asked_of failed_of is_honest {T = T} old r new
+  walks-then old mid new (Ok x) h k = all-then held gives may_fail asked_of failed_of is_honest old mid new h k
+  walks-then old mid new (Err NoSuchNode) h k = absurd k
+  walks-then old mid new (Err OutOfMemory) h k = all-then held gives may_fail asked_of failed_of is_honest old mid new h k
+  walks-then old mid new (Err Device) h k = absurd k
+  walks-then old mid new (Err (Values f)) h k = stops-then held gives may_fail asked_of failed_of is_honest old mid new f h k
+
+  pub walks-so : (T : Type 0) {U : Type 0} (old new : V) (r : Result U ViewFault) (e : ViewFault) → IsErrAnd r (λ x. x ≡ e)
+      → HasWalked held gives may_fail asked_of failed_of is_honest {T = T} old (Err e) new
+      → HasWalked held gives may_fail asked_of failed_of is_honest {T = U} old r new
+  walks-so T old new (Ok x) e is h = absurd is
+  walks-so T {U = U} old new (Err x) e is h =
+      subst (λ (y : ViewFault). HasWalked held gives may_fail asked_of failed_of is_honest {T = U} old (Err y) new) (sym is) (walks-as T U old new e h)
+    where
+      walks-as : (A B : Type 0) (old new : V) (e : ViewFault) → HasWalked held gives may_fail asked_of failed_of is_honest {T = A} old (Err e) new
+          → HasWalked held gives may_fail asked_of failed_of is_honest {T = B} old (Err e) new
+      walks-as A B old new NoSuchNode h = h
+      walks-as A B old new OutOfMemory h = h
+      walks-as A B old new Device h = h
+      walks-as A B old new (Values f) h = h
 
   -- a refusal of a view, where each value was told
   pub refused-after : {T : Type 0} (p : Position) (asked : List Position) (old new : V) (r : Result T ViewFault) (e : ViewFault) → IsErrAnd r (λ x. x ≡ e)
@@ -114,3 +209,16 @@ module _ {V : Type 0} (held : V → Class → Bool) (gives : V → Position → 
   value-told old new p (Err e) valid g n so before u d f i s =
       of-fault held gives may_fail asked_of failed_of is_honest Value old new e (asked-one gives may_fail asked_of old new p (Err e) valid g n so before)
       (λ c q. u c (ap Err q)) d (f ∙ same-faults (failed_of old) (Err e)) i s
+
+-- a walk of a position that leads to it
+module _ {V : Type 0} (held : V → Class → Bool) (gives : V → Position → ProbeAnswer → Type 0)
+    (may_fail : V → Class → SourceFault → Type 0) (asked_of failed_of : V → ℕ) (is_honest : V → Type 0)
+    (p q : Position) (lead : LeadsTo p q) where
+  pub walks-wider : {T : Type 0} (old new : V) (r : Result T ViewFault)
+      → HasWalked held (within q gives) may_fail asked_of failed_of is_honest {T = T} old r new
+      → HasWalked held (within p gives) may_fail asked_of failed_of is_honest {T = T} old r new
+  walks-wider old new (Ok x) h = all-wider held gives may_fail asked_of failed_of is_honest p q lead old new h
+  walks-wider old new (Err NoSuchNode) h = h
+  walks-wider old new (Err OutOfMemory) h = all-wider held gives may_fail asked_of failed_of is_honest p q lead old new h
+  walks-wider old new (Err Device) h = h
+  walks-wider old new (Err (Values f)) h = stops-wider held gives may_fail asked_of failed_of is_honest p q lead old new f h

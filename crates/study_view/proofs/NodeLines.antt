@@ -8,7 +8,10 @@ use Rattle.study_notation.specs.declared.start.Start.{Start}
 use Rattle.study_tree.specs.Tree.{spot_at}
 use Rattle.study_marks.specs.declared.mark.Mark.{Mark}
 use Rattle.study_marks.specs.FaultSums.{below_at}
-use Rattle.study_marks.specs.Study.{Study}
+use Rattle.study_marks.specs.Study.{Study, position_at}
+use Rattle.study_board.specs.Position.{Position}
+use Rattle.study_review.specs.declared.zugzwang.Zugzwang.{Zugzwang}
+use Rattle.study_review.specs.Zugzwang.{IsZugzwangOf, zugzwang_line, ZugzwangLines}
 use Rattle.study_review.specs.Made.{Grew}
 use Rattle.study_review.specs.Review.{paths_from, LinesOfEach, written_order}
 use Rattle.study_view.specs.Nodes.{IsNodeLine}
@@ -27,6 +30,21 @@ all-lines s p old new e h =
     let lines : LinesOfEach (IsNodeLine s) (written_order s) h.0 =
     subst (λ (x : List ℕ). LinesOfEach (IsNodeLine s) (x ∷ paths_from x 0 (below_at s.tree.below x)) h.0) e h.1 in
     h.2 ∙ ap (λ (t : List ℕ). old ++ t) (each-line s (written_order s) h.0 lines)
+
+-- the lines of all mutual zugzwangs
+pub all-zugzwangs : (s : Study Mark) (p old new : List ℕ) → p ≡ [] → old ≡ []
+    → Grew (LinesOfEach (ZugzwangLines s) (p ∷ paths_from p 0 (below_at s.tree.below p))) old new
+    → LinesOfEach (ZugzwangLines s) (written_order s) new
+all-zugzwangs s p old new e none h =
+    let lines : LinesOfEach (ZugzwangLines s) (written_order s) h.0 =
+    subst (λ (x : List ℕ). LinesOfEach (ZugzwangLines s) (x ∷ paths_from x 0 (below_at s.tree.below x)) h.0) e h.1 in
+    subst (λ (t : List ℕ). LinesOfEach (ZugzwangLines s) (written_order s) t) (sym (h.2 ∙ ap (λ (t : List ℕ). t ++ h.0) none)) lines
+
+-- the line of a mutual zugzwang at the node of the path
+pub zugzwang-grew : (s : Study Mark) (steps : List ℕ) (p : Position) (old new : List ℕ) → p ≡ position_at s steps
+    → ((z : Option Zugzwang) × IsZugzwangOf p z × (new ≡ old ++ zugzwang_line steps z)) → Grew (ZugzwangLines s steps) old new
+zugzwang-grew s steps p old new e h =
+    (zugzwang_line steps h.0, (h.0, subst (λ (q : Position). IsZugzwangOf q h.0) e h.1, refl), h.2)
 
 -- by its own line
 pub own-grew : (s : Study Mark) (p steps old new : List ℕ) → p ≡ steps → new ≡ old ++ node_line s p → Grew (IsNodeLine s steps) old new

@@ -19,6 +19,8 @@ use Rattle.study_marks.specs.Trial.{IsMarkOf}
 use Rattle.study_marks.proofs.OneAnnotation.{one-value, one-list}
 use Rattle.study_marks.proofs.PathRenewed.{spot-there}
 use Rattle.study_review.specs.Review.{stipulation_line, written_order}
+use Rattle.study_review.specs.Zugzwang.{ZugzwangLines}
+use Rattle.study_review.proofs.OneReview.{one-each, zugzwang-once}
 use Rattle.study_view.specs.Words.{study_line, at_line, move_line}
 use Rattle.study_view.specs.View.{start_to, node_line, AreMoveLines, ViewsAreUnique}
 
@@ -45,7 +47,9 @@ lines-once law s path x e (m ∷ ms) t u h j =
 
 pub one-view : EachHasAtMostOneValue → ViewsAreUnique
 one-view law s path t u h j =
-    let spot = spot-there s.tree path h.1 in
+    let spot = spot-there s.tree path h.2 in
     let p = position_at s path in
-    h.3 ∙ ap (λ (m : List ℕ). study_line s.start ++ (stipulation_line s ++ (flat_map (node_line s) (written_order s) ++ (at_line path p ++ m))))
-    (lines-once law s path spot.0 spot.1 (legal_list p) h.0 j.0 h.2 j.2) ∙ sym j.3
+    h.5 ∙ ap (λ (m : List ℕ). study_line s.start ++ (stipulation_line s ++ (flat_map (node_line s) (written_order s) ++ (at_line path p ++ (m ++ h.1)))))
+    (lines-once law s path spot.0 spot.1 (legal_list p) h.0 j.0 h.3 j.3)
+    ∙ ap (λ (z : List ℕ). study_line s.start ++ (stipulation_line s ++ (flat_map (node_line s) (written_order s) ++ (at_line path p ++ (j.0 ++ z)))))
+    (one-each (ZugzwangLines s) (zugzwang-once law s) (written_order s) h.1 j.1 h.4 j.4) ∙ sym j.5

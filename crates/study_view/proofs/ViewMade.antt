@@ -13,7 +13,8 @@ use Rattle.study_marks.specs.Study.{Study, position_at}
 use Rattle.study_review.specs.declared.continuation.Continuation.{Continuation}
 use Rattle.study_review.specs.Continuations.{AreChosen, each_after}
 use Rattle.study_review.specs.Nodes.{value_at}
-use Rattle.study_review.specs.Review.{stipulation_line, written_order}
+use Rattle.study_review.specs.Review.{stipulation_line, LinesOfEach, written_order}
+use Rattle.study_review.specs.Zugzwang.{ZugzwangLines}
 use Rattle.study_view.specs.Marking.{holding_count, told_line}
 use Rattle.study_view.specs.View.{start_to, node_line, IsView, asked_at}
 use Rattle.study_view.specs.Words.{study_line, at_line}
@@ -24,17 +25,21 @@ pub asked-is : {L : Type 0} (s : Study L) (path : List ℕ) (here : Start) → h
     → each_after here.position (legal_list here.position) ≡ asked_at s path
 asked-is s path here e = ap (λ p. each_after p (legal_list p)) (position-of s path here e)
 
-pub view-is : (s : Study Mark) (path : List ℕ) (here : Start) (a : Aim) (d : ℕ) (before : Value) (list : List Continuation) (text : List ℕ)
-    → IsTrue (has_spot s.tree path) → here ≡ start_to s path → a ≡ aim_of s → d ≡ length path → before ≡ value_at s path
+pub view-is : (s : Study Mark) (path : List ℕ) (here : Start) (a : Aim) (d : ℕ) (before : Value) (list : List Continuation)
+    (nodes zugzwangs text : List ℕ) → IsTrue (has_spot s.tree path) → here ≡ start_to s path → a ≡ aim_of s → d ≡ length path → before ≡ value_at s path
     → AreChosen (λ v. true) here.position (legal_list here.position) list
-    → text ≡ study_line s.start ++ (stipulation_line s ++ (flat_map (node_line s) (written_order s) ++ (at_line path here.position
-    ++ flat_map (told_line a d here before (holding_count a d list)) list)))
+    → nodes ≡ flat_map (node_line s) (written_order s) → LinesOfEach (ZugzwangLines s) (written_order s) zugzwangs
+    → text ≡ study_line s.start ++ (stipulation_line s ++ (nodes ++ (at_line path here.position
+    ++ (flat_map (told_line a d here before (holding_count a d list)) list ++ zugzwangs))))
     → IsView s path text
-view-is s path here a d before list text found e ea ed ev chosen h =
+view-is s path here a d before list nodes zugzwangs text found e ea ed ev chosen en zs h =
     let p : here.position ≡ position_at s path = position-of s path here e in
     let lines = flat_map (told_line a d here before (holding_count a d list)) list in (
       lines,
+      zugzwangs,
       found,
       moves-told s path a d here before list ea ed e ev (subst (λ (q : Position). AreChosen (λ v. true) q (legal_list q) list) p chosen),
-      h ∙ ap (λ q. study_line s.start ++ (stipulation_line s ++ (flat_map (node_line s) (written_order s) ++ (at_line path q ++ lines)))) p,
+      zs,
+      h ∙ ap (λ (t : List ℕ). study_line s.start ++ (stipulation_line s ++ (t ++ (at_line path here.position ++ (lines ++ zugzwangs))))) en
+          ∙ ap (λ q. study_line s.start ++ (stipulation_line s ++ (flat_map (node_line s) (written_order s) ++ (at_line path q ++ (lines ++ zugzwangs))))) p,
     )

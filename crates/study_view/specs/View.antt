@@ -13,7 +13,8 @@ use Rattle.study_marks.specs.Annotated.{IsAnnotated}
 use Rattle.study_marks.specs.Trial.{IsMarkOf}
 use Rattle.study_review.specs.Continuations.{each_after}
 use Rattle.study_review.specs.Nodes.{front_of}
-use Rattle.study_review.specs.Review.{stipulation_line, written_order}
+use Rattle.study_review.specs.Review.{stipulation_line, LinesOfEach, written_order}
+use Rattle.study_review.specs.Zugzwang.{ZugzwangLines}
 use Rattle.study_view.specs.Words.{study_line, node_words, at_line, move_line}
 
 -- the start, with its counts, at the node of the path
@@ -35,10 +36,12 @@ AreMoveLines s path (m ∷ ms) text =
 -- moves there are at the path, and each of them.
 abbrev pub IsView : Study Mark → List ℕ → List ℕ → Type 0
 IsView s path text =
-    (moves : List ℕ)
+    (moves zugzwangs : List ℕ)
     × IsTrue (has_spot s.tree path)
     × AreMoveLines s path (legal_list (position_at s path)) moves
-    × (text ≡ study_line s.start ++ (stipulation_line s ++ (flat_map (node_line s) (written_order s) ++ (at_line path (position_at s path) ++ moves))))
+    × LinesOfEach (ZugzwangLines s) (written_order s) zugzwangs
+    × (text ≡ study_line s.start ++ (stipulation_line s ++ (flat_map (node_line s) (written_order s)
+    ++ (at_line path (position_at s path) ++ (moves ++ zugzwangs)))))
 
 -- a study has one view at a path
 abbrev pub ViewsAreUnique : Type 0
@@ -53,6 +56,6 @@ abbrev pub PlainStudiesHaveOneView : Type 0
 PlainStudiesHaveOneView =
     (plain : Study (Unit {0})) (path : List ℕ) (t u : List ℕ) → IsViewOf plain path t → IsViewOf plain path u → t ≡ u
 
--- the positions whose values a view asks: those after the legal moves at the path
+-- the positions that a view evaluates first: those after the legal moves at the path
 abbrev pub asked_at : {L : Type 0} → Study L → List ℕ → List Position
 asked_at s path = each_after (position_at s path) (legal_list (position_at s path))

@@ -1,20 +1,27 @@
 //! The lines of all nodes, in written order.
-ghost use Rattle.std.specs.Prelude.{◌≡◌, ◌++◌, ◌∷◌, [], None, IsTrue, OnOk};
+ghost use Rattle.std.specs.Prelude.{◌≡◌, ◌++◌, ◌∷◌, [], Option, None, IsTrue, OnOk};
 ghost use Rattle.study_tree.specs.Tree.{has_spot};
 ghost use Rattle.study_marks.specs.BenchState.{marked};
 ghost use Rattle.study_marks.specs.FaultSums.{below_at};
 ghost use Rattle.study_review.specs.Made.{Grew};
+ghost use Rattle.study_review.specs.Asked.{within};
 ghost use Rattle.study_review.specs.Nodes.{front_of};
+ghost use Rattle.study_review.specs.Zugzwang.{IsZugzwangOf, zugzwang_line, ZugzwangLines};
+ghost use Rattle.study_review.specs.declared.zugzwang.Zugzwang.{Zugzwang as AZugzwang};
+ghost use Rattle.study_view.specs.Asked.{HasWalked};
 ghost use Rattle.study_review.specs.Review.{paths_from, LinesOfEach};
 ghost use Rattle.study_view.specs.View.{start_to, node_line};
 ghost use Rattle.study_view.specs.Nodes.{IsNodeLine};
 
+use crate::fault::ViewFault;
 use crate::words::add_node;
 use std::alloc::{AllocError, Allocator};
+use study_board::Position;
 use study_marks::Bench;
 use study_notation::Start;
-use study_review::{count_at, move_to};
+use study_review::{add_zugzwang_line, count_at, move_to, zugzwang_at};
 use study_text::Text;
+use study_values::Values;
 
 /// The start at a node, by that of the node before it.
 fn start_from<'b, B: Allocator>(bench: &Bench<'b, B>, steps: &[u16], before: &Start) -> Start
@@ -33,7 +40,7 @@ fn start_from<'b, B: Allocator>(bench: &Bench<'b, B>, steps: &[u16], before: &St
 }
 
 /// The line of the node at the path.
-fn add_own<'b, A: Allocator, B: Allocator>(
+fn add_node_at<'b, A: Allocator, B: Allocator>(
     text: &mut Text<'_, A>,
     bench: &Bench<'b, B>,
     steps: &[u16],
@@ -61,27 +68,80 @@ fn go_down<A: Allocator>(steps: &mut Vec<u16, &A>, place: u16) -> Result<(), All
     }
 }
 
-/// The lines of the node at the path and of all below it.
-pub fn add_nodes<'b, A: Allocator, B: Allocator>(
+/// The line of a mutual zugzwang.
+fn add_zugzwang<A: Allocator, V: Values>(
     text: &mut Text<'_, A>,
+    steps: &[u16],
+    p: &Position,
+    values: &mut V,
+) -> Result<(), ViewFault>
+    ensures text { V.is_honest values.old → OnOk result ((z : Option AZugzwang) × IsZugzwangOf p.now z
+        × (text.new ≡ text.old ++ zugzwang_line steps.now z)) }
+    ensures asked { HasWalked V.held (within p.now V.gives) V.may_fail V.asked_of V.failed_of V.is_honest values.old result values.new }
+{
+    match zugzwang_at(p, values) {
+        Err(fault) => Err(ViewFault::Values(fault)),
+        Ok(zugzwang) => {
+            add_zugzwang_line(text, steps, zugzwang)?;
+            Ok(())
+        }
+    }
+}
+
+/// The lines of the nodes, and those of the mutual zugzwangs.
+#[derive(Drop)]
+pub struct Lines<'a, A: Allocator> {
+    pub nodes: Text<'a, A>,
+    pub zugzwangs: Text<'a, A>,
+}
+
+/// The lines of the node at the path.
+fn add_own<'b, A: Allocator, B: Allocator, V: Values>(
+    lines: &mut Lines<'_, A>,
+    bench: &Bench<'b, B>,
+    steps: &[u16],
+    before: &Start,
+    here: &Start,
+    values: &mut V,
+) -> Result<(), ViewFault>
+    requires before { before.now ≡ start_to (marked bench.now) (front_of steps.now) }
+    requires here { here.now ≡ start_to (marked bench.now) steps.now }
+    ensures nodes { OnOk result (lines.new.nodes ≡ lines.old.nodes ++ node_line (marked bench.now) steps.now) }
+    ensures zugzwangs { V.is_honest values.old
+        → OnOk result (Grew (ZugzwangLines (marked bench.now) steps.now) lines.old.zugzwangs lines.new.zugzwangs) }
+    ensures asked { HasWalked V.held (within (marked bench.now).start.position V.gives) V.may_fail V.asked_of V.failed_of V.is_honest values.old result values.new }
+{
+    let first = bench.start();
+    add_node_at(&mut lines.nodes, bench, steps, before, here)?;
+    add_zugzwang(&mut lines.zugzwangs, steps, &here.position, values)
+}
+
+/// The lines of the node at the path and of all below it.
+pub fn add_nodes<'b, A: Allocator, B: Allocator, V: Values>(
+    lines: &mut Lines<'_, A>,
     bench: &Bench<'b, B>,
     steps: &mut Vec<u16, &A>,
     before: &Start,
     here: &Start,
-) -> Result<(), AllocError>
+    values: &mut V,
+) -> Result<(), ViewFault>
     requires found { IsTrue (has_spot (marked bench.now).tree steps.old.items) }
     requires before { before.now ≡ start_to (marked bench.now) (front_of steps.old.items) }
     requires here { here.now ≡ start_to (marked bench.now) steps.old.items }
-    ensures text { OnOk result (Grew (LinesOfEach (IsNodeLine (marked bench.now))
-        (steps.old.items ∷ paths_from steps.old.items 0 (below_at (marked bench.now).tree.below steps.old.items))) text.old text.new) }
+    ensures nodes { OnOk result (Grew (LinesOfEach (IsNodeLine (marked bench.now))
+        (steps.old.items ∷ paths_from steps.old.items 0 (below_at (marked bench.now).tree.below steps.old.items))) lines.old.nodes lines.new.nodes) }
+    ensures zugzwangs { V.is_honest values.old → OnOk result (Grew (LinesOfEach (ZugzwangLines (marked bench.now))
+        (steps.old.items ∷ paths_from steps.old.items 0 (below_at (marked bench.now).tree.below steps.old.items)))
+        lines.old.zugzwangs lines.new.zugzwangs) }
     ensures path { OnOk result (steps.new.items ≡ steps.old.items) }
+    ensures asked { HasWalked V.held (within (marked bench.now).start.position V.gives) V.may_fail V.asked_of V.failed_of V.is_honest values.old result values.new }
 {
-    add_own(text, bench, steps.as_slice(), before, here)?;
+    add_own(lines, bench, steps.as_slice(), before, here, values)?;
     let count = count_at(bench, steps.as_slice());
     for place in 0..count {
         go_down(steps, place)?;
         let next = start_from(bench, steps.as_slice(), here);
-        add_nodes(text, bench, steps, here, &next)?;
+        add_nodes(lines, bench, steps, here, &next, values)?;
         steps.pop();
     }
     Ok(())

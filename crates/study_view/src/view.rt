@@ -9,8 +9,10 @@ ghost use Rattle.study_marks.specs.Goals.{aim_of};
 ghost use Rattle.study_marks.specs.BenchState.{marked, IsKeptRight};
 ghost use Rattle.study_marks.specs.Study.{plain_study};
 ghost use Rattle.study_values.specs.declared.values.ProbeFault.{ProbeFault as AProbeFault};
-ghost use Rattle.study_review.specs.Review.{stipulation_line, written_order};
-ghost use Rattle.study_view.specs.Asked.{HasViewed};
+ghost use Rattle.study_review.specs.Asked.{within};
+ghost use Rattle.study_review.specs.Review.{stipulation_line, LinesOfEach, written_order};
+ghost use Rattle.study_review.specs.Zugzwang.{ZugzwangLines};
+ghost use Rattle.study_view.specs.Asked.{HasViewed, HasWalked};
 ghost use Rattle.study_view.specs.Marking.{holding_count, told_line};
 ghost use Rattle.study_view.specs.View.{start_to, node_line, IsView, IsViewOf, asked_at};
 ghost use Rattle.study_view.specs.Words.{study_line, at_line};
@@ -18,7 +20,7 @@ ghost use Rattle.study_view.specs.Words.{study_line, at_line};
 use crate::asking::ask_moves;
 use crate::fault::ViewFault;
 use crate::marking::{Here, add_moves};
-use crate::nodes::add_nodes;
+use crate::nodes::{Lines, add_nodes};
 use crate::words::{add_at, add_study};
 use std::alloc::{AllocError, Allocator};
 use std::io::Write;
@@ -43,39 +45,50 @@ fn add_head<'b, A: Allocator, B: Allocator>(
 }
 
 /// The lines of all nodes.
-fn add_tree<'a, 'b, A: Allocator, B: Allocator>(
+fn tree_lines<'a, 'b, A: Allocator, B: Allocator, V: Values>(
     alloc: &'a A,
-    text: &mut Text<'_, A>,
     bench: &Bench<'b, B>,
-) -> Result<(), AllocError>
-    ensures { OnOk result (text.new ≡ text.old ++ flat_map (node_line (marked bench.now)) (written_order (marked bench.now))) }
+    values: &mut V,
+) -> Result<Lines<'a, A>, ViewFault>
+    ensures nodes { IfOk result (λ lines. lines.nodes ≡ flat_map (node_line (marked bench.now)) (written_order (marked bench.now))) }
+    ensures zugzwangs { V.is_honest values.old → IfOk result (λ lines.
+        LinesOfEach (ZugzwangLines (marked bench.now)) (written_order (marked bench.now)) lines.zugzwangs) }
+    ensures asked { HasWalked V.held (within (marked bench.now).start.position V.gives) V.may_fail V.asked_of V.failed_of V.is_honest values.old result values.new }
 {
+    let mut lines = Lines {
+        nodes: Text::new(alloc),
+        zugzwangs: Text::new(alloc),
+    };
     let mut steps = Vec::new(alloc);
-    add_nodes(text, bench, &mut steps, bench.start(), bench.start())
+    let first = bench.start();
+    add_nodes(&mut lines, bench, &mut steps, first, first, values)?;
+    Ok(lines)
 }
 
-/// The text of the view, by all legal moves with the values after them.
+/// The text of the view, by all legal moves with the values after them, and the lines of all nodes.
 fn text_of<'a, 'b, A: Allocator, B: Allocator>(
     alloc: &'a A,
     bench: &Bench<'b, B>,
     steps: &[u16],
     here: &Here<'_>,
     list: &[Continuation],
+    lines: &Lines<'_, A>,
 ) -> Result<Text<'a, A>, AllocError>
     requires short { length steps.now ≤ 256 }
     requires depth { here.now.depth ≡ length steps.now }
     requires few { length list.now ≤ MAX_MOVES }
     requires legal { All (λ x. is_legal here.now.start.now.position x.played ≡ true) list.now }
     ensures { IfOk result (λ text. text ≡ study_line (marked bench.now).start ++ (stipulation_line (marked bench.now)
-        ++ (flat_map (node_line (marked bench.now)) (written_order (marked bench.now)) ++ (at_line steps.now here.now.start.now.position
-        ++ flat_map (told_line here.now.aim.now here.now.depth here.now.start.now here.now.value
-        (holding_count here.now.aim.now here.now.depth list.now)) list.now)))) }
+        ++ (lines.now.nodes ++ (at_line steps.now here.now.start.now.position
+        ++ (flat_map (told_line here.now.aim.now here.now.depth here.now.start.now here.now.value
+        (holding_count here.now.aim.now here.now.depth list.now)) list.now ++ lines.now.zugzwangs))))) }
 {
     let mut text = Text::new(alloc);
     add_head(&mut text, bench)?;
-    add_tree(alloc, &mut text, bench)?;
+    text.add(lines.nodes.as_slice())?;
     add_at(&mut text, steps, &here.start.position)?;
     add_moves(&mut text, here, list)?;
+    text.add(lines.zugzwangs.as_slice())?;
     Ok(text)
 }
 
@@ -110,7 +123,8 @@ fn view_from<'a, 'b, A: Allocator, B: Allocator, V: Values>(
         start,
         value: value_at(bench, steps),
     };
-    let text = text_of(alloc, bench, steps, &here, moves.as_slice())?;
+    let lines = tree_lines(alloc, bench, values)?;
+    let text = text_of(alloc, bench, steps, &here, moves.as_slice(), &lines)?;
     Ok(text)
 }
 
@@ -136,8 +150,8 @@ fn view_at<'a, 'b, A: Allocator, B: Allocator, V: Values>(
 
 /// Writes the view of a study at a path.
 ///
-/// The values after all legal moves at the path are asked, and then the text is made whole: want of memory, and a value that
-/// cannot be read, are reported before the first byte. A writer that fails or takes nothing ends the call; it has taken a prefix of the text then.
+/// The values after all legal moves at the path are read, then those of the nodes and of the same men with the other side to move, and then
+/// the text is made whole: want of memory, and a value that cannot be read, are reported before the first byte. A writer that fails or takes nothing ends the call; it has taken a prefix of the text then.
 pub fn write_view<'a, 'b, A: Allocator, B: Allocator, V: Values, W: Write>(
     alloc: &'a A,
     bench: &Bench<'b, B>,

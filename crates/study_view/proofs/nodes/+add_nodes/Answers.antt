@@ -5,6 +5,10 @@ use Rattle.study_marks.specs.FaultSums.{below_at}
 use Rattle.study_marks.specs.BenchState.{marked}
 use Rattle.study_pgn.proofs.ChildSteps.{popped}
 use Rattle.study_review.specs.Made.{Grew}
+use Rattle.study_review.specs.Asked.{within}
+use Rattle.study_review.specs.Zugzwang.{ZugzwangLines}
+use Rattle.study_review.proofs.Asking.{all-then}
+use Rattle.study_view.proofs.AllAsked.{walks-then, walks-so}
 use Rattle.study_review.proofs.WrittenOrder.{there-child, fewer-child, none-yet, child-written, all-written}
 use Rattle.study_view.specs.Nodes.{IsNodeLine}
 use Rattle.study_view.specs.View.{start_to}
@@ -16,8 +20,10 @@ pub loop-place-init : goal.loop-place-init
 loop-place-init g t c =
     let path = c.args.steps.now.items in
     record {
-      written = none-yet (IsNodeLine (marked c.args.bench.now)) path (below_at (marked c.args.bench.now).tree.below path) c.add_own.new.text;
+      nodes = none-yet (IsNodeLine (marked c.args.bench.now)) path (below_at (marked c.args.bench.now).tree.below path) c.add_own.new.lines.nodes;
+      zugzwangs = λ h. none-yet (ZugzwangLines (marked c.args.bench.now)) path (below_at (marked c.args.bench.now).tree.below path) c.add_own.new.lines.zugzwangs;
       back = refl;
+      told = c.in_ok-add_own.ensures.asked;
     }
 
 pub start_from-next-requires-clause-found : goal.start_from-next-requires-clause-found
@@ -53,12 +59,15 @@ add_nodes-requires g t c κs within =
       (
         within.0,
         (
-          within.1,
+          within.1.0,
           (
-            there-child s.tree steps c.go_down.new.steps.items k path lt,
+            within.1.1,
             (
-              after-front s c.go_down.new.steps.items steps k c.args.here.now path c.requires.here,
-              c.start_from-next.ensures ∙ ap (start_to s) c.as_slice-in-loop-place.ensures.value,
+              there-child s.tree steps c.go_down.new.steps.items k path lt,
+              (
+                after-front s c.go_down.new.steps.items steps k c.args.here.now path c.requires.here,
+                c.start_from-next.ensures ∙ ap (start_to s) c.as_slice-in-loop-place.ensures.value,
+              ),
             ),
           ),
         ),
@@ -75,18 +84,42 @@ loop-place-preserved g t c =
     let lt : k < width (below_at tree.below steps) =
     omega (arith, c.loop-place-test.true, c.count_at-count.ensures, ap (λ (st : List ℕ). width (below_at tree.below st)) c.as_slice-2.ensures.value) in
     record {
-      written = child-written (IsNodeLine (marked c.args.bench.now)) tree.below steps c.go_down.new.steps.items k c.add_own.new.text
-          c.loop-place.text c.add_nodes.new.text path lt c.in_ok-add_nodes.ensures.text c.loop-place.invariant.written;
+      nodes = child-written (IsNodeLine (marked c.args.bench.now)) tree.below steps c.go_down.new.steps.items k c.add_own.new.lines.nodes
+          c.loop-place.lines.nodes c.add_nodes.new.lines.nodes path lt c.in_ok-add_nodes.ensures.nodes c.loop-place.invariant.nodes;
+      zugzwangs = λ h.
+          child-written (ZugzwangLines (marked c.args.bench.now)) tree.below steps c.go_down.new.steps.items k c.add_own.new.lines.zugzwangs
+          c.loop-place.lines.zugzwangs c.add_nodes.new.lines.zugzwangs path lt
+          (c.in_ok-add_nodes.ensures.zugzwangs (c.loop-place.invariant.told.honest h)) (c.loop-place.invariant.zugzwangs h);
       back = popped steps c.add_nodes.new.steps.items c.pop.new.self.items k (vec_len c.add_nodes.new.steps)
           (c.in_ok-add_nodes.ensures.path ∙ path) (omega (arith, c.add_nodes.new.steps.ok.0)) c.pop.ensures.rest;
+      told = all-then g.V.Values.held (within (marked c.args.bench.now).start.position g.V.Values.gives) g.V.Values.may_fail g.V.Values.asked_of g.V.Values.failed_of g.V.Values.is_honest
+          c.args.values.now c.loop-place.values c.add_nodes.new.values c.loop-place.invariant.told c.in_ok-add_nodes.ensures.asked;
     }
 
-pub returns-clause-text : goal.returns-clause-text
-returns-clause-text g t c =
+pub returns-clause-nodes : goal.returns-clause-nodes
+returns-clause-nodes g t c =
     let tree = (marked c.args.bench.now).tree in
     let steps = c.args.steps.now.items in
     let few : width (below_at tree.below steps) ≤ c.loop-place.place =
     omega (arith, c.loop-place-test.false, c.count_at-count.ensures, ap (λ (st : List ℕ). width (below_at tree.below st)) c.as_slice-2.ensures.value) in
-    all-written (IsNodeLine (marked c.args.bench.now)) tree.below steps c.loop-place.place c.args.text.now c.add_own.new.text c.loop-place.text few
-    (own-grew (marked c.args.bench.now) c.as_slice.result.now steps c.args.text.now c.add_own.new.text c.as_slice.ensures.value c.in_ok-add_own.ensures)
-    c.loop-place.invariant.written
+    all-written (IsNodeLine (marked c.args.bench.now)) tree.below steps c.loop-place.place c.args.lines.now.nodes c.add_own.new.lines.nodes c.loop-place.lines.nodes few
+    (own-grew (marked c.args.bench.now) c.as_slice.result.now steps c.args.lines.now.nodes c.add_own.new.lines.nodes c.as_slice.ensures.value c.in_ok-add_own.ensures.nodes)
+    c.loop-place.invariant.nodes
+
+pub returns-clause-zugzwangs : goal.returns-clause-zugzwangs
+returns-clause-zugzwangs g t c h =
+    let tree = (marked c.args.bench.now).tree in
+    let steps = c.args.steps.now.items in
+    let few : width (below_at tree.below steps) ≤ c.loop-place.place =
+    omega (arith, c.loop-place-test.false, c.count_at-count.ensures, ap (λ (st : List ℕ). width (below_at tree.below st)) c.as_slice-2.ensures.value) in
+    all-written (ZugzwangLines (marked c.args.bench.now)) tree.below steps c.loop-place.place c.args.lines.now.zugzwangs c.add_own.new.lines.zugzwangs c.loop-place.lines.zugzwangs few
+    (subst (λ (st : List ℕ). Grew (ZugzwangLines (marked c.args.bench.now) st) c.args.lines.now.zugzwangs c.add_own.new.lines.zugzwangs) c.as_slice.ensures.value
+    (c.in_ok-add_own.ensures.zugzwangs h)) (c.loop-place.invariant.zugzwangs h)
+
+pub returns-in_err-add_nodes-clause-asked : goal.returns-in_err-add_nodes-clause-asked
+returns-in_err-add_nodes-clause-asked g t c =
+    walks-then g.V.Values.held (within (marked c.args.bench.now).start.position g.V.Values.gives) g.V.Values.may_fail g.V.Values.asked_of g.V.Values.failed_of g.V.Values.is_honest
+    c.args.values.now c.loop-place.values c.add_nodes.new.values c.from_residual-in_err-add_nodes.result c.loop-place.invariant.told
+    (walks-so g.V.Values.held (within (marked c.args.bench.now).start.position g.V.Values.gives) g.V.Values.may_fail g.V.Values.asked_of g.V.Values.failed_of g.V.Values.is_honest (Unit {0})
+    c.loop-place.values c.add_nodes.new.values c.from_residual-in_err-add_nodes.result c.in_err-add_nodes.field-0.0
+    c.from_residual-in_err-add_nodes.ensures.1 c.in_err-add_nodes.ensures.asked)

@@ -3,6 +3,8 @@ use Rattle.study_tree.specs.Forest.{nodes_in}
 use Rattle.study_marks.specs.BenchState.{marked}
 use Rattle.study_marks.specs.FaultSums.{below_at}
 use Rattle.study_review.proofs.WrittenOrder.{GoesOn}
+use Rattle.study_review.specs.Asked.{AllTold, within}
+use Rattle.study_review.specs.Zugzwang.{ZugzwangLines}
 use Rattle.study_view.specs.Nodes.{IsNodeLine}
 use Rattle.study_view.proofs.nodes.+add_nodes.Given as goal
 
@@ -13,7 +15,11 @@ decreases-add_nodes g l = nodes_in (below_at (marked l.bench.now).tree.below l.s
 -- what is written, and any lines of the nodes that are left, are lines of all
 abbrev pub invariant-loop-place : goal.invariant-loop-place
 invariant-loop-place g l = record {
-  written : GoesOn (IsNodeLine (marked l.bench)) l.fn.steps.items
-      (below_at (marked l.bench).tree.below l.fn.steps.items) l.place l.initial.text l.text;
+  nodes : GoesOn (IsNodeLine (marked l.bench)) l.fn.steps.items
+      (below_at (marked l.bench).tree.below l.fn.steps.items) l.place l.initial.lines.nodes l.lines.nodes;
+  zugzwangs : g.V.Values.is_honest l.fn.values → GoesOn (ZugzwangLines (marked l.bench)) l.fn.steps.items
+      (below_at (marked l.bench).tree.below l.fn.steps.items) l.place l.initial.lines.zugzwangs l.lines.zugzwangs;
   back : l.steps.items ≡ l.fn.steps.items;
+  told : AllTold g.V.Values.held (within (marked l.bench).start.position g.V.Values.gives) g.V.Values.may_fail g.V.Values.asked_of g.V.Values.failed_of g.V.Values.is_honest
+      l.fn.values l.values;
 }

@@ -3,7 +3,7 @@ use Rattle.std.proofs.lemmas.Result.{on_ok_weaker}
 use Rattle.study_marks.specs.Bench.{node_seen}
 use Rattle.study_marks.specs.BenchState.{marked}
 use Rattle.study_view.proofs.StartsAt.{led-legal, own-line, no-line}
-use Rattle.study_view.proofs.nodes.add_own.Goals as goal
+use Rattle.study_view.proofs.nodes.add_node_at.Goals as goal
 
 pub add_node-requires : goal.add_node-requires
 add_node-requires g c =

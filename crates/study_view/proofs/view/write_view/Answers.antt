@@ -1,4 +1,6 @@
-use Rattle.std.proofs.Common.{List, ℕ, subst, ap, Err}
+use Rattle.std.proofs.Common.{List, ℕ, refl, subst, ap, Err}
+use Rattle.std.specs.Io.KnownBytes.{Appends}
+use Rattle.study_marks.specs.BenchState.{marked}
 use Rattle.study_text.specs.Taken.{TakesPrefix}
 use Rattle.study_view.specs.declared.fault.ViewFault.TheVariants.{Device}
 use Rattle.study_view.proofs.AllAsked.{refused-so}
@@ -13,4 +15,18 @@ returns-in_err-write_text-clause-device g c h e = (
   c.in_ok-text.text,
   c.in_ok-text.ensures.text h,
   subst (λ (t : List ℕ). TakesPrefix (g.W.Write.contents c.args.out.now) (g.W.Write.contents c.write_text.new.out) t) c.as_slice.ensures c.in_err-write_text.ensures.err,
+)
+
+pub returns-clause-ok : goal.returns-clause-ok
+returns-clause-ok g c h = (
+  c.in_ok-text.text,
+  c.in_ok-text.ensures.text h,
+  subst (λ (t : List ℕ). Appends (g.W.Write.contents c.args.out.now) (g.W.Write.contents c.write_text.new.out) t) c.as_slice.ensures c.in_ok-write_text.ensures.ok,
+)
+
+pub returns-clause-plain : goal.returns-clause-plain
+returns-clause-plain g c h right = (
+  c.in_ok-text.text,
+  (marked c.args.bench.now, refl, right.marks, c.in_ok-text.ensures.text h),
+  subst (λ (t : List ℕ). Appends (g.W.Write.contents c.args.out.now) (g.W.Write.contents c.write_text.new.out) t) c.as_slice.ensures c.in_ok-write_text.ensures.ok,
 )
