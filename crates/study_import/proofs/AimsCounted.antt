@@ -1,11 +1,11 @@
 -- A mate is to be given within 1 to 127 moves, wherever a game says so.
-use Rattle.std.proofs.Common.{◌≡◌, ℕ, ◌≤◌, Bool, true, false, List, [], ◌∷◌, length, Option, Some, None, Result, Ok, Err, refl, sym, ap, subst, inl, inr}
+use Rattle.std.proofs.Common.{◌≡◌, ℕ, ◌≤◌, Bool, true, false, List, [], ◌∷◌, Option, Some, None, refl, subst}
 use Rattle.std.specs.Prelude.{◌==◌, ◌&&◌, not, nat_le, codes, if◌then◌else◌}
 use Rattle.std.specs.Str.{bytes_eq}
 use Rattle.std.proofs.lemmas.Bool.{and_parts, leb-true}
 use Rattle.study_board.specs.declared.men.Side.{Side}
 use Rattle.study_marks.specs.declared.stipulation.Goal.{Goal}
-use Rattle.study_marks.specs.declared.stipulation.Goal.TheVariants.{Win, Draw, MateIn}
+use Rattle.study_marks.specs.declared.stipulation.Goal.TheVariants.{Win, Draw}
 use Rattle.study_marks.specs.declared.stipulation.Stipulation.{Stipulation}
 use Rattle.study_command.specs.Paths.{place_told}
 use Rattle.study_command.specs.Parser.{few_moves, mate_moves_of}
@@ -22,7 +22,7 @@ use Rattle.study_import.specs.declared.aims.AimSource.{AimSource}
 use Rattle.study_import.specs.declared.aims.AimSource.TheVariants.{Comment, StipulationTag, ResultTag, Result as EndResult, Given}
 use Rattle.study_import.specs.declared.notes.Notes.{Notes}
 use Rattle.study_import.specs.Aims.{Found, last_of_phrase, hero_of, goal_named, moves_named, moves_in, moves_behind_in, mate_goal, goal_or_mate, goal_in, goal_behind_to, aimed, aim_by, aim_in, mate_by, mate_tag, or_words, says_win, says_draw, aim_of_text, aim_of_tag, aim_of_outcome, from_source, or_aim, aim_of_result}
-use Rattle.study_import.specs.Notes.{with_comment, with_null_move, with_move, with_result, with_said, with_sign, noted}
+use Rattle.study_import.specs.Notes.{with_said, with_sign, noted}
 use Rattle.study_import.specs.Blocks.{tag_aim, result_of, aim_of_game}
 use Rattle.study_import.specs.Laws.{IsCounted, IsGiven}
 

@@ -1,8 +1,8 @@
 -- The lines of a block are read as the commands that they spell.
-use Rattle.std.proofs.Common.{◌≡◌, ℕ, suc, ◌+◌, ◌<◌, ◌≤◌, Bool, true, false, not, List, [], ◌∷◌, ◌++◌, length, drop, Option, Some, None, Ok, refl, sym, ap, subst, ◌∙◌, inl, inr, arith, length-append}
-use Rattle.std.specs.Prelude.{◌==◌, ◌&&◌, nat_le, filter, codes, decimal}
-use Rattle.std.specs.List.{list_all, prefix_len, slice_split, onto_first}
-use Rattle.std.proofs.lemmas.Bool.{ne_eqb, le-leb, cases_Bool, and_from, and_left, and_right, and_parts}
+use Rattle.std.proofs.Common.{◌≡◌, ℕ, ◌<◌, false, not, List, [], ◌∷◌, ◌++◌, length, Some, None, Ok, refl, sym, ap, ◌∙◌, arith}
+use Rattle.std.specs.Prelude.{◌==◌, filter, codes, decimal}
+use Rattle.std.specs.List.{list_all, slice_split, onto_first}
+use Rattle.std.proofs.lemmas.Bool.{ne_eqb, le-leb, and_right}
 use Rattle.std.proofs.lemmas.List.Folds.{list_all-append}
 use Rattle.study_text.specs.Words.{is_space, words, begun_word, behind_word}
 use Rattle.study_text.proofs.FirstWord.{words_cons}
@@ -14,14 +14,13 @@ use Rattle.study_marks.specs.declared.stipulation.Stipulation.{Stipulation}
 use Rattle.study_marks.specs.declared.tag.TagName.{TagName}
 use Rattle.study_marks.specs.declared.tag.TagName.TheVariants as named
 use Rattle.study_marks.specs.Study.{tag_name}
-use Rattle.study_marks.specs.Edits.{is_printable}
 use Rattle.study_command.specs.declared.command.Keyword.{Keyword}
-use Rattle.study_command.specs.declared.command.Keyword.TheVariants.{FromFen, Stipulate, Insert, Tag, Pgn}
+use Rattle.study_command.specs.declared.command.Keyword.TheVariants.{FromFen, Stipulate, Insert, Tag}
 use Rattle.study_command.specs.declared.command.FenCommand.TheVariants.{Position}
 use Rattle.study_command.specs.Paths.{place_told}
 use Rattle.study_command.specs.Parser.{Asks, fen_command, stipulate, insert, tag, pgn, ended, trimmed, text_told, path_of, side_told, tag_told, begins_comment, line_asked, word_asked, word_of, command_of}
 use Rattle.study_import.specs.Laws.{IsCounted}
-use Rattle.study_import.proofs.Ink.{Ink, Print, ink_of, ink_append, ink_prints, print_append, all_print, decimal_ink, words_more, words_last, words_spaced, behind_more, behind_spaced}
+use Rattle.study_import.proofs.Ink.{Ink, Print, ink_of, ink_prints, print_append, all_print, decimal_ink, words_more, words_last, words_spaced, behind_more, behind_spaced}
 use Rattle.study_import.proofs.Spelling.{IsFen}
 use Rattle.study_import.proofs.PathAgain.{number_told}
 use Rattle.std.proofs.lemmas.Fmt.{decimal_nonempty}

@@ -1,19 +1,17 @@
 -- The header of a study is read back.
-use Rattle.std.proofs.Common.{◌≡◌, ℕ, zero, suc, ◌+◌, ◌-◌, ◌<◌, ◌≤◌, Bool, true, false, not, List, [], ◌∷◌, ◌++◌, length, take, drop, map, Option, Some, None, Result, Ok, Err, refl, sym, ap, subst, ◌∙◌, inl, inr, arith, length-append, append_assoc, add-zero}
-use Rattle.std.specs.Prelude.{◌==◌, ◌&&◌, ◌||◌, nat_le, codes, if◌then◌else◌}
+use Rattle.std.proofs.Common.{◌≡◌, ℕ, suc, ◌+◌, ◌≤◌, Bool, true, false, List, [], ◌∷◌, ◌++◌, length, drop, map, Option, Some, None, Ok, Err, refl, sym, ap, subst, ◌∙◌, inl, inr, arith, append_assoc, add-zero}
+use Rattle.std.specs.Prelude.{◌==◌, ◌||◌, nat_le, codes, if◌then◌else◌}
 use Rattle.std.specs.List.{list_all, flat_map}
-use Rattle.std.proofs.lemmas.Bool.{cases_Bool, ne_eqb, eqb-true, and_parts, and_from, or_parts, or_cases, leb-true, le-leb}
-use Rattle.std.proofs.lemmas.List.{take_at, drop_at, append-nil}
-use Rattle.study_notation.specs.declared.start.Start.{Start}
-use Rattle.study_marks.specs.declared.tag.TagName.{TagName}
+use Rattle.std.proofs.lemmas.Bool.{cases_Bool, ne_eqb, and_parts, or_parts, leb-true}
+use Rattle.std.proofs.lemmas.List.{take_at, drop_at}
 use Rattle.study_marks.specs.Edits.{is_printable}
 use Rattle.study_pgn.specs.Tags.{escaped, tag_line}
-use Rattle.study_games.specs.Bytes.{is_gap, is_letter, is_name_byte, is_feed}
-use Rattle.study_games.specs.Tokens.{Token, Lexed, lexed, front, behind, begins_end, ends_tag, value_end, without_first, behind_value, valued, quoted, named, tag_at, blank, tag}
-use Rattle.study_games.specs.Header.{Pair, Step, on, no_tag, ended, step_of, step_at, with_tags, tags_in, with_fault, fault_in, is_escaped, unescaped}
+use Rattle.study_games.specs.Bytes.{is_gap, is_letter, is_name_byte}
+use Rattle.study_games.specs.Tokens.{Token, Lexed, lexed, front, behind, ends_tag, value_end, behind_value, valued, quoted, named, tag_at, blank, tag}
+use Rattle.study_games.specs.Header.{Pair, Step, on, step_of, with_tags, tags_in, with_fault, fault_in, unescaped}
 use Rattle.study_games.specs.declared.token.TokenFault.TheVariants.{TagForm}
 use Rattle.study_games.specs.declared.header.HeaderFault.{HeaderFault}
-use Rattle.study_games.proofs.Lexing.{Stops, run_cut}
+use Rattle.study_games.proofs.Lexing.{run_cut}
 use Rattle.study_import.specs.Notes.{GameRead, game_taken}
 use Rattle.study_import.proofs.Whole.{within_lexed, within_step, same_tags, same_fault, tags_same, fault_same}
 use Rattle.study_import.proofs.ReadSteps.{reads, on_step}

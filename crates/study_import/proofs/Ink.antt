@@ -1,10 +1,9 @@
 -- Words of bytes that print, and the lines that are made of them.
-use Rattle.std.proofs.Common.{◌≡◌, ℕ, zero, suc, ◌+◌, ◌/◌, ◌%◌, ◌<◌, ◌≤◌, Bool, true, false, not, List, [], ◌∷◌, ◌++◌, length, drop, refl, sym, ap, ◌∙◌, inl, inr, arith, append_assoc}
+use Rattle.std.proofs.Common.{◌≡◌, ℕ, zero, suc, ◌+◌, ◌/◌, ◌%◌, ◌<◌, ◌≤◌, Bool, true, false, not, List, [], ◌∷◌, ◌++◌, length, drop, refl, sym, ap, ◌∙◌, inl, inr, arith}
 use Rattle.std.specs.Prelude.{◌==◌, ◌&&◌, nat_le, filter, decimal}
 use Rattle.std.specs.List.{list_all, slice_split, onto_first, prefix_len}
 use Rattle.std.specs.Fmt.{digits, digits_onto, digit_glyph}
 use Rattle.std.proofs.lemmas.Bool.{ne_eqb, le-leb, leb-true, lt-ltb, cases_Bool, and_parts}
-use Rattle.std.proofs.lemmas.List.{append-nil}
 use Rattle.study_text.specs.Words.{is_space, words, begun_word, behind_word}
 use Rattle.study_text.proofs.FirstWord.{is_word, words_cons}
 

@@ -1,5 +1,5 @@
 -- What stays true while the moves of a game are read.
-use Rattle.std.proofs.Common.{◌≡◌, ℕ, zero, suc, Bool, true, false, List, [], ◌∷◌, length, Result, Ok, Err, refl, sym, ap, subst}
+use Rattle.std.proofs.Common.{◌≡◌, ℕ, zero, suc, Bool, true, false, List, [], ◌∷◌, length, Result, Ok, Err, refl, subst}
 use Rattle.std.specs.Prelude.{◌==◌, if◌then◌else◌}
 use Rattle.study_games.specs.Tokens.{Token, Lexed, lexed}
 use Rattle.study_games.specs.declared.token.TokenFault.{TokenFault}
@@ -8,7 +8,7 @@ use Rattle.study_import.specs.declared.movetext.MovesFault.{MovesFault}
 use Rattle.study_import.specs.declared.movetext.Stop.{Stop}
 use Rattle.study_import.specs.declared.movetext.Stop.TheVariants as stop
 use Rattle.study_import.specs.Notes.{GameRead, GameTaken, game_taken}
-use Rattle.study_import.specs.Movetext.{Ended, at_end, goes_on, on_token, fault_at, read_moves}
+use Rattle.study_import.specs.Movetext.{Ended, goes_on, on_token, fault_at, read_moves}
 
 module _ (P : GameRead → Type 0) (step : (g : GameRead) (token : Token) (t : GameTaken) → P g → game_taken g token ≡ Ok t → P t.game) where
   kept_end : (g : GameRead) (x : Ended) (none : Bool) → P g → (if none then Ok (record { game = g; behind = [] }) else fault_at stop.OpenVariation 0) ≡ Ok x → P x.game

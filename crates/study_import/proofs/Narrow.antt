@@ -1,8 +1,8 @@
 -- A node of a study has at most 62 children.
-use Rattle.std.proofs.Common.{◌≡◌, ℕ, zero, suc, ◌+◌, ◌<◌, ◌≤◌, Bool, true, false, List, [], ◌∷◌, length, Option, Some, None, refl, sym, ap, subst, ◌∙◌, inl, inr, arith}
-use Rattle.std.specs.Prelude.{not, nat_le, ◌||◌, if◌then◌else◌}
+use Rattle.std.proofs.Common.{◌≡◌, ℕ, zero, suc, ◌<◌, ◌≤◌, Bool, true, false, List, [], ◌∷◌, length, Option, Some, None, refl, sym, ap, subst, ◌∙◌, inl, inr, arith}
+use Rattle.std.specs.Prelude.{not, nat_le, if◌then◌else◌}
 use Rattle.std.specs.Cmp.{IsEquivalence}
-use Rattle.std.specs.List.{AllByRecursion, IsDistinct, Contains}
+use Rattle.std.specs.List.{AllByRecursion, IsDistinct}
 use Rattle.std.specs.Set.{is_member}
 use Rattle.std.specs.Bool.{Decides}
 use Rattle.std.proofs.lemmas.Bool.{false≢true, or_cases, false_from_ne_true, leb-false}
@@ -17,9 +17,8 @@ use Rattle.study_moves.proofs.AfterMove.{IsValid-after}
 use Rattle.study_tree.specs.Forest.{Forest, none, more}
 use Rattle.study_tree.specs.Edits.{has_node, width}
 use Rattle.study_tree.specs.Tree.{has_spot, size_of}
-use Rattle.study_marks.specs.declared.refusal.Refusal.{Refusal}
 use Rattle.study_marks.specs.declared.refusal.Refusal.TheVariants as refusal
-use Rattle.study_marks.specs.Study.{same_move, moves_to, position_at, place_at, IsPlayable, AreOthers, AreDistinct}
+use Rattle.study_marks.specs.Study.{same_move, position_at, place_at, IsPlayable, AreOthers, AreDistinct}
 use Rattle.study_marks.specs.Edits.{Plainly, inserted, there, insert_refusal}
 use Rattle.study_marks.proofs.StudyEdits.{same_move-refl, IsPlayable-add_last, AreDistinct-add_last}
 use Rattle.study_marks.proofs.DualCounts.{same_move-one}

@@ -1,6 +1,6 @@
 -- The opening comment says the stipulation, however it is cut into lines.
-use Rattle.std.proofs.Common.{◌≡◌, ℕ, suc, ◌+◌, ◌-◌, ◌<◌, ◌≤◌, Bool, true, false, not, List, [], ◌∷◌, ◌++◌, length, take, get_or, Option, Some, None, refl, sym, ap, subst, ◌∙◌, inl, inr, arith, length-append, append_assoc}
-use Rattle.std.specs.Prelude.{◌==◌, ◌&&◌, ◌||◌, nat_le, slice_index, codes, decimal, is_some, if◌then◌else◌}
+use Rattle.std.proofs.Common.{◌≡◌, ℕ, ◌-◌, ◌<◌, true, false, List, [], ◌∷◌, ◌++◌, length, take, Some, None, refl, sym, ap, subst, ◌∙◌, inl, inr, arith, length-append, append_assoc}
+use Rattle.std.specs.Prelude.{◌==◌, ◌&&◌, nat_le, slice_index, codes, decimal}
 use Rattle.std.specs.List.{list_all}
 use Rattle.std.specs.Str.{bytes_eq}
 use Rattle.std.proofs.lemmas.Bool.{ne_eqb, le-leb, lt-leb, and_from, and_right, or_from}
@@ -11,19 +11,17 @@ use Rattle.study_marks.specs.declared.stipulation.Goal.{Goal}
 use Rattle.study_marks.specs.declared.stipulation.Goal.TheVariants.{Win, Draw, MateIn}
 use Rattle.study_marks.specs.declared.stipulation.Stipulation.{Stipulation}
 use Rattle.study_command.specs.Paths.{place_told}
-use Rattle.study_command.specs.Parser.{mate_moves_of}
 use Rattle.study_pgn.specs.Values.{side_name}
 use Rattle.study_pgn.specs.Pgn.{goal_text, stipulation_text}
 use Rattle.study_games.specs.Bytes.{is_blank}
 use Rattle.study_games.specs.Words.{is_inked, begun_word, first_word}
-use Rattle.study_games.specs.Tokens.{front, behind}
-use Rattle.study_games.proofs.Lexing.{Stops, run_cut}
-use Rattle.study_import.specs.Aims.{Found, ends_with_colon, last_of_phrase, hero_of, goal_named, moves_in, moves_behind_in, mate_goal, goal_or_mate, goal_in, goal_behind_to, aimed, aim_by, aim_in}
+use Rattle.study_games.specs.Tokens.{behind}
+use Rattle.study_games.proofs.Lexing.{run_cut}
+use Rattle.study_import.specs.Aims.{ends_with_colon, last_of_phrase, hero_of, goal_named, goal_or_mate, goal_in, aim_in}
 use Rattle.study_import.specs.Laws.{IsCounted}
 use Rattle.study_import.proofs.Ink.{Ink, ink_of, ink_append, decimal_ink}
 use Rattle.study_import.proofs.PathAgain.{number_told}
-use Rattle.study_import.proofs.Blanks.{Same, WordCut, word_cut, IsGap, SpaceCut, space_cut}
-use Rattle.study_import.proofs.ReadSteps.{decimal_some}
+use Rattle.study_import.proofs.Blanks.{Same, word_cut, IsGap, space_cut}
 
 -- ---- words
 

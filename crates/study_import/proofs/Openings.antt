@@ -1,5 +1,5 @@
 -- What the first comment says is a stipulation that can be given.
-use Rattle.std.proofs.Common.{◌≡◌, ℕ, Bool, true, false, List, length, Result, Ok, Err, sym, ap, subst}
+use Rattle.std.proofs.Common.{◌≡◌, ℕ, Bool, true, false, List, length, Result, Ok, Err, subst}
 use Rattle.std.specs.Prelude.{◌==◌, not, nat_le, if◌then◌else◌}
 use Rattle.study_games.specs.Tokens.{Token}
 use Rattle.study_import.specs.declared.taking.Reason.{Reason}

@@ -1,6 +1,6 @@
 -- A path as it is printed is read again.
-use Rattle.std.proofs.Common.{◌≡◌, ℕ, suc, ◌+◌, ◌<◌, ◌≤◌, Bool, true, false, List, [], ◌∷◌, ◌++◌, length, map, Option, Some, refl, sym, ap, ◌∙◌, inl, inr, arith}
-use Rattle.std.specs.Prelude.{◌==◌, ◌&&◌, nat_le, codes, decimal}
+use Rattle.std.proofs.Common.{◌≡◌, ℕ, ◌<◌, ◌≤◌, Bool, true, false, List, [], ◌∷◌, ◌++◌, length, map, Some, refl, ap, ◌∙◌, arith}
+use Rattle.std.specs.Prelude.{◌==◌, codes, decimal}
 use Rattle.std.specs.List.{list_all, slice_split, onto_first}
 use Rattle.std.specs.Char.{digit_value}
 use Rattle.std.specs.Str.{bytes_eq}
@@ -11,7 +11,7 @@ use Rattle.std.proofs.lemmas.List.{append-nil}
 use Rattle.std.proofs.lemmas.Fmt.{decimal_is_IsNumeral, decimal_nonempty, length-decimal-le}
 use Rattle.study_notation.specs.Fen.{is_digit}
 use Rattle.study_tree.specs.Paths.{path_text, more_places}
-use Rattle.study_command.specs.Paths.{is_place, place_told, places_in, is_path, is_path_word, steps_of}
+use Rattle.study_command.specs.Paths.{is_place, place_told, is_path, is_path_word, steps_of}
 use Rattle.study_command.specs.Parser.{path_of}
 use Rattle.study_import.proofs.Spelling.{AllBelow}
 

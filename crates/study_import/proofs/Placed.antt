@@ -1,9 +1,9 @@
 -- The place at hand is a node of the tree, and so is each that waits.
-use Rattle.std.proofs.Common.{◌≡◌, ℕ, zero, suc, ◌+◌, ◌-◌, ◌<◌, ◌≤◌, Bool, true, false, List, [], ◌∷◌, ◌++◌, length, take, get_or, Option, Some, None, Result, Ok, Err, refl, sym, ap, subst, ◌∙◌, inl, inr, arith, length-append, length-take}
+use Rattle.std.proofs.Common.{◌≡◌, ℕ, zero, suc, ◌+◌, ◌-◌, ◌<◌, ◌≤◌, Bool, true, false, List, [], ◌∷◌, ◌++◌, length, take, Option, Some, None, Result, Ok, Err, refl, sym, ap, subst, ◌∙◌, arith, length-append, length-take}
 use Rattle.std.specs.Prelude.{◌==◌, not, nat_le, nat_lt, slice_index, codes, if◌then◌else◌}
 use Rattle.std.specs.List.{list_all}
 use Rattle.std.specs.Str.{bytes_eq}
-use Rattle.std.proofs.lemmas.Bool.{false≢true, leb-false, cases_Bool}
+use Rattle.std.proofs.lemmas.Bool.{false≢true, leb-false}
 use Rattle.std.proofs.lemmas.List.{take-take, take_more, take_all, take-append-le}
 use Rattle.study_moves.specs.declared.moves.Move.{Move}
 use Rattle.study_notation.specs.declared.start.Start.{Start}
@@ -12,12 +12,11 @@ use Rattle.study_notation.specs.declared.fault.SanFault.TheVariants.{NotSan}
 use Rattle.study_notation.specs.Matching.{move_of}
 use Rattle.study_tree.specs.Forest.{Forest, none, more}
 use Rattle.study_tree.specs.Edits.{has_node, with_last, add_last, children_at, width}
-use Rattle.study_tree.specs.Tree.{has_spot, size_of}
+use Rattle.study_tree.specs.Tree.{size_of}
 use Rattle.study_marks.specs.Study.{same_move, position_at, place_from, place_at}
-use Rattle.study_marks.specs.Edits.{Plainly, inserted, is_printable}
+use Rattle.study_marks.specs.Edits.{inserted, is_printable}
 use Rattle.study_games.specs.declared.symbols.Said.{Said}
 use Rattle.study_games.specs.declared.symbols.Said.TheVariants as say
-use Rattle.study_games.specs.declared.token.TokenFault.{TokenFault}
 use Rattle.study_games.specs.Symbols.{said_of, san_in}
 use Rattle.study_games.specs.Tokens.{Token, blank, aside, opening, closing, star, tag, comment, rest, sign, symbol}
 use Rattle.study_import.specs.declared.lines.Waiting.{Waiting}
@@ -28,13 +27,11 @@ use Rattle.study_import.specs.declared.moves.MoveFault.TheVariants as move_fault
 use Rattle.study_import.specs.declared.notes.Notes.{Notes}
 use Rattle.study_import.specs.declared.taking.Reason.{Reason}
 use Rattle.study_import.specs.declared.taking.Reason.TheVariants as reason
-use Rattle.study_import.specs.declared.movetext.MovesFault.{MovesFault}
-use Rattle.study_import.specs.declared.movetext.Stop.{Stop}
 use Rattle.study_import.specs.declared.movetext.Stop.TheVariants as stop
 use Rattle.study_import.specs.Lines.{Lines, varied, begin_line, resumed, end_line}
 use Rattle.study_import.specs.Moves.{After, stepped, moved_by, met, moved}
 use Rattle.study_import.specs.Reading.{Reading, gone_on, read_on, played, symbol_played}
-use Rattle.study_import.specs.Taken.{Taken, going_on, on_line, at_result, at_null_move, on_move, taken_symbol, taken_sign, taken}
+use Rattle.study_import.specs.Taken.{Taken, on_line, on_move, taken_symbol, taken_sign, taken}
 use Rattle.study_import.specs.Notes.{GameRead, GameTaken, is_header_tag, noted, noted_on, game_taken}
 use Rattle.study_import.specs.Blocks.{no_moves, game_read}
 use Rattle.study_import.specs.Laws.{IsListed, AreListed}

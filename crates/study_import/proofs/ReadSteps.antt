@@ -1,12 +1,11 @@
 -- Token by token through the movetext of a study.
-use Rattle.std.proofs.Common.{◌≡◌, ℕ, zero, suc, ◌+◌, ◌-◌, ◌/◌, ◌%◌, ◌<◌, ◌≤◌, Bool, true, false, List, [], ◌∷◌, ◌++◌, length, take, drop, get_or, Option, Some, None, Result, Ok, Err, refl, sym, ap, subst, ◌∙◌, ◌⊎◌, inl, inr, arith, length-append, append_assoc}
-use Rattle.std.specs.Prelude.{◌==◌, ◌&&◌, not, nat_le, nat_lt, slice_index, decimal, if◌then◌else◌}
+use Rattle.std.proofs.Common.{◌≡◌, ℕ, zero, suc, ◌+◌, ◌-◌, ◌/◌, ◌%◌, ◌<◌, ◌≤◌, Bool, true, false, List, [], ◌∷◌, ◌++◌, length, take, Option, Some, None, Result, Ok, refl, sym, ap, subst, ◌∙◌, inl, inr, arith, length-append}
+use Rattle.std.specs.Prelude.{◌==◌, ◌&&◌, not, nat_le, slice_index, decimal}
 use Rattle.std.specs.List.{list_all}
 use Rattle.std.specs.Fmt.{digits, digits_onto, digit_glyph}
 use Rattle.std.proofs.lemmas.Bool.{lt-leb, le-ltb, le-leb, lt-ltb, and_right, cases_Bool, and_from}
 use Rattle.std.proofs.lemmas.List.{take_at, get_or_at}
 use Rattle.study_moves.specs.declared.moves.Move.{Move}
-use Rattle.study_moves.specs.Rules.{is_legal}
 use Rattle.study_notation.specs.Matching.{move_of}
 use Rattle.study_tree.specs.Edits.{children_at}
 use Rattle.study_tree.specs.Tree.{has_spot, size_of}
@@ -17,7 +16,7 @@ use Rattle.study_games.specs.Bytes.{is_digit, begins_symbol, is_symbol_byte}
 use Rattle.study_games.specs.declared.symbols.Said.{Said}
 use Rattle.study_games.specs.declared.symbols.Said.TheVariants as say
 use Rattle.study_games.specs.Symbols.{said_of, san_in}
-use Rattle.study_games.specs.Tokens.{Token, Lexed, lexed, token_at, front, behind, is_inside, closed, comment_at, blank, aside, opening, closing, comment, symbol}
+use Rattle.study_games.specs.Tokens.{Token, Lexed, lexed, behind, is_inside, closed, comment_at, blank, aside, opening, closing, comment, symbol}
 use Rattle.study_games.proofs.Lexing.{Stops, run_cut, symbol_read}
 use Rattle.study_import.specs.declared.lines.Waiting.{Waiting}
 use Rattle.study_import.specs.declared.lines.LineFault.{LineFault}
@@ -25,12 +24,12 @@ use Rattle.study_import.specs.declared.moves.MoveFault.{MoveFault}
 use Rattle.study_import.specs.declared.notes.Notes.{Notes}
 use Rattle.study_import.specs.declared.taking.Reason.{Reason}
 use Rattle.study_import.specs.declared.movetext.MovesFault.{MovesFault}
-use Rattle.study_import.specs.Lines.{Lines, begin_line, end_line, resumed}
+use Rattle.study_import.specs.Lines.{Lines, begin_line, end_line}
 use Rattle.study_import.specs.Moves.{moved, moved_by}
 use Rattle.study_import.specs.Reading.{Reading, played, symbol_played}
-use Rattle.study_import.specs.Taken.{Taken, going_on, on_line, on_move, taken, taken_symbol}
+use Rattle.study_import.specs.Taken.{on_line, on_move, taken_symbol}
 use Rattle.study_import.specs.Aims.{aim_in}
-use Rattle.study_import.specs.Notes.{GameRead, GameTaken, begun, with_aside, with_comment, with_move, with_said, noted, noted_on, game_taken}
+use Rattle.study_import.specs.Notes.{GameRead, GameTaken, begun, with_aside, with_comment, with_move, with_said, noted_on, game_taken}
 use Rattle.study_import.specs.Movetext.{Ended, goes_on, on_token, read_moves}
 use Rattle.study_import.proofs.Whole.{same_token, within_lexed, moves_same}
 use Rattle.study_import.proofs.Blanks.{IsGap}

@@ -1,5 +1,5 @@
 -- The lines of remarks ask for nothing.
-use Rattle.std.proofs.Common.{◌≡◌, ℕ, zero, suc, ◌+◌, ◌<◌, ◌≤◌, Bool, true, false, List, [], ◌∷◌, ◌++◌, length, take, map, Option, Some, None, Ok, refl, sym, ap, subst, ◌∙◌, inl, inr, arith, length-append, append_assoc}
+use Rattle.std.proofs.Common.{◌≡◌, ℕ, zero, suc, ◌+◌, ◌≤◌, Bool, true, false, List, [], ◌∷◌, ◌++◌, length, take, map, Option, Some, None, Ok, refl, sym, ap, ◌∙◌, inl, inr, arith, length-append, append_assoc}
 use Rattle.std.specs.Prelude.{◌==◌, ◌&&◌, ◌||◌, ◌*◌, nat_le, codes, decimal, if◌then◌else◌}
 use Rattle.std.specs.List.{list_all, flat_map, prefix_len, AllByRecursion}
 use Rattle.std.specs.Str.{bytes_eq}
@@ -37,8 +37,8 @@ use Rattle.study_import.specs.declared.aims.AimSource.TheVariants.{Comment, Stip
 use Rattle.study_import.specs.declared.notes.Notes.{Notes}
 use Rattle.study_import.specs.declared.places.Place.{Place}
 use Rattle.study_import.specs.Aims.{source_words}
-use Rattle.study_import.specs.Blocks.{Entry, Told, place_in, text_at, token_name, move_name, line_name, reason_name, stop_name, symbol_words, game_words, left_out, place_words, fault_words, count_words, counts_words, counts_line, move_counts, counted_words, behind_line, six_names, shown, tag_text, was_words, was_of, was_line, head_line, remark_lines, other_tags, stopped_block, men_in, fen_words, at_most, last_line}
-use Rattle.study_import.proofs.Ink.{Ink, inks, decimal_ink, decimal_few}
+use Rattle.study_import.specs.Blocks.{Entry, Told, place_in, text_at, token_name, move_name, line_name, reason_name, stop_name, symbol_words, left_out, place_words, fault_words, counts_words, counts_line, move_counts, counted_words, behind_line, six_names, shown, tag_text, was_of, was_line, head_line, remark_lines, other_tags, stopped_block, men_in, fen_words, at_most, last_line}
+use Rattle.study_import.proofs.Ink.{Ink, decimal_ink, decimal_few}
 use Rattle.study_import.proofs.CommandLines.{remark_asked, empty_asked}
 
 -- a byte that is no control code below the space

@@ -1,15 +1,14 @@
 -- What is written of a study comes to that study again.
-use Rattle.std.proofs.Common.{◌≡◌, ℕ, zero, suc, ◌+◌, ◌<◌, ◌≤◌, Bool, true, false, not, List, [], ◌∷◌, ◌++◌, length, take, drop, map, Option, Some, None, Result, Ok, Err, refl, sym, ap, subst, ◌∙◌, inl, inr, arith, length-append, length-drop, append_assoc}
-use Rattle.std.specs.Prelude.{◌==◌, ◌&&◌, ◌||◌, nat_le, codes, decimal, if◌then◌else◌}
+use Rattle.std.proofs.Common.{◌≡◌, ℕ, suc, ◌+◌, ◌<◌, ◌≤◌, Bool, true, false, not, List, [], ◌∷◌, ◌++◌, length, take, drop, map, Option, Some, None, Result, Ok, refl, sym, ap, subst, ◌∙◌, inl, inr, arith, length-drop, append_assoc}
+use Rattle.std.specs.Prelude.{◌==◌, ◌&&◌, nat_le, codes, decimal, if◌then◌else◌}
 use Rattle.std.specs.List.{list_all, flat_map, prefix_len}
-use Rattle.std.proofs.lemmas.Bool.{ne_eqb, le-leb, lt-leb, leb-true, and_parts, and_from, or_from}
+use Rattle.std.proofs.lemmas.Bool.{ne_eqb, le-leb, lt-leb, leb-true, and_parts}
 use Rattle.std.proofs.lemmas.List.{take_all}
 use Rattle.study_text.specs.Words.{is_space, words, begun_word}
 use Rattle.study_board.specs.declared.men.Side.{Side}
 use Rattle.study_board.specs.declared.men.Side.TheVariants.{White, Black}
 use Rattle.study_board.specs.Men.{other_side}
 use Rattle.study_notation.specs.declared.start.Start.{Start}
-use Rattle.study_notation.specs.declared.fault.FenFault.{FenFault}
 use Rattle.study_notation.specs.Fen.{start_of}
 use Rattle.study_notation.specs.FenSpelling.{fen_text}
 use Rattle.study_notation.proofs.FenAgain.{start_again}
@@ -26,7 +25,7 @@ use Rattle.study_marks.specs.declared.stipulation.Stipulation.{Stipulation}
 use Rattle.study_marks.specs.declared.tag.TagName.{TagName}
 use Rattle.study_marks.specs.declared.tag.TagName.TheVariants as name_of
 use Rattle.study_marks.specs.Verdict.{Verdict, wrong, sound, unsound, verdict}
-use Rattle.study_marks.specs.Study.{Study, tag_name, tag_of}
+use Rattle.study_marks.specs.Study.{Study, tag_of}
 use Rattle.study_marks.specs.Edits.{Plainly, is_printable, is_tag_text}
 use Rattle.study_command.specs.Parser.{ended, trimmed}
 use Rattle.study_pgn.specs.Values.{side_name, value_text, won_by, result_text}
@@ -39,38 +38,36 @@ use Rattle.study_games.specs.Characters.{is_utf8, read_at, character_at}
 use Rattle.study_games.specs.Ascii.{ascii_of, spelled_behind, spelled_in, spelled_out, short_text}
 use Rattle.study_games.specs.Words.{is_space as is_blank_space, without_spaces}
 use Rattle.study_games.specs.Symbols.{without_end, said_of}
-use Rattle.study_games.specs.Tokens.{Token, Lexed, lexed, behind, is_inside, blank, comment, symbol}
-use Rattle.study_games.specs.Header.{Pair, Step, on, ended as header_ended, with_fault, tags_of, header_fault, value_of, unescaped}
-use Rattle.study_games.specs.declared.header.HeaderFault.{HeaderFault}
+use Rattle.study_games.specs.Tokens.{Lexed, lexed, is_inside, blank, comment, symbol}
+use Rattle.study_games.specs.Header.{Pair, on, ended as header_ended, tags_of, header_fault, value_of, unescaped}
 use Rattle.study_games.specs.declared.symbols.Outcome.{Outcome}
 use Rattle.study_games.specs.declared.symbols.Outcome.TheVariants.{WhiteWins, BlackWins, Drawn}
 use Rattle.study_games.specs.declared.symbols.Said.{Said}
 use Rattle.study_games.specs.declared.symbols.Said.TheVariants as say
-use Rattle.study_games.proofs.Lexing.{Stops, run_cut, symbol_read}
+use Rattle.study_games.proofs.Lexing.{Stops, symbol_read}
 use Rattle.study_import.specs.declared.taking.Reason.{Reason}
 use Rattle.study_import.specs.declared.movetext.MovesFault.{MovesFault}
-use Rattle.study_import.specs.declared.aims.Aim.{Aim}
 use Rattle.study_import.specs.declared.aims.AimSource.TheVariants.{Comment}
-use Rattle.study_import.specs.Aims.{aim_in, or_aim, from_source}
+use Rattle.study_import.specs.Aims.{aim_in}
 use Rattle.study_import.specs.Lines.{Lines}
 use Rattle.study_import.specs.declared.notes.Notes.{Notes}
-use Rattle.study_import.specs.Taken.{Taken, at_result, taken_symbol}
+use Rattle.study_import.specs.Taken.{taken_symbol}
 use Rattle.study_import.specs.Notes.{GameRead, GameTaken, none_yet, with_comment, with_said, with_result, noted_on, game_taken}
 use Rattle.study_import.specs.Movetext.{Ended, goes_on, on_token}
-use Rattle.study_import.specs.Blocks.{no_moves, game_read, fen_in, printed, six_names, tag_text, tag_value_text, text_or_unknown as import_text, aim_of_game}
+use Rattle.study_import.specs.Blocks.{no_moves, game_read, fen_in, printed, tag_text, tag_value_text, text_or_unknown as import_text, aim_of_game}
 use Rattle.study_import.specs.Meant.{tag_texts, study_aimed, study_read, study_begun, study_with_fen, study_behind_header, study_in}
 use Rattle.study_import.specs.Laws.{IsCounted}
 use Rattle.study_import.specs.Written.{plainly, IsTagged, CanBeMade, unmarked_study, AreReadBack}
-use Rattle.study_import.proofs.Ink.{Ink, Print, ink_of, all_print, decimal_ink}
+use Rattle.study_import.proofs.Ink.{Ink, ink_of, all_print, decimal_ink}
 use Rattle.study_import.proofs.Spelling.{fen_is}
 use Rattle.study_import.proofs.TagsTrimmed.{same_end}
-use Rattle.study_import.proofs.Blanks.{SameByte, Same, Cut, same_cut, WordCut, word_cut, IsGap, SpaceCut, space_cut, same_all, same_refl, same_append, lines_same}
+use Rattle.study_import.proofs.Blanks.{SameByte, Same, same_cut, word_cut, IsGap, space_cut, same_all, same_refl, same_append, lines_same}
 use Rattle.study_import.proofs.TreeHoles.{put, root_put}
 use Rattle.study_import.proofs.ReadSteps.{reads, on_reads, on_step, At, Reached, gap_step, lexed_brace, comment_is, decimal_digits, decimal_some}
-use Rattle.study_import.proofs.TreeRead.{on_tree, retold, inside_append, side_inside, number_inside, value_inside, begins_digit, digits_symbol, Node, Limits, Followed, follow_read}
+use Rattle.study_import.proofs.TreeRead.{on_tree, retold, inside_append, side_inside, number_inside, value_inside, begins_digit, digits_symbol, Node, Limits, follow_read}
 use Rattle.study_import.proofs.Singles.{movetext_runs}
 use Rattle.study_import.proofs.OpeningRead.{aim_read}
-use Rattle.study_import.proofs.HeaderRead.{value_again, IsName, Named, written, AllNamed, pairs_of, lines_read, tags_from, fault_from, tags_step, fault_step, feed_lexed}
+use Rattle.study_import.proofs.HeaderRead.{value_again, Named, written, AllNamed, pairs_of, lines_read, tags_from, fault_from, fault_step, feed_lexed}
 
 -- ---- texts of tags
 

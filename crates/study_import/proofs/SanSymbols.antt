@@ -1,9 +1,9 @@
 -- The text of a move is a symbol that is read as that move.
-use Rattle.std.proofs.Common.{◌≡◌, ℕ, zero, suc, ◌+◌, ◌-◌, ◌/◌, ◌%◌, ◌<◌, ◌≤◌, Bool, true, false, cond, List, [], ◌∷◌, ◌++◌, length, take, get_or, Option, Some, None, Result, Ok, Err, refl, sym, ap, subst, ◌∙◌, ◌⊎◌, inl, inr, arith, length-append, append_assoc}
-use Rattle.std.specs.Prelude.{◌==◌, ◌&&◌, ◌||◌, not, nat_le, nat_lt, slice_index, codes, IfSome, if◌then◌else◌}
+use Rattle.std.proofs.Common.{◌≡◌, ℕ, ◌+◌, ◌-◌, ◌/◌, ◌%◌, ◌<◌, ◌≤◌, Bool, true, false, List, [], ◌∷◌, ◌++◌, length, take, Option, Some, None, Ok, refl, sym, ap, subst, ◌∙◌, inl, inr, arith, length-append, append_assoc}
+use Rattle.std.specs.Prelude.{◌==◌, ◌&&◌, ◌||◌, not, nat_le, slice_index, codes, IfSome, if◌then◌else◌}
 use Rattle.std.specs.List.{list_all, flat_map}
 use Rattle.std.specs.Str.{bytes_eq}
-use Rattle.std.proofs.lemmas.Bool.{false≢true, cases_Bool, ne_eqb, eqb-true, le-leb, leb-true, lt-leb, lt-ltb, le-ltb, and_parts, and_from, or_from, or_parts, leb-false, false_from_ne_true, agree_below, agree_below_at}
+use Rattle.std.proofs.lemmas.Bool.{false≢true, cases_Bool, ne_eqb, le-leb, leb-true, lt-leb, and_parts, and_from, or_from, or_parts, leb-false, false_from_ne_true, agree_below, agree_below_at}
 use Rattle.std.proofs.lemmas.List.Folds.{list_all-append}
 use Rattle.std.proofs.lemmas.List.{append-nil, get_or_at}
 use Rattle.std.proofs.lemmas.Slice.Eq.{bytes_eq-Decides}
@@ -25,10 +25,9 @@ use Rattle.study_notation.specs.Matching.{picked, meant, move_of}
 use Rattle.study_notation.specs.Written.{gives_file, gives_rank, san_for, check_text, move_text}
 use Rattle.study_notation.proofs.SanAgain.{san_again}
 use Rattle.study_notation.proofs.OneMoveAgrees.{alone_matches}
-use Rattle.study_games.specs.Bytes.{is_digit, is_high, is_sign, begins_symbol, is_symbol_byte}
-use Rattle.study_games.specs.declared.symbols.Said.{Said}
+use Rattle.study_games.specs.Bytes.{is_digit, is_high, begins_symbol, is_symbol_byte}
 use Rattle.study_games.specs.declared.symbols.Said.TheVariants.{Move as MoveSaid}
-use Rattle.study_games.specs.Symbols.{is_figurine, has_figurine, lettered, said_of, is_tail, without_end, without_tail, without_passing, without_pawn, begins_castling, plain_byte, plain_bytes, spelled, san_in}
+use Rattle.study_games.specs.Symbols.{has_figurine, lettered, said_of, is_tail, without_end, without_tail, without_passing, without_pawn, plain_bytes, spelled, san_in}
 use Rattle.study_marks.specs.Edits.{is_printable}
 
 -- ---- the bytes of a SAN text

@@ -1,10 +1,10 @@
 -- Between two words of movetext there is one space.
-use Rattle.std.proofs.Common.{◌≡◌, ℕ, ◌+◌, ◌/◌, ◌<◌, Bool, true, false, List, [], ◌∷◌, ◌++◌, length, Option, Some, None, refl, sym, subst, arith, length-append}
+use Rattle.std.proofs.Common.{◌≡◌, ℕ, ◌+◌, ◌/◌, Bool, true, false, List, ◌++◌, Option, Some, None, refl}
 use Rattle.std.specs.Prelude.{◌==◌, codes, decimal, if◌then◌else◌}
 use Rattle.study_board.specs.declared.men.Side.{Side}
 use Rattle.study_board.specs.declared.men.Side.TheVariants.{White, Black}
 use Rattle.study_board.specs.Men.{other_side}
-use Rattle.study_board.specs.Position.{Position, IsValid}
+use Rattle.study_board.specs.Position.{IsValid}
 use Rattle.study_moves.specs.declared.moves.Move.{Move}
 use Rattle.study_moves.specs.Rules.{is_legal, after}
 use Rattle.study_moves.proofs.AfterMove.{IsValid-after}
@@ -19,15 +19,14 @@ use Rattle.study_marks.specs.declared.mark.MoveMark.{MoveMark}
 use Rattle.study_marks.specs.declared.mark.MoveMark.TheVariants.{Only, Dual, Idle, Mistake, Reply}
 use Rattle.study_marks.specs.declared.stipulation.Goal.{Goal}
 use Rattle.study_marks.specs.declared.stipulation.Goal.TheVariants as goal
-use Rattle.study_marks.specs.declared.stipulation.Stipulation.{Stipulation}
 use Rattle.study_marks.specs.Verdict.{Verdict, wrong, sound, unsound, verdict}
 use Rattle.study_marks.specs.Study.{Study, IsPlayable}
 use Rattle.study_pgn.specs.Values.{side_name, mates_text, value_text, won_by, result_text}
 use Rattle.study_pgn.specs.Moves.{move_dots, number_text, glyph_text, dual_text, comment_text, words_of_move, following, variations}
 use Rattle.study_pgn.specs.Pgn.{goal_text, stipulation_text, verdict_text, opening_words, opening_text, movetext}
-use Rattle.study_import.proofs.Ink.{Ink, decimal_ink}
+use Rattle.study_import.proofs.Ink.{decimal_ink}
 use Rattle.study_import.proofs.Spelling.{move_short, move_some}
-use Rattle.study_import.proofs.Blanks.{Runs, run, runs_append, runs_ink}
+use Rattle.study_import.proofs.Blanks.{Runs, runs_append, runs_ink}
 use Rattle.study_import.proofs.ReadSteps.{decimal_some}
 use Rattle.study_import.specs.Written.{plainly}
 

@@ -1,20 +1,17 @@
 -- The block of a game is read as a script that no rule refuses, and leads to the game's study.
-use Rattle.std.proofs.Common.{◌≡◌, ℕ, zero, suc, ◌+◌, ◌*◌, ◌-◌, ◌<◌, ◌≤◌, Bool, true, false, List, [], ◌∷◌, ◌++◌, length, get_or, map, Option, Some, None, is_some, Result, Ok, Err, refl, sym, ap, subst, ◌∙◌, inl, inr, arith, length-append, append_assoc}
-use Rattle.std.specs.Prelude.{◌==◌, codes, decimal, slice_set, if◌then◌else◌}
+use Rattle.std.proofs.Common.{◌≡◌, ℕ, zero, suc, ◌-◌, ◌<◌, ◌≤◌, Bool, true, false, List, [], ◌∷◌, ◌++◌, length, get_or, Option, Some, None, is_some, Result, Ok, Err, refl, sym, ap, subst, ◌∙◌, arith, length-append, append_assoc}
+use Rattle.std.specs.Prelude.{◌==◌, codes, decimal, if◌then◌else◌}
 use Rattle.std.specs.List.{list_all, flat_map, AllByRecursion}
-use Rattle.std.specs.Str.Lines.{strip_carriage_return}
 use Rattle.std.proofs.lemmas.Bool.{ne_eqb, le-leb, leb-true, eqb-true, and_parts}
 use Rattle.std.proofs.lemmas.List.Concat.{flat_map-append}
 use Rattle.study_board.specs.declared.men.Side.{Side}
 use Rattle.study_board.specs.declared.men.Side.TheVariants.{White, Black}
-use Rattle.study_board.specs.Position.{Position, IsValid}
 use Rattle.study_moves.specs.declared.moves.Move.{Move}
 use Rattle.study_notation.specs.declared.start.Start.{Start}
 use Rattle.study_notation.specs.declared.fault.FenFault.{FenFault}
 use Rattle.study_notation.specs.declared.fault.SanFault.{SanFault}
 use Rattle.study_notation.specs.Fen.{start_of}
 use Rattle.study_notation.specs.FenSpelling.{fen_text}
-use Rattle.study_notation.specs.Matching.{move_of}
 use Rattle.study_notation.specs.Written.{move_text}
 use Rattle.study_notation.proofs.FenAgain.{start_again}
 use Rattle.study_notation.proofs.FenStarts.{IsRead as IsStart, read_is}
@@ -23,10 +20,9 @@ use Rattle.study_marks.specs.declared.stipulation.Goal.{Goal}
 use Rattle.study_marks.specs.declared.stipulation.Goal.TheVariants.{Win, Draw, MateIn}
 use Rattle.study_marks.specs.declared.stipulation.Stipulation.{Stipulation}
 use Rattle.study_marks.specs.declared.tag.TagName.{TagName}
-use Rattle.study_marks.specs.declared.tag.TagName.TheVariants as named
 use Rattle.study_marks.specs.declared.refusal.Refusal.{Refusal}
 use Rattle.study_marks.specs.Study.{tag_name, position_at}
-use Rattle.study_marks.specs.Edits.{Plainly, positioned, stipulated, inserted, tagged, insert_refusal, tag_refusal}
+use Rattle.study_marks.specs.Edits.{Plainly, inserted, tagged}
 use Rattle.study_command.specs.Lines.{script_lines, feed_count}
 use Rattle.study_command.specs.Laws.{IsPlain}
 use Rattle.study_command.specs.declared.command.FenCommand.TheVariants.{Position as PositionWord}
@@ -42,12 +38,12 @@ use Rattle.study_import.specs.declared.aims.Aim.{Aim}
 use Rattle.study_import.specs.declared.movetext.MovesFault.{MovesFault}
 use Rattle.study_import.specs.Movetext.{Ended}
 use Rattle.study_import.specs.Reading.{insert_line}
-use Rattle.study_import.specs.Insertions.{Insertion, made_by, AllAccepted, AllReadAgain, lines_for, Leads}
-use Rattle.study_import.specs.Blocks.{Entry, Block, no_study, left_out, fault_words, token_name, Told, told_of, head_line, remark_lines, position_line, stipulation_line, tag_line, tag_value_text, six_names, study_lines, block_lines, aim_of_game, aimed_block, stopped_block, read_block, no_moves, game_read, fen_in, start_block, fen_block, tagged_block, header_block, sized_block, block_of, place_in, last_line, one_if, is_chosen, Tally, tallied, told_text, blocks}
-use Rattle.study_import.specs.Documents.{Document, empty, placed, composed, with_start, after_position, new_study, after_stipulate, unless_refused, after_tag, after_move, after_insert, after_command, after_line, after_lines}
+use Rattle.study_import.specs.Insertions.{Insertion, made_by, AllAccepted, AllReadAgain, lines_for}
+use Rattle.study_import.specs.Blocks.{Entry, Block, no_study, left_out, token_name, Told, told_of, head_line, remark_lines, position_line, stipulation_line, tag_line, tag_value_text, six_names, study_lines, block_lines, aim_of_game, aimed_block, stopped_block, read_block, no_moves, game_read, fen_in, start_block, fen_block, header_block, sized_block, block_of, place_in, last_line, is_chosen, Tally, tallied, told_text, blocks}
+use Rattle.study_import.specs.Documents.{Document, empty, placed, composed, with_start, after_position, new_study, after_stipulate, unless_refused, after_move, after_line, after_lines}
 use Rattle.study_import.specs.Meant.{tag_texts, study_aimed, study_read, study_begun, study_with_fen, study_behind_header, study_in, study_of_game}
-use Rattle.study_import.specs.Laws.{entry_of, IsCounted, IsGiven, HasSixTags, document_then, document_behind, IsShort as IsShortLine, IsRead, AreRead, IsScriptRead, AreScriptsRead}
-use Rattle.study_import.proofs.Ink.{Ink, Print, ink_prints}
+use Rattle.study_import.specs.Laws.{IsCounted, IsGiven, HasSixTags, document_then, document_behind, IsShort as IsShortLine, AreRead, AreScriptsRead}
+use Rattle.study_import.proofs.Ink.{Print}
 use Rattle.study_import.proofs.Spelling.{IsShort, IsFen, AllBelow, move_short, move_some, fen_is, path_short, path_some}
 use Rattle.study_import.proofs.PathAgain.{path_again}
 use Rattle.study_import.proofs.Narrow.{IsOpen, IsNarrow, is_open, narrow_inserted, open_few}
@@ -57,8 +53,8 @@ use Rattle.study_import.proofs.TagsTaken.{taken}
 use Rattle.study_import.proofs.TagsTrimmed.{text_trimmed, text_prints, text_few}
 use Rattle.study_import.proofs.AimsCounted.{aim_counted}
 use Rattle.study_import.proofs.Openings.{opening_given}
-use Rattle.study_import.proofs.CommandLines.{IsTrimmed, side_words, goal_words, stipulate_words, insert_words, tag_words, position_asked, stipulate_asked, stipulate_prints, insert_asked, insert_prints, tag_asked, tag_prints, pgn_asked, empty_asked, position_prints}
-use Rattle.study_import.proofs.Remarks.{shows, IsLine, IsRemark, fed, AreLines, each_append, IsPart, number_part, joined, wider, tag_part, head_remark, remarks_are, left_out_is, fault_words_are, token_part, stopped_lines, fen_words_part, last_is}
+use Rattle.study_import.proofs.CommandLines.{side_words, goal_words, stipulate_words, insert_words, tag_words, position_asked, stipulate_asked, stipulate_prints, insert_asked, insert_prints, tag_asked, tag_prints, pgn_asked, empty_asked, position_prints}
+use Rattle.study_import.proofs.Remarks.{shows, IsLine, IsRemark, fed, AreLines, each_append, IsPart, number_part, joined, tag_part, head_remark, remarks_are, left_out_is, fault_words_are, token_part, stopped_lines, fen_words_part, last_is}
 
 -- ---- lines are found where they are written
 

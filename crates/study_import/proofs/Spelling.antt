@@ -1,5 +1,5 @@
 -- The texts of moves, of starts and of paths are words that print.
-use Rattle.std.proofs.Common.{◌≡◌, ℕ, zero, suc, ◌+◌, ◌*◌, ◌/◌, ◌%◌, ◌<◌, ◌≤◌, Bool, true, false, List, [], ◌∷◌, ◌++◌, length, Option, Some, None, refl, sym, ap, subst, ◌∙◌, inl, inr, arith, length-append, append_assoc}
+use Rattle.std.proofs.Common.{◌≡◌, ℕ, zero, suc, ◌+◌, ◌*◌, ◌/◌, ◌<◌, ◌≤◌, Bool, true, false, List, [], ◌∷◌, ◌++◌, length, Option, Some, None, refl, sym, ap, subst, inl, inr, arith, length-append, append_assoc}
 use Rattle.std.specs.Prelude.{IfSome, decimal, ◌==◌, if◌then◌else◌}
 use Rattle.std.proofs.lemmas.Bool.{cases_Bool, eqb-true, and_parts, ltb-false}
 use Rattle.std.proofs.lemmas.Fmt.{length-decimal-le, decimal_nonempty}
@@ -10,7 +10,7 @@ use Rattle.study_board.specs.declared.men.Kind.TheVariants.{King, Queen, Rook, B
 use Rattle.study_board.specs.declared.men.Man.{Man}
 use Rattle.study_board.specs.Geometry.{file_of, rank_of}
 use Rattle.study_board.specs.Position.{Position, IsValid, man_at, in_check, passed_possible, could_be_passed}
-use Rattle.study_board.proofs.Valid.{IsFaultless, IsFaultless-from_first}
+use Rattle.study_board.proofs.Valid.{IsFaultless-from_first}
 use Rattle.study_moves.specs.declared.moves.Move.{Move}
 use Rattle.study_moves.specs.Rules.{is_legal, after}
 use Rattle.study_moves.specs.LegalList.{is_mate}
@@ -20,9 +20,9 @@ use Rattle.study_notation.specs.declared.san.San.{San}
 use Rattle.study_notation.specs.declared.placement.Piece.{Piece}
 use Rattle.study_notation.specs.declared.start.Start.{Start}
 use Rattle.study_notation.specs.San.{kind_text, file_text, rank_text, takes_text, promotion_text, san_text}
-use Rattle.study_notation.specs.FenSpelling.{man_letter, piece_on, row, run, spelled, rank_field, ranks_text, placement_text, side_text, square_text, passed_text, fen_text}
+use Rattle.study_notation.specs.FenSpelling.{man_letter, row, run, spelled, rank_field, ranks_text, placement_text, side_text, square_text, passed_text, fen_text}
 use Rattle.study_notation.specs.Written.{gives_file, gives_rank, san_for, check_text, move_text}
-use Rattle.study_notation.proofs.FenStarts.{IsRead, read_is}
+use Rattle.study_notation.proofs.FenStarts.{IsRead}
 use Rattle.study_notation.proofs.RowText.{length-placement_text}
 use Rattle.study_tree.specs.Paths.{path_text, more_places}
 use Rattle.study_import.proofs.Ink.{Ink, Print, ink_append, ink_prints, print_append, decimal_ink}

@@ -1,5 +1,5 @@
 -- The movetext of a tree is read as that tree.
-use Rattle.std.proofs.Common.{◌≡◌, ℕ, zero, suc, ◌+◌, ◌-◌, ◌<◌, ◌≤◌, Bool, true, false, List, [], ◌∷◌, ◌++◌, length, take, Option, Some, None, Ok, refl, sym, ap, subst, ◌∙◌, inl, inr, arith, length-append, append_assoc}
+use Rattle.std.proofs.Common.{◌≡◌, ℕ, zero, suc, ◌+◌, ◌<◌, ◌≤◌, Bool, true, false, List, [], ◌∷◌, ◌++◌, length, take, Option, Some, None, refl, sym, ap, subst, ◌∙◌, inl, inr, arith, length-append, append_assoc}
 use Rattle.std.specs.Prelude.{◌==◌, ◌||◌, nat_le, ◌/◌, codes, decimal, if◌then◌else◌}
 use Rattle.std.specs.List.{list_all}
 use Rattle.std.proofs.lemmas.Bool.{false_from_ne_true, and_from, leb-true, ne_eqb, and_parts}
@@ -20,12 +20,11 @@ use Rattle.study_values.specs.declared.value.Value.{Value}
 use Rattle.study_values.specs.declared.value.Value.TheVariants.{Win, Loss, Draw}
 use Rattle.study_tree.specs.Forest.{Forest, none, more, nodes_in}
 use Rattle.study_tree.specs.Edits.{has_node, with_last, width, children_at, IsWithin}
-use Rattle.study_tree.specs.Tree.{size_of}
 use Rattle.study_marks.specs.declared.mark.Mark.{Mark}
 use Rattle.study_marks.specs.declared.mark.MoveMark.{MoveMark}
 use Rattle.study_marks.specs.declared.mark.MoveMark.TheVariants.{Only, Dual, Idle, Mistake, Reply}
 use Rattle.study_marks.specs.declared.stipulation.Stipulation.{Stipulation}
-use Rattle.study_marks.specs.Study.{mapped, moves_to, position_after, position_at, same_move, place_from, place_at, IsPlayable, AreOthers, AreDistinct}
+use Rattle.study_marks.specs.Study.{moves_to, position_after, position_at, same_move, place_from, IsPlayable, AreOthers, AreDistinct}
 use Rattle.study_marks.specs.Edits.{Plainly, inserted, is_printable}
 use Rattle.study_marks.proofs.DualCounts.{same_move-one}
 use Rattle.study_pgn.specs.Values.{side_name, mates_text, value_text}
@@ -39,9 +38,9 @@ use Rattle.study_import.specs.declared.lines.Waiting.{Waiting}
 use Rattle.study_import.specs.Notes.{GameRead}
 use Rattle.study_import.specs.Written.{plainly}
 use Rattle.study_import.proofs.Ink.{Ink, ink_of, decimal_ink}
-use Rattle.study_import.proofs.Spelling.{move_short, move_some}
-use Rattle.study_import.proofs.Blanks.{Same, Cut, same_cut, WordCut, word_cut, IsGap, SpaceCut, space_cut, same_all}
-use Rattle.study_import.proofs.SanSymbols.{IsSymbol, symbol_is, symbol_said, symbol_move, symbol_prints}
+use Rattle.study_import.proofs.Spelling.{move_short}
+use Rattle.study_import.proofs.Blanks.{Same, same_cut, word_cut, IsGap, space_cut, same_all}
+use Rattle.study_import.proofs.SanSymbols.{symbol_is, symbol_said, symbol_move, symbol_prints}
 use Rattle.study_import.proofs.TreeHoles.{Plain, put, put_has, put_here, put_way, put_width, put_place, put_moves, put_last, put_put, put_nodes, position_on, beside, beside_assoc, beside_none, last_put, last_has, last_is, last_moves, last_nodes, beside_nodes, beside_place, first_put, first_beside}
 use Rattle.study_import.proofs.ReadSteps.{At, Reached, reached_on, gap_step, dot_step, number_step, glyph_step, comment_step, IsNew, move_step, open_step, close_step, decimal_digits, decimal_some}
 

@@ -1,21 +1,18 @@
 -- Each token has a byte at least, so that a game is read to its end.
-use Rattle.std.proofs.Common.{◌≡◌, ℕ, zero, suc, ◌+◌, ◌-◌, ◌<◌, ◌≤◌, Bool, true, false, List, [], ◌∷◌, length, drop, Option, Some, None, Result, Ok, Err, refl, sym, ap, subst, ◌∙◌, inl, inr, arith, length-drop}
+use Rattle.std.proofs.Common.{◌≡◌, ℕ, zero, suc, ◌+◌, ◌≤◌, Bool, true, false, List, [], ◌∷◌, length, drop, Option, Some, None, Result, Ok, Err, refl, sym, ap, ◌∙◌, arith, length-drop}
 use Rattle.std.specs.Prelude.{◌==◌, ◌&&◌, ◌||◌, if◌then◌else◌}
 use Rattle.std.specs.List.{prefix_len}
-use Rattle.std.proofs.lemmas.Bool.{cases_Bool}
-use Rattle.study_notation.specs.declared.start.Start.{Start}
-use Rattle.study_games.specs.declared.token.TokenFault.{TokenFault}
 use Rattle.study_games.specs.declared.token.TokenFault.TheVariants.{OpenComment, TagForm, OpenString, Byte}
 use Rattle.study_games.specs.declared.header.HeaderFault.{HeaderFault}
 use Rattle.study_games.specs.Bytes.{is_blank, is_gap, is_letter, is_digit, is_name_byte, is_sign, begins_symbol, is_symbol_byte, is_glyph}
-use Rattle.study_games.specs.Tokens.{Token, Lexed, front, behind, closed, is_inside, comment_at, is_in_line, value_end, without_first, behind_value, valued, quoted, named, tag_at, run_of, lexed, begins_feed, blank, aside, opening, closing, star, tag, comment, rest, sign, symbol}
-use Rattle.study_games.specs.Header.{Pair, Step, on, no_tag, ended, step_of, step_at, with_tags, tags_in, with_fault, fault_in, tags_of, header_fault}
+use Rattle.study_games.specs.Tokens.{Lexed, front, behind, closed, is_inside, comment_at, is_in_line, value_end, without_first, behind_value, valued, quoted, named, tag_at, lexed, blank, aside, opening, closing, star, tag, comment, rest, sign, symbol}
+use Rattle.study_games.specs.Header.{Pair, Step, on, no_tag, ended, step_of, with_tags, tags_in, with_fault, fault_in, tags_of, header_fault}
 use Rattle.study_import.specs.declared.taking.Reason.{Reason}
 use Rattle.study_import.specs.declared.movetext.MovesFault.{MovesFault}
 use Rattle.study_import.specs.Notes.{GameRead, GameTaken, game_taken}
-use Rattle.study_import.specs.Movetext.{Ended, at_end, goes_on, on_token, read_moves}
+use Rattle.study_import.specs.Movetext.{Ended, goes_on, on_token, read_moves}
 use Rattle.study_import.specs.Blocks.{no_moves, game_read}
-use Rattle.study_import.specs.Laws.{IsWhole, AreWhole}
+use Rattle.study_import.specs.Laws.{AreWhole}
 
 -- what follows a token has so many bytes at most
 abbrev pub Within : ℕ → Lexed → Type 0

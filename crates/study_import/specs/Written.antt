@@ -1,5 +1,5 @@
 -- Studies that were written as PGN.
-use Rattle.std.specs.Prelude.{◌≡◌, ◌+◌, ◌≤◌, ℕ, true, List, length, map, Option, Some, None}
+use Rattle.std.specs.Prelude.{◌≡◌, ◌+◌, ◌≤◌, ℕ, true, List, map, Option, Some, None}
 use Rattle.study_board.specs.Position.{IsValid}
 use Rattle.study_tree.specs.Forest.{Forest, nodes_in}
 use Rattle.study_tree.specs.Edits.{IsWithin}
