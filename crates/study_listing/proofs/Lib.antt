@@ -6,3 +6,6 @@ pub mod Shown
 pub mod PlacedImages
 pub mod Selected
 pub mod Keys
+pub mod KeyImages
+pub mod EachListed
+pub mod Pieces

@@ -4,6 +4,7 @@ use Rattle.std.specs.Prelude.{if◌then◌else◌}
 use Rattle.std.proofs.lemmas.Bool.{false≢true}
 use Rattle.study_board.specs.declared.men.Man.{Man}
 use Rattle.study_board.specs.Position.{Position, IsValid}
+use Rattle.study_board.specs.declared.symmetry.Symmetry.{Symmetry}
 use Rattle.study_board.specs.Symmetry.{image, admits}
 use Rattle.study_board.specs.Images.{back, differ}
 use Rattle.study_board.proofs.ImagesOfImages.{IsTurnable-from_valid, image_back, admits_back, admits_image}
@@ -36,43 +37,57 @@ same-flag false true f = absurd (false≢true (sym f))
 same-flag true false f = absurd (false≢true (sym f))
 same-flag true true f = refl
 
-bare-men : (p : Position) → (bare p).men ≡ p.men
+pub bare-men : (p : Position) → (bare p).men ≡ p.men
 bare-men p = by_live (has_legal_en_passant p)
   where
     by_live : (b : Bool) → (if b then p else without_passed p).men ≡ p.men
     by_live true = refl
     by_live false = refl
 
-module _ (law : AllAgreeWithBare) (ws : List (Option Placed)) (c : Class) (p q : Position) (valid : IsValid p) (home : IsOf c p)
-    (unswapped : is_swapped p.men ≡ false) (there : are_placed ws p ≡ true) (told : position_numbered c (index_of p) ≡ Some q) where
-  -- q is an image of the bare position, the colours kept
-  pub image-placed : HasImagePlaced ws q
-  image-placed =
+-- q is an image of the bare position, the colours kept
+pub record IsKept (p q : Position) : Type 0 where
+  pub by : Symmetry
+  pub colours : by.colours ≡ false
+  pub admitted : admits (bare p) by ≡ true
+  pub is : q ≡ image by (bare p)
+
+module _ (law : AllAgreeWithBare) (c : Class) (p q : Position) (valid : IsValid p) (home : IsOf c p) (unswapped : is_swapped p.men ≡ false)
+    (told : position_numbered c (index_of p) ≡ Some q) where
+  pub kept : IsKept p q
+  kept =
       let n = index_of p in
       let r = numbered c p n valid home (IsIndex-index_of p valid) in
       let e = entry c n r.0 r.1 in
       let alike = alike_back c r.0 p r.2 in
       let by = alike.alike.images.by in
       let same : r.0 ≡ q = same-some r.0 q (sym (decoded_told c n r.0 r.1) ∙ told) in
-      let is : q ≡ image by (bare p) = sym same ∙ sym e.is_bare ∙ alike.alike.images.is in
+      let is : r.0 ≡ image by (bare p) = sym e.is_bare ∙ alike.alike.images.is in
       let keeps : (lists (bare p).men).white ≡ (lists (bare p).men).black → by.colours ≡ false =
       (λ like. alike.kept (ap (λ l. l.white) home ∙ ordered-same (lists p.men) (subst (λ xs. (lists xs).white ≡ (lists xs).black) (bare-men p) like)
       ∙ sym (ap (λ l. l.black) home))) in
-      let colours : by.colours ≡ false =
-      same-flag by.colours (is_swapped (bare p).men) (sym (swapped-image by (bare p).men keeps) ∙ sym (ap (λ x. is_swapped x.men) (sym e.is_bare ∙ alike.alike.images.is)) ∙ e.in_order)
-      ∙ ap (λ xs. is_swapped xs) (bare-men p) ∙ unswapped in
-      let turnable = IsTurnable-from_valid by (bare p) (law p valid).valid alike.alike.images.admitted in
-      let again : image (back by) q ≡ bare p = ap (λ x. image (back by) x) is ∙ image_back by (bare p) turnable in
       record {
-        by = back by;
-        colours = colours;
-        admitted = ap (λ x. admits x (back by)) is ∙ admits_image by (back by) (bare p) (law p valid).valid alike.alike.images.admitted
-            ∙ admits_back by (bare p) alike.alike.images.admitted;
-        placed = ap (λ x. are_placed ws x) again ∙ placed-bare;
+        by = by;
+        colours =
+            same-flag by.colours (is_swapped (bare p).men) (sym (swapped-image by (bare p).men keeps) ∙ sym (ap (λ x. is_swapped x.men) is) ∙ e.in_order)
+            ∙ ap (λ xs. is_swapped xs) (bare-men p) ∙ unswapped;
+        admitted = alike.alike.images.admitted;
+        is = sym same ∙ is;
       }
-    where
-      placed-bare : are_placed ws (bare p) ≡ true
-      placed-bare = subst (λ (men : List Man). are_placed ws (record { men = men; to_move = p.to_move; passed = p.passed }) ≡ true) (sym (bare-men p)) there
+
+  pub image-placed : (ws : List (Option Placed)) → are_placed ws p ≡ true → HasImagePlaced ws q
+  image-placed ws there =
+      let k = kept in
+      let sound = (law p valid).valid in
+      let again : image (back k.by) q ≡ bare p =
+      ap (λ x. image (back k.by) x) k.is ∙ image_back k.by (bare p) (IsTurnable-from_valid k.by (bare p) sound k.admitted) in
+      record {
+        by = back k.by;
+        colours = k.colours;
+        admitted = ap (λ x. admits x (back k.by)) k.is ∙ admits_image k.by (back k.by) (bare p) sound k.admitted ∙ admits_back k.by (bare p) k.admitted;
+        placed = ap (λ x. are_placed ws x) again
+            ∙ subst (λ (men : List Man). are_placed ws (record { men = men; to_move = p.to_move; passed = p.passed }) ≡ true) (sym (bare-men p)) there;
+      }
 
 pub placed-shown : AllAgreeWithBare → PlacedAreShown
-placed-shown law s p q valid home unswapped there told = has-some s q (image-placed law s.filters.men s.search.class p q valid home unswapped there told)
+placed-shown law s p q valid home unswapped there told =
+    has-some s q (image-placed law s.search.class p q valid home unswapped told s.filters.men there)

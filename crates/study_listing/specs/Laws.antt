@@ -6,10 +6,12 @@ use Rattle.study_material.specs.Class.{IsOf}
 use Rattle.study_material.specs.Lists.{is_swapped}
 use Rattle.study_values.specs.Index.{index_of}
 use Rattle.study_index.specs.Computed.{position_numbered}
+use Rattle.study_search.specs.Finding.{is_for}
 use Rattle.study_search.specs.Pairs.{counterpart}
+use Rattle.study_search.specs.Themes.{HasTheme}
 use Rattle.study_listing.specs.declared.filters.Selection.{Selection}
 use Rattle.study_listing.specs.declared.text.Form.{Form}
-use Rattle.study_listing.specs.Filters.{no_filters, are_placed, HasImagePlaced}
+use Rattle.study_listing.specs.Filters.{no_filters, are_placed, HasImagePlaced, HasWantedKey}
 use Rattle.study_listing.specs.Lists.{is_paired, shown, IsListedAt, IsList}
 
 -- One list alone is that of a range of numbers.
@@ -40,3 +42,10 @@ ImagesAreShown = (s : Selection) (p : Position) → IsShownRightly s p
 abbrev pub PlacedAreShown : Type 0
 PlacedAreShown = (s : Selection) (p q : Position) → IsValid p → IsOf s.search.class p → is_swapped p.men ≡ false
     → are_placed s.filters.men p ≡ true → position_numbered s.search.class (index_of p) ≡ Some q → is_some (shown s q) ≡ true
+
+-- Each position of the class that has the theme, White having the class's first list, with the side to move that is looked for, men where they are
+-- asked for and a key that is let through, is listed by its index. (Of a mutual zugzwang in two placements one is.)
+abbrev pub EachIsListed : Type 0
+EachIsListed = (s : Selection) (p : Position) → IsValid p → IsOf s.search.class p → is_swapped p.men ≡ false → is_for s.search.side p.to_move ≡ true
+    → HasTheme s.search.theme p → are_placed s.filters.men p ≡ true → HasWantedKey s.filters p → is_paired s.search ≡ false
+    → IsListedAt s (index_of p)

@@ -6,3 +6,4 @@ pub mod Lists
 pub mod Stops
 pub mod Requests
 pub mod Laws
+pub mod Pieces

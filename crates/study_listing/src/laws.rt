@@ -1,7 +1,8 @@
 //! Laws over the definitions: functions that do nothing.
-ghost use Rattle.study_listing.specs.Laws.{ListsAreUnique, ListsHaveAll, ImagesAreShown, PlacedAreShown};
+ghost use Rattle.study_listing.specs.Laws.{ListsAreUnique, ListsHaveAll, ImagesAreShown, PlacedAreShown, EachIsListed};
 
 use study_moves::{bare_agrees, values_are_unique};
+use study_search::each_is_found_once;
 
 /// One list alone is that of a range of numbers.
 pub fn lists_are_unique()
@@ -25,4 +26,12 @@ pub fn placed_are_shown()
     ensures { PlacedAreShown }
 {
     bare_agrees();
+}
+
+/// Each position of the class that has the theme and that the filters let through is listed.
+pub fn each_is_listed()
+    ensures { EachIsListed }
+{
+    bare_agrees();
+    each_is_found_once();
 }

@@ -12,6 +12,8 @@ mod filters;
 mod laws;
 mod listed;
 mod listing;
+mod piece;
+mod piece_words;
 mod request;
 mod text;
 
@@ -19,11 +21,15 @@ pub use facts::{Facts, Wanted, facts_of};
 pub use fault::Stop;
 pub use filter_words::Unread;
 pub use filters::{Filters, Placed, Selection};
-pub use laws::{images_are_shown, lists_are_unique, lists_have_all, placed_are_shown};
+pub use laws::{
+    each_is_listed, images_are_shown, lists_are_unique, lists_have_all, placed_are_shown,
+};
 pub use listed::has_like_sides;
 pub use listing::{
     MAX_STUDIES, NoWatch, Numbers, Watch, count_found, count_numbers, list_found, list_numbers,
     selection_of,
 };
+pub use piece::{classes_for, need_tables, write_piece};
+pub use piece_words::{Piece, PieceFault, read_piece};
 pub use request::{Request, read_request};
 pub use text::{Form, Listed, text_of};

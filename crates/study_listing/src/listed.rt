@@ -60,7 +60,8 @@ fn is_one_of_pair<V: Values>(
     p: &Position,
     values: &mut V,
 ) -> Result<bool, ProbeFault>
-    ensures game { V.is_honest values.old → IsLookedFor search.now p.now → IfOk result (λ b. (b ≡ true) ↔ IsOneOfPair search.now p.now) }
+    ensures game { V.is_honest values.old → IsLookedFor search.now p.now
+        → IfOk result (λ b. (b ≡ true) ↔ IsOneOfPair search.now p.now) }
     ensures no_table { (c : AClass) → IsErrOf result (ProbeFault.NoTable c) → V.held values.old c ≡ false }
     ensures no_damage { V.is_honest values.old → IfErr result IsNotDamage }
     ensures honest { V.is_honest values.old → V.is_honest values.new }
@@ -134,9 +135,12 @@ fn image_listed<V: Values>(
     p: &Position,
     values: &mut V,
 ) -> Result<Option<Position>, ProbeFault>
-    ensures some { V.is_honest values.old → IsLookedFor selection.now.search p.now → IfOk result (λ at. IfSome at (λ q. IsListed selection.now p.now)) }
-    ensures image { V.is_honest values.old → IsLookedFor selection.now.search p.now → IfOk result (λ at. IfSome at (λ q. shown selection.now p.now ≡ Some q)) }
-    ensures none { V.is_honest values.old → IsLookedFor selection.now.search p.now → IfOk result (λ at. IfNone at (¬ (IsListed selection.now p.now))) }
+    ensures some { V.is_honest values.old → IsLookedFor selection.now.search p.now
+        → IfOk result (λ at. IfSome at (λ q. IsListed selection.now p.now)) }
+    ensures image { V.is_honest values.old → IsLookedFor selection.now.search p.now
+        → IfOk result (λ at. IfSome at (λ q. shown selection.now p.now ≡ Some q)) }
+    ensures none { V.is_honest values.old → IsLookedFor selection.now.search p.now
+        → IfOk result (λ at. IfNone at (¬ (IsListed selection.now p.now))) }
     ensures no_table { (c : AClass) → IsErrOf result (ProbeFault.NoTable c) → V.held values.old c ≡ false }
     ensures no_damage { V.is_honest values.old → IfErr result IsNotDamage }
     ensures honest { V.is_honest values.old → V.is_honest values.new }
@@ -158,10 +162,12 @@ pub(crate) fn listed_at<V: Values>(
     number: u32,
     values: &mut V,
 ) -> Result<Option<Position>, ProbeFault>
-    ensures some { V.is_honest values.old → IsFound selection.now.search number → IfOk result (λ at. IfSome at (λ q. IsListedAt selection.now number)) }
+    ensures some { V.is_honest values.old → IsFound selection.now.search number
+        → IfOk result (λ at. IfSome at (λ q. IsListedAt selection.now number)) }
     ensures image { V.is_honest values.old → IsFound selection.now.search number → IfOk result (λ at. IfSome at (λ q.
         (p : APosition) × (position_numbered selection.now.search.class number ≡ Some p) × (shown selection.now p ≡ Some q))) }
-    ensures none { V.is_honest values.old → IsFound selection.now.search number → IfOk result (λ at. IfNone at (¬ (IsListedAt selection.now number))) }
+    ensures none { V.is_honest values.old → IsFound selection.now.search number
+        → IfOk result (λ at. IfNone at (¬ (IsListedAt selection.now number))) }
     ensures no_table { (c : AClass) → IsErrOf result (ProbeFault.NoTable c) → V.held values.old c ≡ false }
     ensures no_damage { V.is_honest values.old → IfErr result IsNotDamage }
     ensures honest { V.is_honest values.old → V.is_honest values.new }
@@ -180,10 +186,12 @@ pub(crate) fn text_at<V: Values>(
     number: u32,
     values: &mut V,
 ) -> Result<Option<Listed>, ProbeFault>
-    ensures some { V.is_honest values.old → IsFound selection.now.search number → IfOk result (λ at. IfSome at (λ p. IsListedAt selection.now number)) }
+    ensures some { V.is_honest values.old → IsFound selection.now.search number
+        → IfOk result (λ at. IfSome at (λ p. IsListedAt selection.now number)) }
     ensures text { V.is_honest values.old → IsFound selection.now.search number
         → IfOk result (λ at. IfSome at (λ text. IsTextAt selection.now form number text.bytes)) }
-    ensures none { V.is_honest values.old → IsFound selection.now.search number → IfOk result (λ at. IfNone at (¬ (IsListedAt selection.now number))) }
+    ensures none { V.is_honest values.old → IsFound selection.now.search number
+        → IfOk result (λ at. IfNone at (¬ (IsListedAt selection.now number))) }
     ensures no_table { (c : AClass) → IsErrOf result (ProbeFault.NoTable c) → V.held values.old c ≡ false }
     ensures no_damage { V.is_honest values.old → IfErr result IsNotDamage }
     ensures honest { V.is_honest values.old → V.is_honest values.new }

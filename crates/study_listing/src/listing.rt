@@ -104,7 +104,8 @@ pub fn list_numbers<V: Values, W: Write, H: Watch>(
     out: &mut W,
     watch: &mut H,
 ) -> Result<u32, Stop>
-    ensures list { V.is_honest values.old → IfOk result (HasWritten selection.now form numbers.from numbers.to (W.contents out.old) (W.contents out.new)) }
+    ensures list { V.is_honest values.old
+        → IfOk result (HasWritten selection.now form numbers.from numbers.to (W.contents out.old) (W.contents out.new)) }
     ensures values { V.is_honest values.old → (f : AFault) → IsErrOf result (Stop.Values f)
         → HasWrittenSome selection.now form numbers.from numbers.to (W.contents out.old) (W.contents out.new) }
     ensures device { V.is_honest values.old → IsErrOf result Stop.WriteDevice
@@ -167,7 +168,8 @@ fn list_lines<V: Values, W: Write, H: Watch>(
     out: &mut W,
     watch: &mut H,
 ) -> Result<u32, Stop>
-    ensures list { V.is_honest values.old → IfOk result (HasWritten selection.now Form.Lines 0 (cells_of selection.now.search.class) (W.contents out.old) (W.contents out.new)) }
+    ensures list { V.is_honest values.old
+        → IfOk result (HasWritten selection.now Form.Lines 0 (cells_of selection.now.search.class) (W.contents out.old) (W.contents out.new)) }
     ensures values { V.is_honest values.old → (f : AFault) → IsErrOf result (Stop.Values f)
         → HasWrittenSome selection.now Form.Lines 0 (cells_of selection.now.search.class) (W.contents out.old) (W.contents out.new) }
     ensures device { V.is_honest values.old → IsErrOf result Stop.WriteDevice
@@ -192,7 +194,8 @@ fn list_studies<V: Values, W: Write, H: Watch>(
     out: &mut W,
     watch: &mut H,
 ) -> Result<u32, Stop>
-    ensures list { V.is_honest values.old → IfOk result (HasWritten selection.now Form.Script 0 (cells_of selection.now.search.class) (W.contents out.old) (W.contents out.new)) }
+    ensures list { V.is_honest values.old
+        → IfOk result (HasWritten selection.now Form.Script 0 (cells_of selection.now.search.class) (W.contents out.old) (W.contents out.new)) }
     ensures few { V.is_honest values.old → IfOk result (λ count. count ≤ 25000) }
     ensures many { V.is_honest values.old → IsErrOf result Stop.TooManyStudies
         → (count : ℕ) × AreSoMany selection.now 0 (cells_of selection.now.search.class) count × (25000 < count) }
@@ -230,7 +233,8 @@ pub fn list_found<V: Values, W: Write, H: Watch>(
     out: &mut W,
     watch: &mut H,
 ) -> Result<u32, Stop>
-    ensures list { V.is_honest values.old → IfOk result (HasWritten selection.now form 0 (cells_of selection.now.search.class) (W.contents out.old) (W.contents out.new)) }
+    ensures list { V.is_honest values.old
+        → IfOk result (HasWritten selection.now form 0 (cells_of selection.now.search.class) (W.contents out.old) (W.contents out.new)) }
     ensures few { V.is_honest values.old → form ≡ Form.Script → IfOk result (λ count. count ≤ 25000) }
     ensures many { V.is_honest values.old → IsErrOf result Stop.TooManyStudies
         → (form ≡ Form.Script) × ((count : ℕ) × AreSoMany selection.now 0 (cells_of selection.now.search.class) count × (25000 < count)) }

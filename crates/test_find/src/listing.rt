@@ -6,7 +6,7 @@ use study_board::Side;
 use study_index::index;
 use study_listing::{
     Filters, Form, MAX_STUDIES, NoWatch, Numbers, Request, Selection, Stop, count_found,
-    count_numbers, list_found, list_numbers, selection_of,
+    count_numbers, list_found, list_numbers, read_request, selection_of,
 };
 use study_material::Class;
 use study_notation::read_fen;
@@ -103,7 +103,9 @@ fn the_longest_wins_are_listed(rt: HostRuntime) {
     let alloc = rt.alloc();
     let mut values = tables(&rt, &alloc);
     let request = Request::Longest(Class::KPK, Side::White);
-    let found = selection_of(&request, &mut values).ok().expect(&rt, "values");
+    let found = selection_of(&request, &mut values)
+        .ok()
+        .expect(&rt, "values");
     let longest = found.expect(&rt, "a longest win");
     let mut out = MemoryWriter::new(&alloc);
     let found = list_found(&longest, Form::Lines, &mut values, &mut out, &mut NoWatch);
@@ -189,4 +191,40 @@ fn a_table_is_not_there_or_not_read(rt: HostRuntime) {
     let stopped = list_found(&wanted, Form::Lines, &mut failing, &mut out, &mut NoWatch);
     assert!(rt; stopped == Err(Stop::Values(ProbeFault::TableRead(SourceFault::Device))));
     assert!(rt; out.taken.is_empty());
+}
+
+/// By an independent program's list and the images of its positions: the mutual zugzwangs of KPK with White's king on e6 and his pawn
+/// on the files e to h.
+const PLACED: &[u8] = b"5k2/5P2/4K3/8/8/8/8/8 w - - 0 1 draw loss 14
+4k3/8/4KP2/8/8/8/8/8 w - - 0 1 draw loss 16
+";
+
+/// Of images the first with men on the squares is listed; none, where no image has them.
+#[test]
+fn images_are_listed(rt: HostRuntime) {
+    let alloc = rt.alloc();
+    let mut values = tables(&rt, &alloc);
+    let words = [
+        b"zugzwang".as_slice(),
+        b"Ke6".as_slice(),
+        b"Pe2-h7".as_slice(),
+    ];
+    let Ok(Request::Positions(wanted)) = read_request(Class::KPK, words.as_slice()) else {
+        assert!(rt; false);
+        return;
+    };
+    let mut out = MemoryWriter::new(&alloc);
+    let found = list_found(&wanted, Form::Lines, &mut values, &mut out, &mut NoWatch);
+    assert!(rt; found == Ok(2) && out.taken.as_slice() == PLACED);
+}
+
+/// By an independent program: of the three underpromotions of KPK none captures or gives check.
+#[test]
+fn keys_are_let_through(rt: HostRuntime) {
+    let alloc = rt.alloc();
+    let mut values = tables(&rt, &alloc);
+    let mut wanted = search(Theme::Underpromotion, None);
+    wanted.filters.no_check = true;
+    wanted.filters.no_capture = true;
+    assert!(rt; count_found(&wanted, &mut values, &mut NoWatch) == Ok(3));
 }

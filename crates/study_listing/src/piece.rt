@@ -1,0 +1,154 @@
+//! A list piece by piece.
+ghost use Rattle.std.specs.Prelude.{◌≡◌, ◌++◌, ◌∷◌, [], false, IfErr, OnOk, IsErrOf, decimal};
+ghost use Rattle.std.specs.Io.KnownBytes.{Appends};
+ghost use Rattle.study_material.specs.declared.class.Class.{Class as AClass};
+ghost use Rattle.study_values.specs.Number.{cells_of};
+ghost use Rattle.study_values.specs.Values.{IsNotDamage};
+ghost use Rattle.study_listing.specs.Lists.{IsSelectionOf};
+ghost use Rattle.study_listing.specs.Pieces.{AreLookedAt, end_of, how_far, HasWrittenPiece, HasWrittenLines};
+ghost use Rattle.study_listing.specs.Requests.{class_of_request};
+ghost use Rattle.study_listing.specs.Stops.{StopsUndamaged};
+
+use crate::fault::Stop;
+use crate::filters::Selection;
+use crate::listing::{NoWatch, Numbers, list_numbers, selection_of};
+use crate::piece_words::Piece;
+use crate::request::Request;
+use crate::text::Form;
+use arrayvec::{ArrayString, ArrayVec};
+use itoa::Buffer;
+use std::io::Write;
+use study_material::{CLASS_COUNT, Class, order};
+use study_text::write_text;
+use study_values::{ProbeFault, Values, cells};
+
+fn just(class: Class) -> ArrayVec<Class, CLASS_COUNT>
+    ensures { result.items ≡ class ∷ [] }
+{
+    let mut list = ArrayVec::new();
+    list.push(class);
+    list
+}
+
+/// The classes whose tables are looked at, each after those that it needs.
+pub fn classes_for(request: &Request) -> ArrayVec<Class, CLASS_COUNT>
+    ensures { AreLookedAt request.now result.items }
+{
+    let alone = request.is_of_one_table();
+    if alone {
+        return just(request.class());
+    }
+    order(request.class())
+}
+
+/// Refuses what wants a table that is not there, by the first class that has none.
+pub fn need_tables<V: Values>(request: &Request, values: &V) -> Result<(), ProbeFault>
+    ensures no_table { (c : AClass) → IsErrOf result (ProbeFault.NoTable c) → V.held values.now c ≡ false }
+    ensures no_damage { IfErr result IsNotDamage }
+{
+    for class in classes_for(request) {
+        if !values.holds(class) {
+            return Err(ProbeFault::NoTable(class));
+        }
+    }
+    Ok(())
+}
+
+/// Where the range ends.
+fn end_of(piece: &Piece) -> u32
+    ensures { result ≡ end_of piece.now }
+{
+    piece.numbers.to.min(cells(piece.request.class()))
+}
+
+/// Writes the lines of what is listed.
+fn write_lines<V: Values, W: Write>(
+    selection: Option<Selection>,
+    numbers: Numbers,
+    values: &mut V,
+    out: &mut W,
+) -> Result<(), Stop>
+    ensures lines { V.is_honest values.old → OnOk result (HasWrittenLines selection numbers.from numbers.to (W.contents out.old) (W.contents out.new)) }
+    ensures no_table { (c : AClass) → IsErrOf result (Stop.Values (ProbeFault.NoTable c)) → V.held values.old c ≡ false }
+    ensures no_damage { V.is_honest values.old → IfErr result StopsUndamaged }
+{
+    match selection {
+        None => Ok(()),
+        Some(selection) => {
+            match list_numbers(&selection, Form::Lines, numbers, values, out, &mut NoWatch) {
+                Err(stop) => Err(stop),
+                Ok(_) => Ok(()),
+            }
+        }
+    }
+}
+
+/// `to 100000 of 331776`
+#[tactic(auto, unfolding(crate::specs::Pieces::how_far))]
+fn how_far(end: u32, all: u32) -> ArrayString<32>
+    ensures { result.bytes ≡ how_far end all }
+{
+    let mut buffer = Buffer::new();
+    let mut line = ArrayString::new();
+    line.push_str("to ");
+    line.push_str(buffer.format(end));
+    line.push_str(" of ");
+    line.push_str(buffer.format(all));
+    line.push_str("\n");
+    line
+}
+
+/// Writes how far the list has come, of all numbers of the class.
+fn write_how_far<W: Write>(out: &mut W, end: u32, all: u32) -> Result<(), Stop>
+    ensures written { OnOk result (Appends (W.contents out.old) (W.contents out.new) (how_far end all)) }
+    ensures device { IfErr result (λ stop. stop ≡ Stop.WriteDevice) }
+{
+    match write_text(out, how_far(end, all).as_str().as_bytes()) {
+        Err(_) => Err(Stop::WriteDevice),
+        Ok(()) => Ok(()),
+    }
+}
+
+/// Writes the lines, and how far the list has come.
+fn write_selected<V: Values, W: Write>(
+    piece: &Piece,
+    selection: Option<Selection>,
+    values: &mut V,
+    out: &mut W,
+) -> Result<(), Stop>
+    ensures text { V.is_honest values.old → IsSelectionOf piece.now.request selection
+        → OnOk result (HasWrittenPiece piece.now (W.contents out.old) (W.contents out.new)) }
+    ensures no_table { (c : AClass) → IsErrOf result (Stop.Values (ProbeFault.NoTable c)) → V.held values.old c ≡ false }
+    ensures no_damage { V.is_honest values.old → IfErr result StopsUndamaged }
+{
+    let end = end_of(piece);
+    let numbers = Numbers {
+        from: piece.numbers.from,
+        to: end,
+    };
+    match write_lines(selection, numbers, values, out) {
+        Err(stop) => Err(stop),
+        Ok(()) => write_how_far(out, end, cells(piece.request.class())),
+    }
+}
+
+/// Writes the lines of the positions that are listed between the numbers, and then how far the list has come: `to N of M`, where all numbers of
+/// the class below N are looked through that are not below the first, and M is how many numbers it has. What stands in `out` after an error is
+/// no piece.
+pub fn write_piece<V: Values, W: Write>(
+    piece: &Piece,
+    values: &mut V,
+    out: &mut W,
+) -> Result<(), Stop>
+    ensures text { V.is_honest values.old → OnOk result (HasWrittenPiece piece.now (W.contents out.old) (W.contents out.new)) }
+    ensures no_table { (c : AClass) → IsErrOf result (Stop.Values (ProbeFault.NoTable c)) → V.held values.old c ≡ false }
+    ensures no_damage { V.is_honest values.old → IfErr result StopsUndamaged }
+{
+    if let Err(fault) = need_tables(&piece.request, values) {
+        return Err(Stop::Values(fault));
+    }
+    match selection_of(&piece.request, values) {
+        Err(fault) => Err(Stop::Values(fault)),
+        Ok(selection) => write_selected(piece, selection, values, out),
+    }
+}

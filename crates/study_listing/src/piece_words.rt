@@ -1,0 +1,82 @@
+//! The words of a piece of a list.
+ghost use Rattle.std.specs.Prelude.{◌≡◌, map};
+ghost use Rattle.study_listing.specs.Pieces.{number_told, numbers_of, numbers_told, numbered, piece_of};
+
+use crate::filter_words::Unread;
+use crate::listing::Numbers;
+use crate::request::{Request, read_request};
+use study_material::Class;
+
+/// What is listed, and which numbers of the class are looked through.
+#[derive(Clone, Copy, Debug, PartialEq, Eq)]
+pub struct Piece {
+    pub request: Request,
+    pub numbers: Numbers,
+}
+
+/// Why words ask for no piece.
+#[derive(Clone, Copy, Debug, PartialEq, Eq)]
+pub enum PieceFault {
+    Unread(Unread),
+    /// The last two words are no numbers of one to nine digits.
+    NoNumbers,
+}
+
+/// The number that one to nine digits spell.
+fn read_number(text: &[u8]) -> Option<u32>
+    ensures { result ≡ number_told text.now }
+{
+    if text.is_empty() || text.len() > 9 {
+        return None;
+    }
+    let mut n = 0u32;
+    for d in text {
+        if !d.is_ascii_digit() {
+            return None;
+        }
+        n = 10 * n + (*d - b'0') as u32;
+    }
+    Some(n)
+}
+
+fn numbers_of(from: Option<u32>, to: Option<u32>) -> Option<Numbers>
+    ensures { result ≡ numbers_of from to }
+{
+    match (from, to) {
+        (Some(from), Some(to)) => Some(Numbers { from, to }),
+        _ => None,
+    }
+}
+
+fn read_numbers(words: &[&[u8]]) -> Option<Numbers>
+    ensures { result ≡ numbers_told (map (λ word. word.now) words.now) }
+{
+    match words {
+        [from, to] => numbers_of(read_number(from), read_number(to)),
+        _ => None,
+    }
+}
+
+fn numbered(request: Result<Request, Unread>, numbers: Option<Numbers>) -> Result<Piece, PieceFault>
+    ensures { result ≡ numbered request numbers }
+{
+    match request {
+        Err(unread) => Err(PieceFault::Unread(unread)),
+        Ok(request) => match numbers {
+            None => Err(PieceFault::NoNumbers),
+            Some(numbers) => Ok(Piece { request, numbers }),
+        },
+    }
+}
+
+/// What the words `THEME [FILTER ..] FROM TO` after the class ask for.
+#[tactic(auto, using(crate::proofs::Pieces::fronts, crate::proofs::Pieces::backs))]
+pub fn read_piece(class: Class, words: &[&[u8]]) -> Result<Piece, PieceFault>
+    ensures { result ≡ piece_of class (map (λ word. word.now) words.now) }
+{
+    if words.len() < 2 {
+        return Err(PieceFault::NoNumbers);
+    }
+    let (front, back) = words.split_at(words.len() - 2);
+    numbered(read_request(class, front), read_numbers(back))
+}
