@@ -11,3 +11,4 @@ pub mod Reviews
 pub mod Shelves
 pub mod Unread
 pub mod ViewsLeft
+pub mod ViewText

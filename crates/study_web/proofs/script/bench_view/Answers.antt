@@ -11,7 +11,13 @@ use Rattle.study_command.specs.Paths.{steps_of}
 use Rattle.study_marks.specs.BenchState.{marked}
 use Rattle.study_web.proofs.Denials.{node_denial, probe_denial, view_stopped}
 use Rattle.study_web.proofs.Nodes.{lacks_plainly}
+use Rattle.study_web.proofs.ViewText.{view-taken}
 use Rattle.study_web.proofs.script.bench_view.Goals as goal
+
+pub returns-in-Ok-write_view-clause-text : goal.returns-in-Ok-write_view-clause-text
+returns-in-Ok-write_view-clause-text g c honest right =
+    view-taken (plain_study (marked c.args.bench.now)) (steps_of c.args.path.now) _ _ _ c.in-Ok.ensures.path c.new-text.ensures.items
+    (c.in-Ok-write_view.ensures.plain honest right)
 
 pub returns-in-Err-NoSuchNode-clause-none : goal.returns-in-Err-NoSuchNode-clause-none
 returns-in-Err-NoSuchNode-clause-none g c =
