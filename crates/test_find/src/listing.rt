@@ -6,7 +6,7 @@ use study_board::Side;
 use study_index::index;
 use study_listing::{
     Filters, Form, MAX_STUDIES, NoWatch, Numbers, Request, Selection, Stop, count_found,
-    count_numbers, list_found, list_numbers, read_request, selection_of,
+    count_numbers, list_found, list_numbers, read_request,
 };
 use study_material::Class;
 use study_notation::read_fen;
@@ -25,12 +25,6 @@ pgn
 ";
 
 const LINE: &[u8] = b"8/1P6/k7/8/K7/8/8/8 w - - 0 1 win 13 b8=R\n";
-
-/// By an independent program: the longest wins.
-const LONGEST: &[u8] = b"8/8/8/1k6/8/8/K5P1/8 w - - 0 1 win 55
-8/8/8/1k6/8/8/1K4P1/8 w - - 0 1 win 55
-8/8/8/1k6/8/K7/6P1/8 w - - 0 1 win 55
-";
 
 /// By an independent program: the first two mutual zugzwangs of 80.
 const ZUGZWANGS: &[u8] = b"8/8/8/k7/8/K7/1P6/8 w - - 0 1 draw loss 46
@@ -95,21 +89,6 @@ fn a_position_becomes_a_line_and_a_study(rt: HostRuntime) {
     let fen = "8/1P6/k7/8/K7/8/8/8 w - - 0 1";
     assert!(rt; is_said(&rt, &alloc, Form::Lines, fen, &mut values, LINE));
     assert!(rt; is_said(&rt, &alloc, Form::Script, fen, &mut values, STUDY));
-}
-
-/// The longest wins, a line each.
-#[test]
-fn the_longest_wins_are_listed(rt: HostRuntime) {
-    let alloc = rt.alloc();
-    let mut values = tables(&rt, &alloc);
-    let request = Request::Longest(Class::KPK, Side::White);
-    let found = selection_of(&request, &mut values)
-        .ok()
-        .expect(&rt, "values");
-    let longest = found.expect(&rt, "a longest win");
-    let mut out = MemoryWriter::new(&alloc);
-    let found = list_found(&longest, Form::Lines, &mut values, &mut out, &mut NoWatch);
-    assert!(rt; found == Ok(3) && out.taken.as_slice() == LONGEST);
 }
 
 /// A writer with room for two lines and one byte takes these, and then nothing.

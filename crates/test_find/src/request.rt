@@ -94,9 +94,9 @@ zugzwang white no-check";
 fn words_are_refused(rt: HostRuntime) {
     let alloc = rt.alloc();
     assert!(rt; read(&rt, alloc, Class::KPK, "") == Err(Unread::NoSuchTheme));
-    let mut number = 0;
+    let mut number = 0u32;
     for line in REFUSED.lines() {
-        number += 1;
+        number = number.saturating_add(1);
         let want = if number <= 3 {
             Unread::NoSuchTheme
         } else if number <= 11 {

@@ -83,6 +83,11 @@ const FULL: &str = "insert 3 Ke6\ninsert root Kc2\ndelete 3\ninsert root Ke2\nin
 const FULL_REPLIES: &str =
     "error TreeFull\nerror AlreadyThere 1\ndelete 3\ninsert 7 Ke2\nerror TreeFull\n";
 
+/// A store without files, and without writers for those that are saved.
+fn no_files<'f, 'a, A: Allocator>(_alloc: &'a A) -> MemoryStore<'f, 'a, 'a, A> {
+    MemoryStore::new(&[])
+}
+
 /// A tree of 4,096 nodes; one more is refused, until one is taken out.
 #[test]
 fn a_tree_has_at_most_4096_nodes(rt: HostRuntime) -> Result<(), Fail> {
@@ -103,7 +108,7 @@ fn a_tree_has_at_most_4096_nodes(rt: HostRuntime) -> Result<(), Fail> {
         &alloc,
         &mut MemoryReader::new(script.as_slice()),
         &mut writer,
-        &mut MemoryStore::new(&[]),
+        &mut no_files(&alloc),
         settings,
     );
     let text = std::str::from_utf8(writer.taken.as_slice())?;
