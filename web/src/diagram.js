@@ -13,17 +13,15 @@ const INNER = 'symbol .i{fill:none;stroke:var(--in)}symbol .d{fill:var(--in);str
     'symbol .x{fill:none;stroke-width:2.6;stroke:#111}text{font:10.5px sans-serif;fill:#56534d;text-anchor:middle}';
 /** The board as a file of SVG that stands alone: with its men's drawings, without marks. */
 export function diagramSvg() {
-  const board = $('board').firstChild.cloneNode(true), drawings = document.querySelector('svg.defs');
+  const board = $('board').firstChild.cloneNode(true), drawings = document.querySelector('svg.defs'), text = new XMLSerializer();
   for (const mark of board.querySelectorAll('.last,.pick,.cursor,.dot,.plain,.ring')) mark.remove();
-  for (const [name, style] of Object.entries(STYLE)) for (const element of board.querySelectorAll('.' + name)) element.setAttribute('style', style);
   for (const name of ['class', 'role', 'tabindex', 'aria-label']) board.removeAttribute(name);
-  board.setAttribute('xmlns', 'http://www.w3.org/2000/svg');
   board.setAttribute('width', '377');
   board.setAttribute('height', '380');
-  const style = document.createElementNS('http://www.w3.org/2000/svg', 'style');
-  style.textContent = INNER;
-  board.prepend(style, ...(drawings ? [...drawings.childNodes].map(node => node.cloneNode(true)) : []));
-  return new XMLSerializer().serializeToString(board);
+  // (as text, since the page's policy allows no style in it)
+  const defs = drawings ? [...drawings.childNodes].map(node => text.serializeToString(node)).join('') : '';
+  return text.serializeToString(board).replace(/ class="(\w+)"/g, (all, name) => (STYLE[name] ? ` style="${STYLE[name]}"` : all))
+      .replace(/>/, `><style>${INNER}</style>${defs}`);
 }
 /**
  * The same as a picture of points, four times as large.

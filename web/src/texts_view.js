@@ -21,7 +21,7 @@ export function textsView(s) {
         h('p', { class: 'note', id: 'notKept' },
             `${doc().note} Save PGN writes ${doc().name || 'a file of another name'}${doc().name && '.pgn'}.`),
     doc().refused.length > 0 && refusedView(),
-    h('p', { class: 'row' }, diagramView()), s && s.pgn && pgnView(s), scriptView(s)
+    h('p', { class: 'row act' }, diagramView(), s && studyButtons()), s && s.pgn && pgnView(s), scriptView(s)
   ];
 }
 /** @param {Study} s */
@@ -52,20 +52,23 @@ function scriptView(s) {
                 'Tidy', 'write this study anew in its shortest form',
                 () => change(now => (app.view && now.studies[now.at] ? tidy(now.lines, now.studies[now.at], app.view.root) : null), 'script'),
                 {id: 'tidy'}),
-        s && button('Copy this study', 'one more of the same behind it', () => change(now => copyStudy(now.lines, now.studies, now.at), 'script'),
-                    { id: 'copyStudy' }),
-        s && doc().studies.length > 1 && [moveButton('Move up', -1), moveButton('Move down', 1)],
         s && doc().studies.length > 1 &&
             button(
                 'Remove this study', 'take its lines out of the script', () => change(now => dropStudy(now.lines, now.studies[now.at], now.at), 'script'),
                 {id: 'drop'})));
 }
+/** What is done with the study as a whole. */
+const studyButtons = () => [
+  button('Copy this study', 'one more of the same behind it', () => change(now => copyStudy(now.lines, now.studies, now.at), 'script'),
+    { class: 'chip act', id: 'copyStudy' }),
+  doc().studies.length > 1 && [moveButton('Move up', -1), moveButton('Move down', 1)]
+];
 /**
  * @param {string} text
  * @param {1 | -1} by
  */
 const moveButton = (text, by) => button(text, 'this study among those of the script', () => change(now => moveStudy(now.lines, now.studies, now.at, by), 'script'),
-  { id: by < 0 ? 'studyUp' : 'studyDown', disabled: !doc().studies[doc().at + by] });
+  { class: 'chip act', id: by < 0 ? 'studyUp' : 'studyDown', disabled: !doc().studies[doc().at + by] });
 function refusedView() {
   const list = doc().refused, studies = doc().studies;
   const of = (/** @type {number} */ line) => studies.findIndex(s => s.from <= line && line < s.end);

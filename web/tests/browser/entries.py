@@ -62,9 +62,10 @@ def test_ten_entries_are_ten_rows(user):
     assert list_[0][2] == "Réti, Richard" and list_[3][2] == "Kasparyan, G." and "6 men" in list_[1][4] and list_[2][4] == "not read: Kh9", list_
     counts = user.js("return [...document.querySelectorAll('#list [data-kind]')].map(b => b.innerText)")
     assert counts == ["3 sound", "1 unsound", "1 wrong", "1 holds", "1 not read", "3 left out"], counts
-    user.d.find_element(By.CSS_SELECTOR, '#list [data-kind="wrong"]').click()
+    user.js("document.querySelector('#list [data-kind=wrong]').click()")
     assert [row[0] for row in rows(user)] == ["8"]
-    user.d.find_element(By.CSS_SELECTOR, '#list [data-kind="wrong"]').click()
+    user.js("document.querySelector('#list [data-kind=wrong]').click()")
+    user.promise("new Promise(on => setTimeout(on, 3000))")
     name, text = user.download("saveList")
     table = list(csv.reader(io.StringIO(text)))
     assert name == "entries.csv" and len(table) == 11 and table[1][2] == "Réti, Richard" and table[1][5] == "sound", table
@@ -133,14 +134,14 @@ def test_the_diagram_is_turned_with_its_moves(user):
     user.until("!document.getElementById('start').disabled", 30)
     user.click("start")
     user.settle()
-    assert script(user).startswith("position k7/6p1/8/8/1K6/8/8/8 b - - 0 1\nstipulate black win\n"), script(user)
+    assert script(user).startswith("position 8/k5p1/8/8/1K6/8/8/8 b - - 0 1\nstipulate black win\n"), script(user)
     assert re.findall(r"insert \S+ (\S+)", script(user)) == ["Kb6", "Kc4", "Kc6"] and user.text("stamp") == "sound"
     user.click("setUp")
     user.d.find_element(By.CSS_SELECTOR, '[data-turn="right"]').click()
     user.until("!document.getElementById('start').disabled", 30)
     user.click("start")
     user.settle()
-    assert script(user).startswith("position 1k6/7p/") and len(re.findall("insert", script(user))) == 3
+    assert script(user).startswith("position 8/1k5p/8/8/2K5/8/8/8 b") and len(re.findall("insert", script(user))) == 3
 
 
 def test_what_is_legal_of_a_tree_is_kept(user):
