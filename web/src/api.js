@@ -2,7 +2,7 @@
 // For other programs: `studyboard` on window. Promises of texts, as the program writes them.
 import { app, doc, idle, parts, PAGES, study } from './app.js';
 import { editsTo, fensOf, gamesOf, joined, linesOf } from './script.js';
-import { openText } from './texts_view.js';
+import { openText } from './opening.js';
 
 /**
  * The tables of a script's positions are laid, and built where they lack.

@@ -132,11 +132,11 @@ export function makeCore(module, most = 2 ** 32 - PAGE) {
   /**
    * An answer over the tables, read by pages or whole (0). Where the text was longer than its room it is asked once more.
    * @param {string} request
-   * @param {string} script
+   * @param {string | Uint8Array} script
    * @param {number} pages
    */
   function answer(request, script, pages) {
-    const asked = encode(request), text = encode(script), first = Math.max(1 << 18, 16 * text.length);
+    const asked = encode(request), text = typeof script === 'string' ? encode(script) : script, first = Math.max(1 << 18, 16 * text.length);
     let done = once(asked, text, pages, first);
     if (done.length > first) done = once(asked, text, pages, done.length);
     if (!done.length) throw new Error('no memory is left');

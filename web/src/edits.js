@@ -2,7 +2,7 @@
 // What the user does, as a change of the script's lines. Each function gives the lines to be run; the program takes or
 // refuses them.
 import { aimWords } from './words.js';
-import { TAGS, isEdit, oneGame, wordsOf } from './script.js';
+import { TAGS, isEdit, isGame, oneGame, wordsOf } from './script.js';
 import { squareName } from './fen.js';
 import { nodeAt, written } from './replies.js';
 /** @typedef {import('./types.js').Study} Study @typedef {import('./types.js').Change} Change @typedef {import('./types.js').TreeNode} TreeNode */
@@ -32,30 +32,43 @@ const isMove = (node, text) => plain(node.san) === plain(text) ||
     (node.from >= 0 &&
         squareName(node.from) + squareName(node.to) + node.promoted === plain(text).replace(/^[KQRBN]/, ''));
 /**
- * The moves one below the other, from a node on; what is there already is walked. What stands in brackets begins where
- * the move before it does.
+ * Several lines of moves, each one below the other, from a node on; what is there already is walked. What stands in
+ * brackets begins where the move before it does.
+ * @param {string[]} lines
+ * @param {Study} study
+ * @param {TreeNode} root
+ * @param {string} path
+ * @param {string[][]} lists
+ * @returns {Change}
+ */
+export function insertLines(lines, study, root, path, lists) {
+  const more = /** @type {string[]} */ ([]), made = /** @type {Map<string, string[]>} */ (new Map());
+  let end = path;
+  for (const sans of lists) {
+    const outer = /** @type {[string, string][]} */ ([]);
+    let at = path, before = path;
+    for (const san of sans) {
+      if (san === '(') { outer.push([at, before]); at = before; continue; }
+      if (san === ')') { [at, before] = outer.pop() || [at, before]; continue; }
+      const node = nodeAt(root, at), old = node ? node.children : [], fresh = made.get(at) || [];
+      const there = old.findIndex(c => isMove(c, san)), again = fresh.findIndex(text => plain(text) === plain(san));
+      const place = there >= 0 ? there : old.length + (again >= 0 ? again : fresh.length);
+      if (there < 0 && again < 0) { more.push(`insert ${at} ${san}`); made.set(at, [...fresh, san]); }
+      [before, at] = [at, at === 'root' ? `${place}` : `${at}.${place}`];
+    }
+    end = at;
+  }
+  return { lines: more.length ? appended(lines, study, ...more) : lines, path: end };
+}
+/**
+ * Moves one below the other.
  * @param {string[]} lines
  * @param {Study} study
  * @param {TreeNode} root
  * @param {string} path
  * @param {string[]} sans
- * @returns {Change}
  */
-export function insertMoves(lines, study, root, path, sans) {
-  const more = /** @type {string[]} */ ([]), made = /** @type {Map<string, string[]>} */ (new Map()),
-        outer = /** @type {[string, string][]} */ ([]);
-  let at = path, before = path;
-  for (const san of sans) {
-    if (san === '(') { outer.push([at, before]); at = before; continue; }
-    if (san === ')') { [at, before] = outer.pop() || [at, before]; continue; }
-    const node = nodeAt(root, at), old = node ? node.children : [], fresh = made.get(at) || [];
-    const there = old.findIndex(c => isMove(c, san)), again = fresh.findIndex(text => plain(text) === plain(san));
-    const place = there >= 0 ? there : old.length + (again >= 0 ? again : fresh.length);
-    if (there < 0 && again < 0) { more.push(`insert ${at} ${san}`); made.set(at, [...fresh, san]); }
-    [before, at] = [at, at === 'root' ? `${place}` : `${at}.${place}`];
-  }
-  return { lines: more.length ? appended(lines, study, ...more) : lines, path: at };
-}
+export const insertMoves = (lines, study, root, path, sans) => insertLines(lines, study, root, path, [sans]);
 /**
  * Removes a node with all below it; where it is the newest line, that line is removed.
  * @param {string[]} lines
@@ -138,29 +151,31 @@ export const withoutAccents = text => text.normalize('NFD')
                                           .replace(/[łŁ]/g, c => (c === 'ł' ? 'l' : 'L'))
                                           .replace(/[øØ]/g, c => (c === 'ø' ? 'o' : 'O'));
 /**
+ * The remark above a position that keeps the text of a tag in its own letters.
  * @param {string[]} lines
  * @param {Study} study
  * @param {string} name
- * @param {string} text
- * @returns {Change}
+ * @param {string} original
  */
-export function setTag(lines, study, name, text) {
-  const carried = study.tags[name] !== undefined && study.place[name] === undefined;
-  return { lines: setLine(lines, study, name, text ? `tag ${name} ${text}` : carried ? `tag ${name} ${unknown(name)}` : '') };
+function withOriginal(lines, study, name, original) {
+  const at = lines.slice(study.head, study.from).findIndex(line => line.startsWith(`# ${name} was: `));
+  const rest = at < 0 ? lines : spliced(lines, study.head + at, 1), remark = `# ${name} was: ${original}`;
+  return original ? spliced(rest, at < 0 ? study.from : study.head + at, 0, remark) : rest;
 }
-
 /**
- * Another position with the same tree.
  * @param {string[]} lines
  * @param {Study} study
- * @param {string} fen
- * @param {string} aim
+ * @param {string} name
+ * @param {string} text      in plain letters
+ * @param {string} [original]      in its own letters, where these are others
  * @returns {Change}
  */
-export function shiftTo(lines, study, fen, aim) {
-  const shifted = appended(lines, study, 'shift ' + fen);
-  return { lines: study.aim && aimWords(study.aim) === aim ? shifted : setLine(shifted, study, 'aim', 'stipulate ' + aim) };
+export function setTag(lines, study, name, text, original = '') {
+  const carried = study.tags[name] !== undefined && study.place[name] === undefined;
+  const set = setLine(lines, study, name, text ? `tag ${name} ${text}` : carried ? `tag ${name} ${unknown(name)}` : '');
+  return { lines: withOriginal(set, study, name, original) };
 }
+
 /**
  * Another position with an empty tree; tags and remarks stay.
  * @param {string[]} lines
@@ -169,9 +184,24 @@ export function shiftTo(lines, study, fen, aim) {
  * @param {string} aim
  * @returns {Change}
  */
-export function replacePosition(lines, study, fen, aim) {
+export const replacePosition = (lines, study, fen, aim) => ({ ...withMoves(lines, study, fen, aim, []), path: 'root' });
+/**
+ * Another position with these moves; tags and remarks stay.
+ * @param {string[]} lines
+ * @param {Study} study
+ * @param {string} fen
+ * @param {string} aim
+ * @param {string[]} moves      lines that insert them
+ * @returns {Change}
+ */
+export function withMoves(lines, study, fen, aim, moves) {
   const own = lines.slice(study.from + 1, study.end).filter(l => !/^ *(insert|delete|promote|shift|mark|moves|fen|solve|stipulate)( |$)/.test(l));
-  return { lines: [...lines.slice(0, study.from), 'position ' + fen, 'stipulate ' + aim, ...oneGame(own), ...lines.slice(study.end)], path: 'root' };
+  const rest = oneGame(own), games = rest.findIndex(isGame), at = games < 0 ? rest.length : games;
+  const gap = games < 0 && rest.length && !rest[rest.length - 1].trim() ? 1 : 0;
+  return {
+    lines: [...lines.slice(0, study.from), 'position ' + fen, 'stipulate ' + aim, ...rest.slice(0, at - gap), ...moves, ...rest.slice(at - gap),
+      ...lines.slice(study.end)]
+  };
 }
 /**
  * One more study, with tags of its own.

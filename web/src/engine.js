@@ -5,8 +5,8 @@ export class Stopped extends Error {}
 /** @typedef {{bytes: Uint8Array, ended: string, saved: [string, Uint8Array][], ms: number, memory: number}} Told */
 
 /** @typedef {object} Core
- * @property {(request: string, script: string, pages: number) => Promise<{text: string, ended: string}>} answer
- * @property {(request: string, script: string, pages: number) => Promise<Told>} ask
+ * @property {(request: string, script: string | Uint8Array, pages: number) => Promise<{text: string, ended: string}>} answer
+ * @property {(request: string, script: string | Uint8Array, pages: number) => Promise<Told>} ask
  * @property {(name: string, bytes: Uint8Array) => Promise<any>} lay      the bytes are transferred
  * @property {(name: string) => boolean} holds
  * @property {(name: string) => void} drop
@@ -73,7 +73,7 @@ export function makeCore(spawn, compiled) {
   }
   /**
    * @param {string} request
-   * @param {string} script
+   * @param {string | Uint8Array} script
    * @param {number} pages
    * @returns {Promise<Told>}
    */

@@ -1,11 +1,12 @@
 // @ts-check
 // What the review tells: duals in side lines, tries and their refutations, defences that are missing, best play from open ends.
-import { h } from './dom.js';
+import { button, h } from './dom.js';
 import { other, sideOf } from './fen.js';
-import { app } from './app.js';
-import { depth, nodeAt } from './replies.js';
+import { app, change } from './app.js';
+import { insertLines } from './edits.js';
+import { depth, nodeAt, written } from './replies.js';
 import { add, alsoView, jump } from './head_view.js';
-import { counted, numberedLine, valueSign, valueText, winner } from './words.js';
+import { counted, numberedLine, valueSign, valueText, winner, zugzwangText } from './words.js';
 /** @typedef {import('./types.js').Study} Study @typedef {import('./types.js').TreeNode} TreeNode */
 /** @typedef {import('./types.js').Review} Review @typedef {import('./types.js').Missing} Missing */
 
@@ -63,7 +64,7 @@ export function reviewView(s) {
   if (!view || !s.aim) return null;
   if (!review)
     return app.noReview ? h('p', {class: 'note'}, `The facts were not told: ${app.noReview}.`) : h('p', {class: 'note'}, 'The facts are being found …');
-  return [dualsView(s, review, view.root), triesView(s, review, view.root), defencesView(s, review, view.root), endsView(review, view.root)];
+  return [dualsView(s, review, view.root), triesView(s, review, view.root), zugzwangView(view.root), defencesView(s, review, view.root), endsView(review, view.root)];
 }
 /**
  * @param {Study} s
@@ -97,6 +98,12 @@ function tryView(n, list) {
     jump(n), valueText(sideOf(n.fen), n.value), cell, n.children.map(c => c.san + (refuting.includes(c.san) ? '' : ' (does not refute)')).join(' ') || '–'
   ];
 }
+/** @param {TreeNode} root */
+function zugzwangView(root) {
+  const rows = written(root).filter(n => n.zugzwang);
+  return rows.length > 0 && section('zugzwangs', 'Mutual zugzwangs', 'Whoever is to move there would rather not be.',
+    table(['After', 'What is at stake'], rows, n => [n.parent ? jump(n) : 'the start', zugzwangText(n.zugzwang)]));
+}
 /**
  * @param {Study} s
  * @param {Review} review
@@ -109,27 +116,59 @@ function defencesView(s, review, root) {
            `The small number tells in how many moves ${aim.hero} mates after the defence; † lasts at least as long as the longest that is given. ` :
            aim ? `After a defence with = it stays a draw; after one with a small number ${aim.hero} even mates, in so many moves. ` :
                  '') +
-      'A click adds it, with its answer where only one holds.';
+      'A press adds it, with its answer where only one holds.';
+  const single = review.missing.filter(d => d.count === 1).length;
   return rows.length > 0 && section('defences', 'Defences that are not in the tree', note,
-    table(['After', 'Given', 'Not given: one answer holds', 'Several hold'], rows, ([n, list]) => missingView(s, n, list)));
+    [single > 1 && h('p', { class: 'act' }, button(`Add all ${single} with one answer`, 'each with its only answer', () => addAll(rows),
+      { class: 'chip act', id: 'addAll' })),
+    table(['After', 'Given', 'Not given, with the answer where only one holds'], rows, ([n, list]) => missingView(s, n, list))]);
 }
 /**
  * How long a defence lasts: one that draws, for ever.
  * @param {Missing} d
  */
 const lasting = d => (d.value.kind === 'draw' ? 1000 : d.value.n);
+const FIRST = 5;
+/**
+ * Whether a defence lasts at least as long as the longest that the tree has.
+ * @param {Study} s
+ * @param {TreeNode} n
+ * @param {Missing} d
+ */
+const isLong = (s, n, d) => s.aim !== null && s.aim.goal !== 'draw' && winner(other(sideOf(n.fen)), d.value) === s.aim.hero &&
+    n.children.length > 0 && d.value.n >= Math.max(...n.children.map(c => c.value.n));
+/**
+ * Those that matter first: that last long, then those with one answer which neither takes nor mates, then by length.
+ * @param {Study} s
+ * @param {TreeNode} n
+ * @param {Missing[]} list
+ */
+function byWorth(s, n, list) {
+  const worth = (/** @type {Missing} */ d) => (isLong(s, n, d) ? 0 : d.count === 1 && !/[x#]/.test(d.answer) ? 1 : d.count === 0 ? 2 : 3);
+  return [...list].sort((x, y) => worth(x) - worth(y) || lasting(y) - lasting(x));
+}
 /**
  * @param {Study} s
  * @param {TreeNode} n
  * @param {Missing[]} list
  */
 function missingView(s, n, list) {
-  const byLength = [...list].sort((x, y) => lasting(y) - lasting(x)), one = byLength.filter(d => d.count === 1);
-  const answers = [...new Set(one.map(d => d.answer))];
-  return [jump(n), n.children.map(c => c.san).join(' ') || '–',
-    answers.map(a => h('div', {}, h('i', {}, a), ' after ', one.filter(d => d.answer === a).map(d => defenceView(s, n, d)))),
-    byLength.filter(d => d.count !== 1).map(d => [defenceView(s, n, d), d.count === 0 && ' stalemate '])];
+  const sorted = byWorth(s, n, list), view = (/** @type {Missing} */ d) => [defenceView(s, n, d),
+    d.count === 1 ? [' ', h('i', {}, d.answer)] : d.count === 0 ? ' stalemate' : h('small', {}, ` ${d.count} answers`), '; '];
+  const rest = sorted.slice(FIRST), more = h('button', { type: 'button', class: 'chip act more', onclick: () => more.replaceWith(...rest.flatMap(d => view(d)).flat()) },
+    `and ${rest.length} more`);
+  return [jump(n), n.children.map(c => c.san).join(' ') || '–', [...sorted.slice(0, FIRST).map(view), rest.length > 0 && more]];
 }
+/**
+ * All defences that one answer alone meets, each with it.
+ * @param {[TreeNode, Missing[]][]} rows
+ */
+const addAll = rows => change(now => {
+  const s = now.studies[now.at], view = app.view;
+  if (!s || !view) return null;
+  return { ...rows.reduce((change, [n, list]) => insertLines(change.lines, { ...s, last: s.last + change.lines.length - now.lines.length }, view.root, n.path,
+    list.filter(d => d.count === 1).map(d => [d.san, d.answer])), { lines: now.lines }), path: now.path };
+});
 /**
  * @param {Study} s
  * @param {TreeNode} n
@@ -138,8 +177,7 @@ function missingView(s, n, list) {
 function defenceView(s, n, d) {
   const after = other(sideOf(n.fen)), aim = s.aim;
   if (!aim) return null;
-  const wins = aim.goal !== 'draw' && winner(after, d.value) === aim.hero;
-  const long = wins && n.children.length > 0 && d.value.n >= Math.max(...n.children.map(c => c.value.n));
+  const long = isLong(s, n, d);
   const [sans, what] = d.count === 1 ? [[d.san, d.answer], `add ${d.san} with its only answer ${d.answer}`] :
                                        [[d.san], `add ${d.san}`];
   const title = `${d.san}: ${valueText(after, d.value)}${long ? ', as long as the longest that is given' : ''}; ${

@@ -2,9 +2,10 @@
 // The head of a study - title, stipulation, tags - and its verdict with the faults, each with what mends it.
 import { h } from './dom.js';
 import { gbr, numbered, other, sideOf } from './fen.js';
-import { app, change, go, judgeAgain, parts, say } from './app.js';
+import { app, change, doc, go, judgeAgain, parts, say } from './app.js';
 import { insert } from './board.js';
 import { isDate, isKnown, setTag, stipulate, wholeDate, withoutAccents } from './edits.js';
+import { nameOf, stampOf } from './entries.js';
 import { nodeAt, written } from './replies.js';
 import { guess } from './setup.js';
 import { kept, promote, remove } from './node_view.js';
@@ -22,10 +23,10 @@ const open = { tags: false };
 /** @param {Study} s */
 export function headView(s) {
   const t = s.tags, year = (t.Date || '').replace(/(\.\?\?)+$/, '');
-  const by = [t.White, t.Site, year, isKnown(t.Round) && 'entry ' + t.Round].filter(text => typeof text === 'string' && isKnown(text)).join(' · ');
+  const by = [nameOf(s, 'White'), nameOf(s, 'Site'), isKnown(year) && year, isKnown(t.Round) && 'entry ' + t.Round].filter(Boolean).join(' · ');
   const old = Object.keys(t).filter(name => s.place[name] === undefined && isKnown(t[name]));
   return [
-    h('h1', {}, isKnown(t.Event) ? t.Event : 'Untitled'), by && h('p', {class: 'by'}, by),
+    h('h1', {}, nameOf(s, 'Event') || 'Untitled'), by && h('p', {class: 'by'}, by),
     old.length > 0 && h('p', {class: 'note'}, `Set for an earlier study and not since: ${old.map(name => LABELS[name]).join(', ')}. `,
       h('button', {type: 'button', class: 'chip act', id: 'clearOld', title: 'not known for this study', onclick: () => cleared(old)}, 'Clear')),
     h('div', {class: 'row'},
@@ -39,7 +40,7 @@ export function headView(s) {
         open.tags = e.target.open;
       }
     },
-      h('summary', {}, 'Title, author, source'), h('div', {class: 'tags'}, TAGS.map(name => tagView(name, t[name] || ''))))
+      h('summary', {}, 'Title, author, source'), h('div', {class: 'tags'}, TAGS.map(name => tagView(name, nameOf(s, name)))))
   ];
 }
 /**
@@ -63,20 +64,21 @@ const tagView = (name, text) => [h('label', { for: 'tag' + name
                                    onchange: (/** @type {any} */ e) => tagged(name, e.target.value.trim())
                                  })];
 /**
- * Accents are removed, and a note says so; other letters are for the program to refuse.
+ * A text is kept in its own letters beside the plain ones that the script has; a note says how these are.
  * @param {string} name
  * @param {string} typed
  */
 async function tagged(name, typed) {
-  const plain = withoutAccents(typed), text = name === 'Date' ? wholeDate(plain) : plain, before = app.history;
+  const before = app.history, plain = withoutAccents(typed), text = name === 'Date' ? wholeDate(plain) : plain;
   if (name === 'Date' && text && !isDate(text)) {
     say('head', `${typed}: a date is a year, or a year, a month and a day, as 1921 or 1921.05.12.`);
     Object.assign(app.say || {}, { field: 'tagDate', typed });
     return parts.show();
   }
-  await change(now => (now.studies[now.at] ? setTag(now.lines, now.studies[now.at], name, text) : null), 'head');
+  const original = name !== 'Date' && plain !== typed ? typed.slice(0, 80) : '';
+  await change(now => (now.studies[now.at] ? setTag(now.lines, now.studies[now.at], name, text, original) : null), 'head');
   if (app.history === before && app.say) Object.assign(app.say, { field: 'tag' + name, typed });
-  else if (plain !== typed) say('head', `Written without accents, as ${text}: the texts are plain letters.`, true);
+  else if (original) say('head', `The script has it in plain letters, as ${text}; the page and Save PGN have it as you wrote it.`, true);
   parts.show();
 }
 /**
@@ -114,11 +116,10 @@ export function verdictView(s) {
   const view = app.view;
   if (!view) return notJudged();
   if (!s.aim || !view.verdict) return h('p', { class: 'say' }, 'No stipulation yet: choose who is to win or to draw.');
-  const heroic = written(view.root).some(n => n.parent && s.aim && sideOf(n.parent.fen) === s.aim.hero),
-        empty = app.review ? app.review.empty : !heroic;
+  const { kind, text } = stampOf(doc(), { ...s, verdict: view.verdict }, app.review);
   return [
-    h('p', {class: 'verdict'}, h('span', {class: 'stamp ' + view.verdict.split(' ')[0], id: 'stamp'}, view.verdict),
-      h('span', {id: 'sentence'}, verdictSentence(view, empty))),
+    h('p', {class: 'verdict'}, h('span', {class: 'stamp ' + kind.replace(' ', '-'), id: 'stamp'}, text),
+      h('span', {id: 'sentence'}, verdictSentence(view, kind))),
     beforeView(s)
   ];
 }
@@ -238,11 +239,18 @@ function mistakeView(s, n) {
     better && [h('button', { type: 'button', class: 'chip act', onclick: () => promote(better, true) }, `Put ${better.san} first`), ' '], cut(n, 'Delete it')];
 }
 /**
+ * A button that takes a move out of the tree; it says how much goes with it, and which move comes to its place.
  * @param {TreeNode} n
  * @param {string} text
  */
-const cut = (n, text) =>
-    h('button', {type: 'button', class: 'chip act', title: 'delete this move and all below it', onclick: () => remove(n.path)}, '✕ ', text);
+function cut(n, text) {
+  const below = written(n).length - 1, after = n.parent ? n.parent.children[n.parent.children.indexOf(n) + 1] : undefined,
+        isFirst = n.parent !== null && n.parent.children[0] === n;
+  const title = `delete ${moveName(n)}${below ? ` and ${counted(below, 'move')} below it` : ''}${
+      isFirst && after ? `; ${moveName(after)} comes to its place` : ''}`;
+  return h('button', { type: 'button', class: 'chip act', title, onclick: () => remove(n.path) }, '✕ ', text,
+           below > 0 && h('small', {}, ` (${counted(below + 1, 'move')})`));
+}
 /**
  * How many of the other moves only lose time.
  * @param {Study} s

@@ -4,8 +4,8 @@
 //
 // A document is written by the page that opened it last. Where another page has taken it over, this one goes on at a
 // new place, so that two never write into one. Any page of file:// can write here, so what is read is only ever text.
+import { countsOf, stampOf, studyName } from './entries.js';
 import { control } from './fen.js';
-import { isKnown } from './edits.js';
 import { counted } from './words.js';
 /** @typedef {import('./types.js').Doc} Doc @typedef {import('./types.js').KeptDraft} KeptDraft */
 /** @typedef {import('./past.js').History<Doc>} History */
@@ -100,19 +100,15 @@ export function unpacked(now, steps) {
 }
 
 /**
- * What a list says of a document.
+ * What a list says of a document: its first study, and the stamps of all.
  * @param {Doc} doc
  */
-export function summary({ studies }) {
-  const [first] = studies,
-        name = first ? [first.tags.Event, first.tags.White].filter(isKnown).join(', ') || control(first.fen) : '';
-  const kinds = ['sound', 'unsound', 'wrong']
-                    .map(kind => [studies.filter(s => s.verdict.split(' ')[0] === kind).length, kind])
-                    .filter(([n]) => n);
-  const verdict = studies.length === 1 ? first.verdict : kinds.map(([n, kind]) => `${n} ${kind}`).join(', ');
+export function summary(doc) {
+  const { studies } = doc, stamps = studies.map(s => stampOf(doc, s, null));
+  const counts = countsOf(stamps).filter(([kind]) => kind !== 'not judged').map(([kind, n]) => `${n} ${kind}`).join(', ');
   return {
-    title: name + (studies.length > 1 ? ` and ${counted(studies.length - 1, 'more study', 'more studies')}` : ''),
-    verdict: verdict || 'not judged'
+    title: (studies[0] ? studyName(studies[0]) : '') + (studies.length > 1 ? ` and ${counted(studies.length - 1, 'more study', 'more studies')}` : ''),
+    verdict: (stamps.length === 1 ? stamps[0].text : counts) || 'not judged'
   };
 }
 

@@ -4,6 +4,7 @@ import { $ } from './dom.js';
 import { app, doc, go, goStudy, node, redo, undo } from './app.js';
 import { closeChoice, flip, focusBoard, setupKey, showBoard } from './board.js';
 import { close } from './documents_view.js';
+import { close as closeEarlier } from './earlier_view.js';
 import { endOf, remove } from './node_view.js';
 import { draftFen, hideSurvey, stepDraft } from './setup.js';
 
@@ -59,7 +60,7 @@ function escaped() {
 /** @param {KeyboardEvent} e */
 function pressed(e) {
   const target = /** @type {Element} */ (e.target), ctrl = e.ctrlKey || e.metaKey, n = node();
-  if (e.key === 'Escape' && close()) return;
+  if (e.key === 'Escape' && (close() || closeEarlier())) return;
   if (/INPUT|TEXTAREA|SELECT/.test(target.tagName)) return inField(e, target);
   if (ctrl && /^[zy]$/i.test(e.key)) {
     e.preventDefault();
@@ -67,7 +68,7 @@ function pressed(e) {
   }
   if (setupKey(e)) return e.preventDefault();
   if (e.key === 'Escape') return escaped();
-  if (ctrl || e.altKey || target.closest('.choose, #documents')) return;
+  if (ctrl || e.altKey || target.closest('.choose, .panel')) return;
   if (e.key === 'f') { e.preventDefault(); return flip(); }
   if (e.key === 'Enter' && app.setup && !target.closest('button, summary, a')) return start(e);
   if (app.setup || !n || !KEYS[e.key] || (/^Page/.test(e.key) && doc().studies.length < 2)) return;

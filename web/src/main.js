@@ -6,15 +6,16 @@ import { PAGES, app, arrive, counting, doc, goStudy, judgeAgain, parts, say, stu
 import { listen, showBoard } from './board.js';
 import { firstDocument, holdLock, keep, local } from './documents.js';
 import { close, openDocuments } from './documents_view.js';
+import { close as closeEarlier } from './earlier_view.js';
 import { makeCore } from './engine.js';
 import { back, forth, listenToKeys } from './keys.js';
-import { fensOf, gameLines, gamesOf, joined, savedScript } from './script.js';
+import { fensOf, gameLines, joined, savedGames, savedScript } from './script.js';
 import { begin, closeSetup, judge, openSetup } from './setup.js';
 import { makeReaders } from './readers.js';
 import { makeShelf } from './shelf.js';
 import { show, showFacts, showJudged, showProgress, watch } from './show.js';
 import { makeStore } from './store.js';
-import { openText } from './texts_view.js';
+import { openFile, openText } from './opening.js';
 import { counted, reason } from './words.js';
 import { refusalIn } from './replies.js';
 
@@ -59,8 +60,6 @@ function fileName(ending) {
   const title = doc().studies.length > 1 ? 'studies' : (study() && study().tags.Event) || 'study';
   return (doc().name || title.replace(/[^A-Za-z0-9]+/g, '_').replace(/^_+|_+$/g, '').slice(0, 40)) + ending;
 }
-/** @param {File | undefined} file */
-async function openFile(file) { if (file) openText(await file.text(), 'board', file.name); }
 /** @param {File[]} files */
 const openTables = files => work(async () => {
   const { taken, bad, kept } = await parts.shelf.open(files);
@@ -100,7 +99,9 @@ on('more', () => openSetup(true, true));
 on('open', () => $('file').click());
 on('documentsButton', openDocuments);
 document.addEventListener('pointerdown', e => {
-  if (!(/** @type {Element} */ (e.target).closest('#documents, #documentsButton'))) close();
+  const within = (/** @type {string} */ places) => /** @type {Element} */ (e.target).closest(places);
+  if (!within('#documents, #documentsButton')) close();
+  if (!within('#earlier, #beginEarlier')) closeEarlier();
 });
 on('openTables', () => $('tableFiles').click());
 on('saveTables', saveTables);
@@ -108,7 +109,7 @@ on('saveScript', () => work(async () => {
   const classes = await parts.shelf.classesOf(fensOf(doc().lines)).catch(() => []);
   download(fileName('.script'), savedScript(doc(), classes));
 }));
-on('savePgn', () => download(fileName('.pgn'), gamesOf(doc())));
+on('savePgn', () => download(fileName('.pgn'), savedGames(doc())));
 addEventListener('beforeprint', () => { for (const more of document.querySelectorAll('button.more')) /** @type {HTMLElement} */ (more).click(); });
 on('print', () => { if (app.setup) closeSetup(); window.print(); });
 /** The printed pages of all studies. */
@@ -133,7 +134,11 @@ $('studies').addEventListener('change', (/** @type {any} */ e) => {
   if (byPointer) e.target.blur();      // the arrow keys walk the tree again
   goStudy(Number(e.target.value));
 });
-$('file').addEventListener('change', (/** @type {any} */ e) => { openFile(e.target.files[0]); e.target.value = ''; });
+$('file').addEventListener('change', (/** @type {any} */ e) => {
+  const [file] = e.target.files;
+  e.target.value = '';
+  if (file) openFile(file);
+});
 $('tableFiles').addEventListener('change', (/** @type {any} */ e) => { const files = [...e.target.files]; e.target.value = ''; openTables(files); });
 /** @param {boolean} dark */
 function theme(dark, kept = true) {
@@ -146,7 +151,7 @@ document.addEventListener('drop', e => {
   e.preventDefault();
   document.body.classList.remove('dropping');
   const files = e.dataTransfer ? [...e.dataTransfer.files] : [], tables = files.filter(f => /\.dtm$/i.test(f.name));
-  if (tables.length) openTables(tables); else openFile(files[0]);
+  if (tables.length) openTables(tables); else if (files.length) openFile(files[0]);
 });
 
 // ---- the beginning

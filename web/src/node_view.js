@@ -4,10 +4,11 @@ import { button, h } from './dom.js';
 import { control, other, sideOf, squareName } from './fen.js';
 import { app, change, doc, go, node, parts, say } from './app.js';
 import { flip, insert } from './board.js';
+import { earlierButton } from './earlier_view.js';
 import { promoteNode, removeNode } from './edits.js';
 import { openSetup } from './setup.js';
 import { typedMoves as movesIn } from './typed.js';
-import { counted, markMeaning, moveName, valueSign, valueText } from './words.js';
+import { counted, markMeaning, moveName, valueSign, valueText, zugzwangText } from './words.js';
 /** @typedef {import('./types.js').TreeNode} TreeNode @typedef {import('./types.js').Move} Move @typedef {import('./types.js').Study} Study */
 
 /** @param {TreeNode | null} n */
@@ -91,11 +92,12 @@ export function hereView(s, n) {
   const view = app.view, mover = sideOf(n.fen), over = view ? view.over : '', meaning = markMeaning(n, s.aim ? s.aim.hero : undefined);
   const caption =
       h('p', {class: 'caption'}, h('b', {id: 'value'}, `${n.parent ? 'After ' + moveName(n) : 'At the start'}: ${valueText(mover, n.value)}`),
-        meaning && h('span', {class: 'mark ' + n.mark}, meaning), h('br', {}),
+        meaning && h('span', {class: 'mark ' + n.mark}, meaning),
+        n.zugzwang && h('span', {class: 'tag', title: zugzwangText(n.zugzwang)}, 'mutual zugzwang'), h('br', {}),
         h('small', {},
           over ? `${mover} is ${over === 'mate' ? 'mated' : 'stalemated'}` : `${mover} to move, ${counted(view ? view.moves.length : 0, 'legal move')}`,
           ' · ', control(n.fen)));
-  return [caption, movesView(s, n)];
+  return [caption, movesView(s, n), !n.parent && h('p', { class: 'act' }, earlierButton())];
 }
 /**
  * All legal moves, by outcome, the best first; those of the tree are bold.

@@ -4,9 +4,6 @@ import { TAGS } from './script.js';
 import { isKnown, unknown, withoutAccents } from './edits.js';
 import { counted } from './words.js';
 
-/** @param {string} text */
-export const looksLikePgn = text => /^\s*\[\w+ "/.test(text.replace(/^\ufeff/, ''));
-
 const COMMENT = /\{[^}]*\}|;[^\n]*/g;
 /**
  * The games that have a FEN.
@@ -22,6 +19,11 @@ const tagsOf = game => Object.fromEntries(
 /** @param {string} game */
 const bodyOf = game => game.replace(/^\[\w+ ".*\]$/gm, '');
 /**
+ * A tag as a script can have it: without accents, other letters as `?`, at most 60 of them.
+ * @param {string} text
+ */
+const plain = text => withoutAccents(text).replace(/[^ -~]/g, '?').trim().slice(0, 60).trim();
+/**
  * The lines of each game that has a FEN; none where there is none.
  * @param {string} text
  * @returns {string[]}
@@ -30,9 +32,11 @@ export function fromPgn(text) {
   const lines = /** @type {string[]} */ ([]), used = new Set();
   for (const game of gamesIn(text)) {
     const tags = tagsOf(game), body = bodyOf(game);
+    lines.push(...TAGS.filter(name => isKnown(tags[name]) && plain(tags[name]) !== tags[name].trim())
+                      .map(name => `# ${name} was: ${tags[name].trim().slice(0, 250)}`));
     lines.push('position ' + tags.FEN, 'stipulate ' + aimOf(tags, body));
     for (const name of TAGS) {
-      const value = withoutAccents(tags[name] || '').slice(0, 60).trim();
+      const value = plain(tags[name] || '');
       if (isKnown(value)) lines.push(`tag ${name} ${value}`), used.add(name);
       else if (used.has(name)) lines.push(`tag ${name} ${unknown(name)}`);
     }
@@ -59,7 +63,7 @@ const MADE = new Set([...TAGS, 'FEN', 'SetUp', 'Result']);
  * @param {string} text
  */
 export function notKept(text) {
-  const lost = { comments: 0, symbols: 0, tags: 0, accents: 0, long: 0 };
+  const lost = { comments: 0, symbols: 0, tags: 0 };
   for (const game of gamesIn(text)) {
     const tags = tagsOf(game), body = bodyOf(game),
           comments = (body.match(COMMENT) || []).map(c => c.replace(/\s+/g, ' '));
@@ -68,17 +72,11 @@ export function notKept(text) {
     lost.comments += comments.filter(c => !own || !OWN.test(c)).length;
     lost.symbols += signs.filter(sign => !own || !/^\$[14]$/.test(sign)).length;
     lost.tags += Object.keys(tags).filter(name => !MADE.has(name)).length;
-    for (const value of TAGS.map(name => (tags[name] || '').trim())) {
-      if (withoutAccents(value) !== value) lost.accents++;
-      if (withoutAccents(value).length > 60) lost.long++;
-    }
   }
   const words = [
-    [lost.comments, 'comment'], [lost.symbols, 'symbol'], [lost.tags, 'tag'], [lost.accents, 'accented text'],
-    [lost.long, 'end of a text of more than 60 letters', 'ends of texts of more than 60 letters']
+    [lost.comments, 'comment'], [lost.symbols, 'symbol'], [lost.tags, 'tag']
   ];
-  const list = words.filter(([n]) => n).map(([n, one,
-    many]) => counted(Number(n), String(one), many ? String(many) : undefined));
+  const list = words.filter(([n]) => n).map(([n, one]) => counted(Number(n), String(one)));
   return list.length ? `Not kept of this PGN: ${list.join(', ')}.` : '';
 }
 /** @typedef {{san: string, kids: Kid[], path: string}} Kid */

@@ -63,6 +63,10 @@ export function readView(text) {
     else if (row[0] === 'stipulation') Object.assign(view, readStipulation(row.slice(1).join(' ')));
     else if (row[0] === 'at') [view.path, view.over] = [row[1], /^\d/.test(row[2]) ? '' : /** @type {View['over']} */ (row[2])];
     else if (row[0] === 'move') view.moves.push(readMove(row));
+    else if (row[0] === 'zugzwang') {
+      const node = nodes.get(row[1]);
+      if (node) node.zugzwang = row.slice(2).join(' ');
+    }
   }
   const root = nodes.get('root');
   return root ? Object.assign(view, { root }) : null;
@@ -78,7 +82,8 @@ function addNode(nodes, line) {
   let fenAt = 0;
   for (let i = 0; i < next + 2; i++) fenAt += row[i].length + 1;
   const node = /** @type {TreeNode} */ (
-      {path, san, ...readSquares(squares), value, mark, duals, faults: Number(row[next + 1]), fen: line.slice(fenAt), parent, children: []});
+      {path, san, ...readSquares(squares), value, mark, duals, faults: Number(row[next + 1]), fen: line.slice(fenAt), zugzwang: '', parent,
+        children: []});
   nodes.set(path, node);
   if (parent) parent.children.push(node);
 }
@@ -122,16 +127,22 @@ export function written(node, list = []) {
 export const depth = node => (node.path === 'root' ? 0 : node.path.split('.').length);
 
 /**
+ * The facts of each game of a script, in their order.
+ * @param {string} text
+ */
+export const readReviews = text => text.split(/^(?=study )/m).map(readReview).filter(Boolean);
+/**
  * The facts of one study; null where there are none.
  * @param {string} text
  * @returns {Review | null}
  */
 export function readReview(text) {
-  const review = /** @type {Review} */ ({ empty: false, faults: [], also: [], refuted: [], missing: [], ends: [] });
+  const review = /** @type {Review} */ ({ empty: false, waste: '', faults: [], also: [], refuted: [], missing: [], ends: [] });
   let told = false;
   for (const row of rowsOf(text)) {
     if (row[0] === 'study') told = true;
     else if (row[0] === 'empty') review.empty = true;
+    else if (row[0] === 'waste') review.waste = row.slice(1).join(' ');
     else if (row[0] === 'fault' || row[0] === 'also' || row[0] === 'refuted' || row[0] === 'missing') addFact(review, row);
     else if (row[0] === 'play') { const [value, at] = readValue(row, 2); review.ends.push({ path: row[1], value, keeping: 0, of: 0, sans: row.slice(at) }); }
     else if (row[0] === 'keep') review.ends.push({ path: row[1], value: null, keeping: Number(row[2]), of: Number(row[3]), sans: row.slice(4) });

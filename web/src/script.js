@@ -1,6 +1,7 @@
 // @ts-check
 // The script is the document: lines of edits, run from the first to the last. Here its replies become studies.
 import { aimText, aimWords } from './words.js';
+import { originalsIn } from './imported.js';
 import { readStipulation } from './replies.js';
 /** @typedef {import('./types.js').Script} Script @typedef {import('./types.js').Study} Study @typedef {import('./types.js').Aim} Aim */
 /** @typedef {{text: string, line: number}} Sent      a line that is run, and its place in the script; -1 for one of our own */
@@ -15,6 +16,8 @@ export const isSilent = line => /^ *(#.*)?$/.test(line);
 export const isTableLine = line => /^ *(build|load|save|verify)( |$)/.test(line);
 /** @param {string} line */
 export const isQuestion = line => /^ *(mark|moves|fen|solve|pgn)( |$)/.test(line);
+/** @param {string} line */
+export const isCommand = line => isTableLine(line) || isQuestion(line) || /^ *(position|stipulate|tag|insert|delete|promote|shift)( |$)/.test(line);
 /** @param {string} line */
 export const isEdit = line => !isSilent(line) && !isTableLine(line) && !isQuestion(line);
 /** @param {string} text */
@@ -91,8 +94,18 @@ export function readScript(lines, sent, replies) {
   sent.forEach((s, i) => {
     if (!isSilent(s.text) && !isTableLine(s.text)) take(script, carried, s, replies[i] || 'error NoReply');
   });
-  script.studies.forEach((study, i) => { study.end = script.studies[i + 1] ? script.studies[i + 1].from : lines.length; });
+  for (const study of script.studies) withRemarks(lines, study);
+  script.studies.forEach((study, i) => { study.end = script.studies[i + 1] ? script.studies[i + 1].head : lines.length; });
   return script;
+}
+/**
+ * The remarks right above a position are the study's.
+ * @param {string[]} lines
+ * @param {Study} study
+ */
+function withRemarks(lines, study) {
+  while (study.head > 0 && /^ *#/.test(lines[study.head - 1])) study.head--;
+  study.originals = originalsIn(lines.slice(study.head, study.from));
 }
 
 /**
@@ -139,8 +152,8 @@ function take(script, carried, { text, line }, reply) {
  */
 function begun(line, fen, carried) {
   const old = [...(carried.aim ? ['stipulate ' + aimWords(carried.aim)] : []), ...Object.entries(carried.tags).map(([k, v]) => `tag ${k} ${v}`)];
-  return { from: line, end: line + 1, last: line, fen, aim: carried.aim, tags: { ...carried.tags }, place: {}, carried: old, made: null,
-    pgn: '', verdict: '', games: [], told: false };
+  return { head: line, from: line, end: line + 1, last: line, fen, aim: carried.aim, tags: { ...carried.tags }, originals: {}, place: {},
+    carried: old, made: null, pgn: '', verdict: '', games: [], told: false };
 }
 /**
  * @param {Carried} carried
@@ -215,6 +228,19 @@ export function savedScript(script, classes) {
  * @param {Script} script
  */
 export const gamesOf = script => script.studies.flatMap(study => study.games).join('');
+/**
+ * A game with the texts of its tags in their own letters.
+ * @param {Study} study
+ * @param {string} game
+ */
+const inOwnLetters = ({ originals }, game) => game.replace(
+    /^\[(\w+) ".*"\]$/gm,
+    (tag, name) => (originals[name] ? `[${name} "${originals[name].replace(/["\\]/g, '\\$&')}"]` : tag));
+/**
+ * The games as they are saved, with names in their own letters.
+ * @param {Script} script
+ */
+export const savedGames = script => script.studies.flatMap(study => study.games.map(game => inOwnLetters(study, game))).join('');
 /**
  * The lines of the saved script that tell them.
  * @param {Script} script

@@ -1,14 +1,13 @@
 // @ts-check
 // The set-up of men: a draft until it is taken over. The program says of each draft what is wrong with it, or what its value is.
-import { $ } from './dom.js';
 import { EMPTY, menOf, placement, sideOf, squareName, typedFen } from './fen.js';
-import { PAGES, app, change, doc, opened, parts, say, silent, study, viewOf, work } from './app.js';
+import { PAGES, app, parts, say, silent, study, viewOf, work } from './app.js';
 import { Stopped } from './engine.js';
 import { freshId } from './keep.js';
-import { addStudy, replacePosition, shiftTo } from './edits.js';
 import { readSurvey, refusalIn } from './replies.js';
 import { aimText, aimWords, counted, holds, movesTo, reason } from './words.js';
 import { joined } from './script.js';
+import { isTurn, turnedAim, turnedFen } from './turning.js';
 /** @typedef {import('./fen.js').Men} Men */
 /** @typedef {{bad: string, text: string, lacking: string[], mate: number}} Judged */
 /**
@@ -27,7 +26,8 @@ import { joined } from './script.js';
  * @property {{to: number, sign: string, text: string}[] | null} survey
  * @property {string[]} waits      the tables that are being built for it
  * @property {string} id      the document that it becomes, where that is a new one
- * @property {string[]} past      states before, as a FEN and an aim with | between them
+ * @property {import('./turning.js').Turn[]} turns      what was done to the whole diagram, so that the moves can come along
+ * @property {string[]} past      states before, as a FEN, an aim and turns with | between them
  * @property {string[]} future      states that were taken back
  */
 
@@ -61,14 +61,17 @@ export function begin({ placed, past, future, anew, more, id }) {
 export function closeSetup() { app.setup = null; silent(); parts.keep(); parts.show(); }
 /** @param {string} placed */
 function stateOf(placed) {
-  const [fen, aim = ''] = placed.split('|'), [, mover, ...tail] = fen.split(' ');
+  const [fen, aim = '', turns = ''] = placed.split('|'), [, mover, ...tail] = fen.split(' ');
   return {
+    turns: turns.split(' ').filter(isTurn),
     men: menOf(fen),
     mover: mover === 'b' ? 'b' : 'w',
     tail: tail.join(' ') || '- - 0 1',
     aim: aim || 'white win'
   };
 }
+/** @param {Draft} d */
+const placedOf = d => `${draftFen()}|${d.aim}|${d.turns.join(' ')}`;
 export const draftFen = () => { const d = /** @type {Draft} */ (app.setup); return `${placement(d.men)} ${d.mover} ${d.tail}`; };
 /**
  * The set-up at hand as it is kept; none where no man was put down.
@@ -78,7 +81,7 @@ export function draftKept() {
   const d = app.setup;
   if (!d || !d.past.length && !(d.anew && Object.keys(d.men).length)) return null;
   return {
-    placed: `${draftFen()}|${d.aim}`,
+    placed: placedOf(d),
     past: d.past.slice(-200),
     future: d.future.slice(0, 200),
     anew: d.anew,
@@ -92,11 +95,11 @@ const noPassed = (/** @type {string} */ tail) => '- - ' + tail.split(' ').slice(
 export function drafted(changes) {
   const d = app.setup;
   if (!d) return;
-  const before = `${draftFen()}|${d.aim}`;
+  const before = placedOf(d);
   Object.assign(d, changes, { judged: null, survey: null });
   if (changes.men && changes.tail === undefined) d.tail = noPassed(d.tail);
   if (changes.men && d.man !== null && !d.men[d.man]) d.man = null;
-  if (`${draftFen()}|${d.aim}` !== before) Object.assign(d, { past: [...d.past, before], future: [] });
+  if (placedOf(d) !== before) Object.assign(d, { past: [...d.past, before], future: [] });
   redrafted();
 }
 function redrafted() {
@@ -113,7 +116,7 @@ export function stepDraft(back) {
   const d = app.setup, list = d ? (back ? d.past : d.future) : [];
   if (!d) return;
   if (!list.length) return back && study() ? closeSetup() : undefined;
-  const now = `${draftFen()}|${d.aim}`,
+  const now = placedOf(d),
         moved = back ? { past: d.past.slice(0, -1), future: [now, ...d.future] } :
                        { past: [...d.past, now], future: d.future.slice(1) };
   Object.assign(d, stateOf(back ? list[list.length - 1] : list[0]), moved, { man: null, judged: null, survey: null });
@@ -168,6 +171,17 @@ export function moveDraft(from, to, letter, moved) {
   }
   const men = withMan(rest, to, letter);
   drafted({ men, man: to, ...(from === null ? { tool: nextTool(men, letter) } : {}) });
+}
+/**
+ * The whole diagram is turned; the moves of its study can come along.
+ * @param {import('./turning.js').Turn} turn
+ */
+export function turnDraft(turn) {
+  const d = /** @type {Draft} */ (app.setup), fen = turnedFen(turn, draftFen());
+  if (!fen) { say('fen', 'A man would leave the board.'); return parts.show(); }
+  const [placed, mover, ...tail] = fen.split(' ');
+  silent();
+  drafted({ men: menOf(placed), mover, tail: tail.join(' '), aim: turnedAim(turn, d.aim), turns: [...d.turns, turn], man: null });
 }
 /** @param {string} text */
 export function typed(text) {
@@ -242,28 +256,6 @@ export const survey = man => work(async () => {
   parts.showJudged();
 }, 'fen');
 
-/**
- * The draft becomes lines: a new study, another position for this one, or the same tree shifted.
- * @param {'anew' | 'shift'} how
- */
-export async function takeOver(how) {
-  const d = /** @type {Draft} */ (app.setup), fen = draftFen(), before = doc();
-  const done = await change(now => {
-    const s = now.studies[now.at];
-    if (d.anew || !s)
-      return {
-        lines: addStudy(d.more ? now.lines : [], fen, d.aim, d.more ? now.studies[now.studies.length - 1] : undefined),
-        at: d.more ? now.studies.length : 0,
-        path: 'root',
-        ...(d.more ? {} : { name: '', note: '', id: d.id })
-      };
-    return how === 'shift' ? shiftTo(now.lines, s, fen, d.aim) : replacePosition(now.lines, s, fen, d.aim);
-  }, 'fen');
-  if (!done) return;
-  closeSetup();
-  $('board').firstChild.focus({ preventScroll: true });
-  if (d.anew && !d.more) opened(before);
-}
 /** The squares of a survey are taken off the board again; whether some were shown. */
 export function hideSurvey() {
   const d = app.setup;

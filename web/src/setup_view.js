@@ -6,7 +6,8 @@ import { app, node, parts, study } from './app.js';
 import { manIcon, takeUp } from './board.js';
 import { aimView, told } from './head_view.js';
 import { kept } from './node_view.js';
-import { closeSetup, draftFen, drafted, judge, survey, takeOver, typed } from './setup.js';
+import { closeSetup, draftFen, drafted, judge, survey, turnDraft, typed } from './setup.js';
+import { takeOver } from './taking_over.js';
 import { moveName, readAim } from './words.js';
 /** @typedef {import('./setup.js').Draft} Draft */
 
@@ -37,7 +38,7 @@ export function setupView() {
       spellcheck: 'false',
       onchange: (/** @type {any} */ e) => typed(e.target.value)
     }),
-    h('div', { id: 'judgedBox' }, judgedBox(d)), fromNode(d),
+    h('div', { id: 'judgedBox' }, judgedBox(d)), fromNode(d), turnView(),
     h('p', { class: 'note keys' },
         'Press a man, then squares; drag a man to move it, off the board to take it away. By keys: arrows on the ' +
             'board, then K Q R B N P for White, k q r b n p for Black, Delete; Enter starts.')
@@ -61,6 +62,12 @@ function fromNode(d) {
   const take = () => drafted({ men: menOf(placed), mover, tail: tail.join(' '), man: null });
   return h('p', {}, button(`The position after ${moveName(n)}`, 'set up these men instead', take, { id: 'fromNode' }));
 }
+const TURN_WORDS = /** @type {[import('./turning.js').Turn, string, string][]} */ ([['left', '←', 'one file to the left'],
+  ['right', '→', 'one file to the right'], ['up', '↑', 'one rank up'], ['down', '↓', 'one rank down'],
+  ['mirror', 'Mirror', 'the files from the other side'], ['colours', 'Colours', 'exchange White and Black']]);
+/** The whole diagram over, with the moves of its study. */
+const turnView = () => h('p', { class: 'row', role: 'group', 'aria-label': 'The whole diagram' }, h('span', { class: 'note' }, 'The whole diagram: '),
+  TURN_WORDS.map(([turn, text, title]) => button(text, title, () => turnDraft(turn), { class: 'chip act', 'aria-label': title, 'data-turn': turn })));
 /**
  * What comes late: what the program says of the draft, and what can be done with it.
  * @param {Draft} d
@@ -157,6 +164,6 @@ function startView(d, behind) {
     return [
       button(d.anew ? 'Start' : 'Take this position', 'play the solution from here', () => takeOver('anew'), {id: 'start', class: 'main', disabled}), cancel
     ];
-  return [button('Keep the moves', 'the same tree on this position', () => takeOver('shift'), { id: 'start', class: 'main', disabled }),
+  return [button('Keep the moves', 'as much of the same tree as is legal on this position', () => takeOver('keep'), { id: 'start', class: 'main', disabled }),
     button('Without the moves', 'an empty tree', () => takeOver('anew'), { id: 'startEmpty', disabled }), cancel];
 }

@@ -13,7 +13,11 @@ import { isKnown } from './edits.js';
 import { PAWN, SAAVEDRA } from './samples.js';
 import { joined } from './script.js';
 import { redrawJudged, setupView } from './setup_view.js';
-import { openText, studyName, textsView } from './texts_view.js';
+import { openText } from './opening.js';
+import { listView as entriesView } from './list_view.js';
+import { later, listed } from './list_facts.js';
+import { stampOf, studyName } from './entries.js';
+import { textsView } from './texts_view.js';
 import { keyView, listenToTree, markCurrent, showTree } from './tree_view.js';
 
 let pressing = false;
@@ -105,6 +109,7 @@ export function show() {
   drawFacts();
   part('texts', [d.lines, d.studies, d.at, app.view !== null, ...saying()], () => textsView(s));
   showDocuments();
+  if (isNew('list facts', [d.lines, d.judged])) later(d);
   refocus(kept);
   speak();
   hint();
@@ -132,6 +137,7 @@ function drawFacts() {
   part('verdict', [s, app.view !== null, app.noView, app.review], () => s && verdictView(s));
   part('mend', [s, app.view !== null, app.review], () => s && mendView(s));
   part('review', [s, app.view !== null, app.review, app.noReview], () => s && reviewView(s));
+  put('list', entriesView());
 }
 export const showFacts = () => lately(drawFacts);
 function drawJudged() {
@@ -155,7 +161,7 @@ function showBar() {
   $('after').disabled = d.at + 1 >= d.studies.length;
   if (many)
     part('studies', [d.studies],
-         () => d.studies.map((s, i) => h('option', {value: i}, `${i + 1}. ${studyName(s)}: ${s.verdict || 'not judged'}`)));
+         () => d.studies.map((s, i) => h('option', {value: i}, `${i + 1}. ${studyName(s)}: ${stampOf(d, s, listed(d)[i]).text}`)));
   if (many) $('studies').value = d.at;
   $('more').disabled = !d.studies.length;
   for (const id of ['saveScript', 'savePgn', 'saveReport', 'print']) $(id).disabled = !d.lines.length;

@@ -1,15 +1,14 @@
 // @ts-check
-// The texts: the game as PGN, the script, refused lines, and the list of studies.
-import { $, button, h } from './dom.js';
-import { control } from './fen.js';
-import { app, change, doc, goStudy, opened, parts, say } from './app.js';
-import { dropStudy, isKnown, tidy } from './edits.js';
+// The texts: the game as PGN, the script, and refused lines.
+import { button, h } from './dom.js';
+import { app, change, doc, goStudy } from './app.js';
+import { dropStudy, tidy } from './edits.js';
+import { copyStudy, moveStudy } from './study_edits.js';
 import { table } from './facts_view.js';
 import { told } from './head_view.js';
-import { freshId } from './keep.js';
-import { fromPgn, looksLikePgn, notKept } from './pgn.js';
-import { linesOf, toldBefore } from './script.js';
-import { aimText, counted, reason } from './words.js';
+import { diagramView } from './diagram.js';
+import { openText } from './opening.js';
+import { counted, reason } from './words.js';
 /** @typedef {import('./types.js').Study} Study */
 
 const open = { pgn: false, script: false };
@@ -17,13 +16,12 @@ const open = { pgn: false, script: false };
 let unrun = /** @type {{text: string, lines: string[]} | null} */ (null);
 /** @param {Study | undefined} s */
 export function textsView(s) {
-  const many = doc().studies.length > 1;
   return [
     doc().note &&
         h('p', { class: 'note', id: 'notKept' },
             `${doc().note} Save PGN writes ${doc().name || 'a file of another name'}${doc().name && '.pgn'}.`),
-    doc().refused.length > 0 && refusedView(), many && [h('h2', {}, 'Studies of this script'), studiesView()],
-    s && s.pgn && pgnView(s), scriptView(s)
+    doc().refused.length > 0 && refusedView(),
+    h('p', { class: 'row' }, diagramView()), s && s.pgn && pgnView(s), scriptView(s)
   ];
 }
 /** @param {Study} s */
@@ -54,39 +52,20 @@ function scriptView(s) {
                 'Tidy', 'write this study anew in its shortest form',
                 () => change(now => (app.view && now.studies[now.at] ? tidy(now.lines, now.studies[now.at], app.view.root) : null), 'script'),
                 {id: 'tidy'}),
+        s && button('Copy this study', 'one more of the same behind it', () => change(now => copyStudy(now.lines, now.studies, now.at), 'script'),
+                    { id: 'copyStudy' }),
+        s && doc().studies.length > 1 && [moveButton('Move up', -1), moveButton('Move down', 1)],
         s && doc().studies.length > 1 &&
             button(
                 'Remove this study', 'take its lines out of the script', () => change(now => dropStudy(now.lines, now.studies[now.at], now.at), 'script'),
                 {id: 'drop'})));
 }
 /**
- * A script or a PGN takes the place of the document; undo brings the old one back.
  * @param {string} text
- * @param {string} where
- * @param {string} name      of its file
+ * @param {1 | -1} by
  */
-export async function openText(text, where = 'script', name = '') {
-  const pgn = looksLikePgn(text), lines = pgn ? fromPgn(text) : linesOf(text), note = pgn ? notKept(text) : '';
-  if (!lines.length && text.trim()) {
-    say(where, 'No game with a FEN was found in this text. Nothing was changed.');
-    if (where === 'script') Object.assign(app.say || {}, { field: 'script', typed: text });
-    return parts.show();
-  }
-  const same = where === 'script' && $('script') && lines.length > 0, before = doc();
-  app.setup = null;
-  const stem = name.replace(/\.\w+$/, ''), file = stem && pgn ? stem.replace(/\.checked$/, '') + '.checked' : stem,
-        id = freshId();
-  await change(now => ({
-    lines,
-    note: pgn || where !== 'script' ? note : now.note,
-    ...(where === 'script' ? {} : { name: file, id }),
-    at: same ? now.at : 0,
-    path: same && lines.length === now.lines.length ? now.path : 'root',
-    lenient: true
-  }), where);
-  if (app.say && app.say.where === where && !app.say.good) { Object.assign(app.say, { field: 'script', typed: text }); parts.show(); }
-  if (where !== 'script' && doc() !== before) opened(before);
-}
+const moveButton = (text, by) => button(text, 'this study among those of the script', () => change(now => moveStudy(now.lines, now.studies, now.at, by), 'script'),
+  { id: by < 0 ? 'studyUp' : 'studyDown', disabled: !doc().studies[doc().at + by] });
 function refusedView() {
   const list = doc().refused, studies = doc().studies;
   const of = (/** @type {number} */ line) => studies.findIndex(s => s.from <= line && line < s.end);
@@ -99,11 +78,3 @@ function refusedView() {
 }
 /** @param {number} i */
 const studyLink = i => button(`${i + 1}`, 'show it', () => goStudy(i), { class: 'link', 'aria-current': i === doc().at && 'true' });
-/** @param {Study} s */
-export const studyName = s => [s.tags.Event, s.tags.White].filter(isKnown).join(', ') || control(s.fen);
-function studiesView() {
-  return table(
-      ['No.', 'Title, author', 'Stipulation', 'Verdict'], doc().studies,
-      s => [studyLink(doc().studies.indexOf(s)), studyName(s), s.aim ? aimText(s.aim) : '–',
-        [h('b', {}, s.verdict || '–'), toldBefore(s).map(text => h('div', { class: 'note' }, text))]]);
-}

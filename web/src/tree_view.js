@@ -6,7 +6,7 @@ import { app, doc, go } from './app.js';
 import { written } from './replies.js';
 import { editsTo } from './script.js';
 import { bareTree } from './unmarked.js';
-import { counted, markMeaning, moveName, valueSign, valueText } from './words.js';
+import { counted, markMeaning, moveName, valueSign, valueText, zugzwangText } from './words.js';
 /** @typedef {import('./types.js').TreeNode} TreeNode @typedef {import('./types.js').Study} Study */
 
 /**
@@ -21,7 +21,8 @@ function moveView(s, n, first) {
   return h('span', {class: 'mv'},
     h('button', { type: 'button', class: `m ${n.mark}`, 'data-path': n.path, title, 'aria-label': `${moveName(n)}: ${title}` }, num + n.san,
       sign && h('b', {}, sign)),
-    s.aim && h('sub', {}, valueSign(s.aim.hero, sideOf(n.fen), n.value)), n.mark === 'dual' && h('span', {class: 'tag'}, `dual ${n.duals}`));
+    s.aim && h('sub', {}, valueSign(s.aim.hero, sideOf(n.fen), n.value)), n.mark === 'dual' && h('span', {class: 'tag'}, `dual ${n.duals}`),
+    n.zugzwang && h('span', {class: 'tag zugzwang', title: `mutual zugzwang: ${zugzwangText(n.zugzwang)}`}, '⊙'));
 }
 /**
  * A move, by all that its view is made from: the hero, and of the position before it the side to move and the number; and a space.
@@ -32,7 +33,7 @@ function moveView(s, n, first) {
  */
 function moveItems(s, n, first) {
   const before = n.parent ? n.parent.fen : n.fen, number = before.slice(before.lastIndexOf(' ')), side = before[before.indexOf(' ') + 1];
-  const key = [n.path, n.san, n.mark, n.duals, n.value.kind, n.value.n, side + number, first, s.aim ? s.aim.hero : ''].join(' ');
+  const key = [n.path, n.san, n.mark, n.duals, n.value.kind, n.value.n, side + number, first, n.zugzwang, s.aim ? s.aim.hero : ''].join(' ');
   return [{ key, make: () => moveView(s, n, first) }, { key: n.path, make: () => document.createTextNode(' ') }];
 }
 /**
@@ -127,4 +128,4 @@ const example = (/** @type {string} */ mark, /** @type {string} */ sign) => h('s
 export const keyView = () =>
     h('p', {class: 'note key'}, example('only', '!'), ' the only one that holds · ', example('dual', ''), ' ', h('span', {class: 'tag'}, 'dual 2'),
       ' two others hold · ', example('mistake', '?'), ' lets the aim go · ', example('', ''), h('sub', {}, '7'), ' mate in 7 · ', h('sub', {}, '−7'),
-      ' is mated in 7 · ', h('sub', {}, '='), ' drawn');
+      ' is mated in 7 · ', h('sub', {}, '='), ' drawn · ', h('span', {class: 'tag zugzwang'}, '⊙'), ' mutual zugzwang');

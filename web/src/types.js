@@ -20,6 +20,7 @@
  * @property {number} duals
  * @property {number} faults
  * @property {string} fen
+ * @property {string} zugzwang     of a mutual zugzwang `full`, `half white` or `half black`; else empty
  * @property {TreeNode | null} parent
  * @property {TreeNode[]} children
  *
@@ -38,17 +39,20 @@
  * @typedef {{path: string, san: string, value: Value | null}} Refutation       no value: the move stalemates
  * @typedef {{path: string, san: string, value: Value, count: number, answer: string}} Missing
  * @typedef {{path: string, value: Value | null, keeping: number, of: number, sans: string[]}} Ending   no value: drawn
- * @typedef {{empty: boolean, faults: Fault[], also: Also[], refuted: Refutation[], missing: Missing[], ends: Ending[]}} Review
+ * @typedef {{empty: boolean, waste: string, faults: Fault[], also: Also[], refuted: Refutation[], missing: Missing[], ends: Ending[]}} Review
+ *   `waste`: the stamp by which loss of time is no dual, as `sound but for loss of time`; empty where none loses time
  *
  * @typedef {{square: number, kind: 'none' | 'fails' | 'holds' | 'only', value: Value | null, count: number, san: string}} Stand
  *
  * @typedef {object} Study         a study as the lines of the script make it
+ * @property {number} head         the first of the remarks right above its position
  * @property {number} from         its `position` line
  * @property {number} end          the line after its last
  * @property {number} last         its last edit
  * @property {string} fen          the start that the program read
  * @property {Aim | null} aim
  * @property {Record<string, string>} tags
+ * @property {Record<string, string>} originals  texts of tags in their own letters, as remarks have them
  * @property {Record<string, number>} place      the line of each tag, and of `aim`, that the study has itself
  * @property {string[]} carried    what it takes over from earlier studies, as lines
  * @property {{line: number, path: string} | null} made      the node that the last `insert` or `promote` made

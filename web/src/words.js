@@ -78,19 +78,22 @@ export function numberedLine(fen, sans) {
   }).join(' ');
 }
 
+const SENTENCES = /** @type {Record<string, string>} */ ({
+  sound: 'The stipulation holds, and each move of the solution is the only one.',
+  holds: 'The stipulation holds. No move of the solution was given.',
+  time: 'The stipulation holds, and each other move that holds loses time alone.',
+  wrong: 'The stipulation does not hold.',
+  'not read': 'A line of this study was refused, so it is not stamped; the refused lines are listed below.'
+});
 /**
  * What the stamp says, as a sentence.
  * @param {{verdict: string, start: string}} view
- * @param {boolean} empty
+ * @param {string} kind      of the stamp
  */
-export function verdictSentence(view, empty) {
-  const [kind, n] = view.verdict.split(' ');
-  const say = /** @type {Record<string, string>} */ ({
-    sound: empty ? 'The stipulation holds. No move of the solution was given.' : 'The stipulation holds, and each move of the solution is the only one.',
-    unsound: `The stipulation holds; the solution has ${n === '1' ? 'one fault' : n + ' faults'}.`,
-    wrong: 'The stipulation does not hold.',
-  });
-  return `${say[kind] || ''} At the start: ${view.start}.`;
+export function verdictSentence(view, kind) {
+  const [, n] = view.verdict.split(' ');
+  const unsound = `The stipulation holds; the solution has ${n === '1' ? 'one fault' : n + ' faults'}.`;
+  return `${kind === 'unsound' ? unsound : SENTENCES[kind] || ''} At the start: ${view.start}.`;
 }
 /**
  * What the mark of a node means.
@@ -104,6 +107,12 @@ export function markMeaning(node, hero) {
   if (node.mark === 'mistake') return node.parent && sideOf(node.parent.fen) === hero ? 'lets the aim go' : 'gives the aim back';
   return '';
 }
+/**
+ * What a mutual zugzwang is about: `full`, `half white`, `half black`.
+ * @param {string} kind
+ */
+export const zugzwangText = kind => (kind === 'full' ? 'a full point: whoever moves loses' :
+  `half a point: ${kind.endsWith('white') ? 'White' : 'Black'} wins if the other side is to move, else it is a draw`);
 /**
  * How much longer another move takes than the one played.
  * @param {Aim} aim

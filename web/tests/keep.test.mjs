@@ -114,11 +114,13 @@ test('what another page wrote there is only text, or nothing', () => {
   assert.deepEqual(keeper.open('X', false).history.now.lines, []);
 });
 test('what a list says of a document', () => {
+  const fen = '8/8/1KP5/3r4/8/8/8/k7 w - - 0 1', lines = ['position ' + fen, 'insert root c7'];
   const study = (verdict, Event) => (
-      { verdict, tags: { Event, White: 'Réti' }, fen: '8/8/1KP5/3r4/8/8/8/k7 w - - 0 1' });
-  assert.deepEqual(summary({ studies: [study('unsound 3', 'A')] }), { title: 'A, Réti', verdict: 'unsound 3' });
-  assert.deepEqual(summary({ studies: [study('unsound 3', '?'), study('sound', 'B'), study('sound', 'B')] }),
+      { verdict, tags: { Event, White: 'Réti' }, originals: {}, fen, from: 0, end: 2, aim: { hero: 'White', goal: 'win', k: 0 } });
+  const said = (studies, shown = lines) => summary({ studies, lines: shown, refused: [] });
+  assert.deepEqual(said([study('unsound 3', 'A')]), { title: 'A, Réti', verdict: 'unsound 3' });
+  assert.deepEqual(said([study('unsound 3', '?'), study('sound', 'B'), study('sound', 'B')]),
     { title: 'Réti and 2 more studies', verdict: '2 sound, 1 unsound' });
-  assert.deepEqual(
-      summary({ studies: [{...study('', '?'), tags: {} }] }), { title: 'Kb6 Pc6 / Ka1 Rd5', verdict: 'not judged' });
+  assert.deepEqual(said([study('sound', 'A')], [lines[0], '']), { title: 'A, Réti', verdict: 'holds' });
+  assert.deepEqual(said([{ ...study('', '?'), tags: {} }]), { title: 'Kb6 Pc6 / Ka1 Rd5', verdict: 'not judged' });
 });

@@ -40,7 +40,7 @@ test('values in words', () => {
   const view = readView(views.find(([name, path]) => name === 'saavedra_1895.views' && path === 'root')[2]);
   assert.equal(valueText('White', view.root.value), 'White mates in 26');
   assert.equal(valueText('White', view.root.value), view.start);
-  assert.equal(verdictSentence(view, false), 'The stipulation holds; the solution has 3 faults. At the start: White mates in 26.');
+  assert.equal(verdictSentence(view, 'unsound'), 'The stipulation holds; the solution has 3 faults. At the start: White mates in 26.');
   assert.equal(valueSign('White', 'Black', { kind: 'loss', n: 0 }), '#');
   assert.equal(valueSign('White', 'White', { kind: 'loss', n: 6 }), '−3');
   assert.equal(valueSign('White', 'Black', { kind: 'draw', n: 0 }), '=');

@@ -193,12 +193,16 @@ test('stipulation and tags stand in the lines of the study', () => {
   assert.equal(edits.stipulate(START, study, 'white mate 26').lines[1], 'stipulate white mate 26');
   assert.deepEqual(edits.setTag(START, study, 'Event', 'B').lines.slice(0, 4), [START[0], START[1], 'tag Event B', START[2]]);
   assert.deepEqual(edits.setTag(START, study, 'White', '').lines, START.filter(l => !l.startsWith('tag')));
-  assert.equal(edits.withoutAccents('Réti, Łódź'), 'Reti, Lodz');
+  const own = edits.setTag(START, study, 'White', 'Troickij', 'Троицкий').lines;
+  assert.deepEqual(own.slice(0, 4), ['# White was: Троицкий', START[0], START[1], 'tag White Troickij']);
+  const again = { ...study, head: 0, from: 1, place: { aim: 2, White: 3 } };
+  assert.deepEqual(edits.setTag(own, again, 'White', 'Reti').lines.slice(0, 3), [START[0], START[1], 'tag White Reti']);
   const old = { ...study, tags: { White: 'A', Date: '1921.??.??' }, place: { aim: 1 } };
   assert.deepEqual(edits.setTag(START, old, 'Date', '').lines[2], 'tag Date ????.??.??');
 });
 test('another position', () => {
-  assert.deepEqual(edits.shiftTo(START, study, 'F', 'white win').lines[5], 'shift F');
+  assert.deepEqual(edits.withMoves(START, study, 'F', 'white win', ['insert root c7']).lines,
+      ['position F', 'stipulate white win', 'tag White A', 'insert root c7', 'pgn']);
   assert.deepEqual(edits.replacePosition(START, study, 'F', 'black draw').lines, ['position F', 'stipulate black draw', 'tag White A', 'pgn']);
   assert.deepEqual(edits.addStudy(START, 'F', 'white win', study).slice(6), ['', 'position F', 'stipulate white win', 'tag White ?']);
 });
@@ -234,15 +238,16 @@ test('what is not kept of a PGN is counted', () => {
   const head =
       '[Event "L\'Echiquier"]\n[White "Réti, R."]\n[Annotator "A"]\n[ECO "x"]\n[FEN "8/8/1KP5/3r4/8/8/8/k7 w - - 0 1"]\n[SetUp "1"]\n[Result "1-0"]\n\n';
   assert.equal(notKept(head + '{A study.} 1. c7! $14 (1. Kb7? {[%cal Gb6b7] weak}) Rd6+ ; and so on\n2. Kb5 $1 1-0\n'),
-    'Not kept of this PGN: 3 comments, 4 symbols, 2 tags, 1 accented text.');
+    'Not kept of this PGN: 3 comments, 4 symbols, 2 tags.');
   const own =
       '{White to win: unsound 3, White mates in 26} 1. c7 $1 {White mates in 25} (1. Kb7 $4 {draw} Rd6 {draw; dual 2}) 1-0\n';
   assert.equal(notKept(head.replace(/\[(Annotator|ECO).*\n/g, '').replace('é', 'e') + own), '');
   assert.equal(notKept(head.replace(/\[(Annotator|ECO).*\n/g, '').replace('é', 'e') +
                    own.replace('$4', '$2').replace('25}', '25} {a fine key}')),
       'Not kept of this PGN: 1 comment, 1 symbol.');
-  assert.equal(notKept(`[Event "${'x'.repeat(61)}"]\n[FEN "8/8/1KP5/3r4/8/8/8/k7 w - - 0 1"]\n\n*\n`),
-    'Not kept of this PGN: 1 end of a text of more than 60 letters.');
+  const lines = fromPgn('[Event "L\'Échiquier"]\n[White "Троицкий"]\n[FEN "8/8/1KP5/3r4/8/8/8/k7 w - - 0 1"]\n\n*\n');
+  assert.deepEqual(lines.slice(0, 2), ['# Event was: L\'Échiquier', '# White was: Троицкий']);
+  assert.deepEqual(lines.slice(4), ['tag Event L\'Echiquier', '']);
 });
 test('a study before it is judged', () => {
   const lines = [

@@ -167,7 +167,7 @@ def test_a_file_whose_tables_lack(user):
     user.fill("tagSite", "Glasgow")
     assert "Glasgow" in user.text("head") and not user.has("stamp")
     title = "Glasgow Weekly Citizen, Barbier and Saavedra and 1 more study"
-    assert sorted(row[:2] for row in documents(user)) == [[title, "not judged"], ["My own", "sound"]]
+    assert sorted(row[:2] for row in documents(user)) == [[title, "not judged"], ["My own", "holds"]]
     if os.path.exists(os.path.join(TABLES, "KRKP.dtm")):
         user.open_tables(TABLES, "KQKR KRKR KRKB KRKN KRKP".split())
         user.click("buildNow") if user.has("buildNow") else None
@@ -202,7 +202,7 @@ def test_a_set_up_that_was_not_started(user):
     user.until("!document.getElementById('start').disabled", 30)
     user.click("start")
     user.settle()
-    assert script(user).startswith("position " + placed) and user.text("stamp") == "sound"
+    assert script(user).startswith("position " + placed) and user.text("stamp") == "holds"
     assert sorted(row[0] for row in documents(user)) == ["Behind", "Kg2 Pb2 / Kh5"]
     user.click("setUp")
     user.click("manQ")
@@ -226,7 +226,7 @@ def test_studybench_takes_what_is_saved(user):
             "insert root Kg3\nmark 9\ninsert root Kz9\nmark 0\n")
     user.open_tables(TABLES, SMALL)
     user.promise("studyboard.open(a[0])", text)
-    assert user.text("stamp") == "sound" and user.text("refused") == "2 lines of the script were refused"
+    assert user.text("stamp") == "not read: Kz9" and user.text("refused") == "2 lines of the script were refused"
     name, saved = user.download("saveScript")
     assert name == "A.script" and remark in saved and saved.startswith("build KK\n")
     told = replies(saved)[0] if os.access(NATIVE, os.X_OK) else user.promise("studyboard.run(a[0])", saved)
@@ -246,7 +246,7 @@ def test_what_of_a_pgn_is_not_kept(user):
     user.open_file("entries.pgn", PGN)
     user.until("document.getElementById('stamp')", 30)
     user.settle()
-    words = "Not kept of this PGN: 3 comments, 4 symbols, 2 tags, 1 accented text."
+    words = "Not kept of this PGN: 3 comments, 4 symbols, 2 tags."
     assert words in user.text("sayBoard") and words in user.text("notKept")
     assert user.download("savePgn")[0] == "entries.checked.pgn"
     reload(user)
@@ -274,7 +274,7 @@ def test_a_refused_position_of_the_same_men(user):
     user.until("!document.getElementById('start').disabled", 30)
     user.click("start")
     user.settle()
-    assert user.text("stamp") == "sound"
+    assert user.text("stamp") == "holds"
 
 
 def test_removed_for_good(user):
@@ -296,7 +296,7 @@ def test_storage_that_is_full(user):
         for (let i = 0; text; i++)
             try { localStorage.setItem('filled' + i, text); } catch { text = text.slice(text.length >> 1 || 1); }""")
     started(user, FEN, "Not kept")
-    assert user.by("unkept").is_displayed() and user.text("stamp") == "sound"
+    assert user.by("unkept").is_displayed() and user.text("stamp") == "holds"
     user.js("for (const key of Object.keys(localStorage)) if (key.startsWith('filled')) localStorage.removeItem(key)")
     user.play("Kg3")
     assert not user.by("unkept").is_displayed()

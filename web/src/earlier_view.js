@@ -1,0 +1,71 @@
+// @ts-check
+// The panel 'Begin earlier': first the move of the opponent that led to the start, then the hero's before it.
+import { $, button, h, put } from './dom.js';
+import { app, change, counting, doc, parts, say, study } from './app.js';
+import { movesBefore } from './earlier.js';
+import { withMoves } from './edits.js';
+import { control, sideOf } from './fen.js';
+import { bareOf, insertions } from './turning.js';
+import { aimWords } from './words.js';
+/** @typedef {import('./earlier.js').Before} Before */
+
+/** The moves chosen so far, the last one first; and those to choose from, or none while they are looked for. */
+let chosen = /** @type {Before[]} */ ([]), offered = /** @type {Before[] | null} */ (null), fault = '';
+
+export function openEarlier() {
+  $('earlier').hidden = false;
+  chosen = [];
+  return look(study().fen);
+}
+/** Whether it was open. */
+export function close() {
+  const open = !$('earlier').hidden;
+  $('earlier').hidden = true;
+  return open;
+}
+/** @param {string} fen */
+function look(fen) {
+  const s = study(), mine = doc().lines;
+  [offered, fault] = [null, ''];
+  draw();
+  return counting(movesBefore(fen, s.aim ? aimWords(s.aim) : 'white win').then(list => { offered = list; }, why => { fault = why.message; })
+    .finally(() => { if (doc().lines === mine) draw(); else close(); }));
+}
+/** @param {Before} move */
+function choose(move) {
+  chosen = [move, ...chosen];
+  return chosen.length === 1 ? look(move.fen) : begin();
+}
+/** The study begins so much earlier; its tree hangs below the moves that were put in front. */
+function begin() {
+  const moves = [...chosen], [first] = moves, view = app.view;
+  close();
+  if (!view) return;
+  return change(now => {
+    const s = now.studies[now.at];
+    if (!s || !s.aim) return null;
+    const front = moves.map((move, i) => `insert ${i ? Array(i).fill(0).join('.') : 'root'} ${move.san}`);
+    const tree = insertions(bareOf(view.root), Array(moves.length).fill(0).join('.')).map(({ line }) => line);
+    return { ...withMoves(now.lines, s, first.fen, aimWords(s.aim), [...front, ...tree]), path: 'root', lenient: false };
+  }, 'board');
+}
+/** @param {Before} move */
+const moveView = move => h('button', { type: 'button', class: `chip m ${move.mark}`, 'data-before': move.san, title: control(move.fen), onclick: () => choose(move) },
+  move.san, move.mark === 'only' && h('b', {}, '!'), move.mark === 'mistake' && h('b', {}, '?'));
+function draw() {
+  if ($('earlier').hidden) return;
+  const at = chosen.length ? chosen[0].fen : study() ? study().fen : '', mover = sideOf(at) === 'White' ? 'Black' : 'White';
+  const words = fault ? `Not found: ${fault}.` : offered === null ? 'The moves before are looked for …' :
+    offered.length ? `${mover}'s move before ${chosen.length ? chosen[0].san : 'the start'}; those first that alone hold:` : `No move of ${mover} without a capture can have led here.`;
+  put('earlier',
+      h('div', { class: 'row' }, h('h2', {}, 'Begin earlier'), h('span', { class: 'gap' }), button('Close', 'Escape', close, { id: 'closeEarlier' })),
+      h('p', { role: 'status', id: 'earlierState' }, words), h('p', { class: 'chips' }, (offered || []).map(moveView)),
+      chosen.length > 0 && h('p', {}, button(`Begin with ${chosen[0].san}`, 'one move earlier alone', begin, { id: 'beginOne' })));
+  if (!offered && !fault) return;
+  const first = $('earlier').querySelector('[data-before]') || $('closeEarlier');
+  first.focus({ preventScroll: true });
+}
+/** Offered at the start of a study that has a stipulation. */
+export const earlierButton = () => (study() && study().aim ? button('Begin earlier', 'put the moves before the start in front', () => {
+  openEarlier().catch(why => { say('board', `${why.message}.`); parts.show(); });
+}, { class: 'chip act', id: 'beginEarlier' }) : null);

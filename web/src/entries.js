@@ -1,0 +1,138 @@
+// @ts-check
+// The entries of a script, one a row: its studies with what is said of them, and those that were left out.
+import { isKnown } from './edits.js';
+import { control, sideOf } from './fen.js';
+import { leftOutBy, whyLeftOut } from './imported.js';
+import { isEdit, wordsOf } from './script.js';
+import { bareTree } from './unmarked.js';
+import { aimText, reason } from './words.js';
+/** @typedef {import('./types.js').Study} Study @typedef {import('./types.js').Doc} Doc @typedef {import('./types.js').Review} Review */
+/**
+ * `kind` is what the list is filtered by; `at` the place of a study, -1 of an entry that was left out.
+ * @typedef {{line: number, at: number, kind: string, title: string, author: string, fen: string, aim: string, stamp: string,
+ *   review: Review | null}} Entry
+ */
+
+/**
+ * A tag's text in its own letters, or nothing where it is not known.
+ * @param {Study} s
+ * @param {string} name
+ */
+export const nameOf = (s, name) => s.originals[name] || (isKnown(s.tags[name]) ? s.tags[name] : '');
+/**
+ * Title and author, or the men.
+ * @param {Study} s
+ */
+export const studyName = s => [nameOf(s, 'Event'), nameOf(s, 'White')].filter(Boolean).join(', ') || control(s.fen);
+
+/**
+ * Whether some move of the side that has something to do is in the tree that lines make.
+ * @param {string[]} lines
+ * @param {Study} s
+ */
+export function hasSolution(lines, s) {
+  const { children } = bareTree(lines.slice(s.from, s.end));
+  return s.aim !== null && children.some(child => sideOf(s.fen) === s.aim?.hero || child.children.length > 0);
+}
+/** @param {{text: string}} line */
+const isPosition = ({ text }) => wordsOf(text)[0] === 'position';
+/**
+ * The first line of a study that was refused: its verdict is not that of the entry then. Lines behind a position that was
+ * refused are of another entry.
+ * @param {Doc} doc
+ * @param {Study} s
+ */
+export function unreadIn(doc, s) {
+  const first = doc.refused.find(r => s.from < r.line && r.line < s.end && isEdit(r.text));
+  return first && !isPosition(first) ? first : undefined;
+}
+/**
+ * What is said of a study by one word and more: its verdict, but where a line of it was not read, where no move of the
+ * solution was given, or where only time is lost.
+ * @param {Doc} doc
+ * @param {Study} s
+ * @param {Review | null} review
+ * @returns {{kind: string, text: string}}
+ */
+export function stampOf(doc, s, review) {
+  const unread = unreadIn(doc, s), [kind] = s.verdict.split(' ');
+  if (unread) return { kind: 'not read', text: `not read: ${wordsOf(unread.text).slice(unread.text.trim().startsWith('insert') ? 2 : 0).join(' ').slice(0, 40)}` };
+  if (!kind) return { kind: 'not judged', text: 'not judged' };
+  if (kind === 'sound' && !hasSolution(doc.lines, s)) return { kind: 'holds', text: 'holds' };
+  if (review && review.waste.startsWith('sound')) return { kind: 'time', text: review.waste };
+  return { kind, text: (review && review.waste) || s.verdict };
+}
+/**
+ * What the lines after a refused position say of it: who the author is, and which entry it was to be.
+ * @param {string[]} lines
+ * @param {number} from
+ */
+function tagsAfter(lines, from) {
+  const tags = /** @type {Record<string, string>} */ ({});
+  for (let at = from + 1; at < lines.length && wordsOf(lines[at])[0] !== 'position'; at++) {
+    const m = /^ *tag +(\w+) +(.*)$/.exec(lines[at]);
+    if (m) tags[m[1]] = m[2].trim();
+  }
+  return tags;
+}
+/**
+ * @param {number} line
+ * @param {string} title
+ * @param {string} author
+ * @param {string} why
+ * @returns {Entry}
+ */
+const missing = (line, title, author, why) =>
+    ({ line, at: -1, kind: 'left out', title, author, fen: '', aim: '', stamp: `left out: ${why}`, review: null });
+/**
+ * The entries in the order of the script.
+ * @param {Doc} doc
+ * @param {(Review | null)[]} reviews      of each study, as far as they are known
+ * @returns {Entry[]}
+ */
+export function entriesOf(doc, reviews = []) {
+  const studies = doc.studies.map((s, at) => {
+    const { kind, text } = stampOf(doc, s, reviews[at] || null);
+    return { line: s.from, at, kind, title: nameOf(s, 'Event') || control(s.fen), author: nameOf(s, 'White'), fen: s.fen,
+      aim: s.aim ? aimText(s.aim) : '', stamp: text, review: reviews[at] || null };
+  });
+  const refused = doc.refused.filter(isPosition).map(r => {
+    const { Event = '', White = '', Round = '' } = tagsAfter(doc.lines, r.line);
+    return missing(r.line, isKnown(Event) ? Event : isKnown(Round) ? `entry ${Round}` : '', isKnown(White) ? White : '', reason(r.reply));
+  });
+  const unread = doc.lines.flatMap((text, line) => {
+    const game = leftOutBy(text);
+    return game ? [missing(line, `game ${game.game} of the PGN, line ${game.line}`, '', whyLeftOut(game))] : [];
+  });
+  return [...studies, ...refused, ...unread].sort((x, y) => x.line - y.line);
+}
+const KINDS = ['sound', 'time', 'unsound', 'wrong', 'holds', 'not read', 'left out', 'not judged'];
+/** @type {Record<string, string>} */
+export const KIND_WORDS = { time: 'sound but for loss of time', unsound: 'unsound' };
+/**
+ * How many entries there are of each kind, those alone that there are.
+ * @param {{kind: string}[]} entries
+ * @returns {[string, number][]}
+ */
+export const countsOf = entries => /** @type {[string, number][]} */ (
+    KINDS.map(kind => [kind, entries.filter(entry => entry.kind === kind).length]).filter(([, n]) => n));
+
+/**
+ * A field of a line of comma-separated values (RFC 4180).
+ * @param {string | number} value
+ */
+const field = value => (/[",\r\n]/.test(`${value}`) ? `"${`${value}`.replace(/"/g, '""')}"` : `${value}`);
+/**
+ * The list as comma-separated values, lines ended by CR LF: numbers of duals, of those that lose time alone, and of
+ * defences that are not in the tree, where they are known.
+ * @param {Entry[]} entries
+ */
+export function csvOf(entries) {
+  const rows = entries.map(({ title, author, fen, aim, stamp, review }, i) => {
+    const duals = review ? review.faults.filter(f => f.kind === 'dual') : [],
+          facts = review ? [duals.length, duals.filter(f => f.time === f.duals).length, review.missing.length] : ['', '', ''];
+    return [i + 1, title, author, fen, aim, stamp, ...facts];
+  });
+  const head = ['Number', 'Title', 'Author', 'FEN', 'Stipulation', 'Verdict', 'Duals', 'Duals that lose time', 'Missing defences'];
+  return [head, ...rows].map(row => row.map(field).join(',') + '\r\n').join('');
+}

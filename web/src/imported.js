@@ -1,0 +1,64 @@
+// @ts-check
+// A script that studyimport made of a PGN: blocks of lines with remarks above them, and for each game that has none a remark
+// that says why.
+import { reason } from './words.js';
+/**
+ * A game that was left out: where in the PGN, why, and at which text.
+ * @typedef {{game: number, line: number, column: number, why: string, text: string}} LeftOut
+ */
+
+/**
+ * Whether a text is a PGN: its first line is a tag, or some line is the tag of a position.
+ * @param {string} text
+ */
+export const looksLikePgn = text => /^[\s\ufeff]*\[\w+ "/.test(text) || /^\[FEN "/m.test(text);
+/**
+ * The text of a file: UTF-8 if all of it is, else Latin 1.
+ * @param {Uint8Array} bytes
+ */
+export function decoded(bytes) {
+  try {
+    return new TextDecoder('utf-8', { fatal: true }).decode(bytes);
+  } catch { return new TextDecoder('latin1').decode(bytes); }
+}
+const GAME = /^# game (\d+), line (\d+)(?:, column (\d+))?: (.*)$/;
+/**
+ * The game that a remark says was left out.
+ * @param {string} line
+ * @returns {LeftOut | null}
+ */
+export function leftOutBy(line) {
+  const m = GAME.exec(line);
+  if (!m || m[4].startsWith('stipulated by ')) return null;
+  const [why, text = ''] = m[4].replace(/^left out: /, '').split(' at ');
+  return { game: Number(m[1]), line: Number(m[2]), column: Number(m[3]) || 0, why, text };
+}
+const FAULTS = /** @type {Record<string, string>} */ ({
+  GameTooLarge: 'longer than a million bytes',
+  TagForm: 'a tag that is not written as [Name "text"]',
+  OpenString: 'a tag whose text is not closed in its line',
+  TagInMoves: 'a tag among the moves',
+  Byte: 'a letter that begins no move',
+  OpenComment: 'a comment that is not closed',
+  NoMoveBefore: 'a variation before the first move',
+  NotOpened: 'a ) without its (',
+  OpenVariation: 'a ( without its )',
+  TooNested: 'more than 256 variations within one another',
+  NoStipulation: 'it does not say what is to be done'
+});
+/**
+ * Why a game was left out, in words.
+ * @param {LeftOut} game
+ */
+export function whyLeftOut({ why, text }) {
+  const words = FAULTS[why] || (/^[A-Z]\w+$/.test(why) ? reason('error ' + why) : why);
+  return text ? `${text}: ${words}` : words;
+}
+const ORIGINAL = /^# (Event|White|Black|Site|Date|Round) was: (.*)$/;
+/**
+ * The texts of tags in their own letters, as remarks above a position have them.
+ * @param {string[]} remarks
+ * @returns {Record<string, string>}
+ */
+export const originalsIn = remarks => Object.fromEntries(
+    remarks.map(line => ORIGINAL.exec(line)).filter(Boolean).map(m => [/** @type {any} */ (m)[1], /** @type {any} */ (m)[2].trim()]));

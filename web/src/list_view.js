@@ -1,0 +1,46 @@
+// @ts-check
+// The list of a script's entries with their verdicts: how many of each kind, by which it is filtered, and as a file.
+import { button, download, h } from './dom.js';
+import { doc, goStudy, parts } from './app.js';
+import { KIND_WORDS, countsOf, csvOf, entriesOf } from './entries.js';
+import { listed, reviewAll } from './list_facts.js';
+import { table } from './facts_view.js';
+import { toldBefore } from './script.js';
+/** @typedef {import('./entries.js').Entry} Entry */
+
+let filter = '';
+/** @param {string} kind */
+function filtered(kind) {
+  filter = filter === kind ? '' : kind;
+  parts.show();
+}
+/** Whether there is a list: of one study alone its stamp says it. */
+export const isListed = () => doc().studies.length + doc().refused.length > 1 || doc().lines.some(line => line.startsWith('# game '));
+/** @param {Entry} entry */
+function stampView(entry) {
+  const s = doc().studies[entry.at], before = s ? toldBefore(s) : [];
+  return [h('b', { class: `stamped ${entry.kind.replace(' ', '-')}` }, entry.stamp), before.map(text => h('div', { class: 'note' }, text))];
+}
+/** The entries in a table, below the numbers of each kind. */
+export function listView() {
+  const entries = entriesOf(doc(), listed(doc())), counts = countsOf(entries);
+  if (entries.length < 2) return null;
+  if (!counts.some(([kind]) => kind === filter)) filter = '';
+  const numbers = new Map(entries.map((entry, i) => [entry, i + 1])), shown = entries.filter(entry => !filter || entry.kind === filter);
+  const number = (/** @type {Entry} */ entry) => (entry.at < 0 ? `${numbers.get(entry)}` :
+    button(`${numbers.get(entry)}`, 'show it', () => goStudy(entry.at), { class: 'link', 'aria-current': entry.at === doc().at && 'true' }));
+  const count = (/** @type {[string, number]} */ [kind, n]) => button(`${n} ${KIND_WORDS[kind] || kind}`, 'show these alone', () => filtered(kind),
+    { class: `chip act${filter === kind ? ' on' : ''}`, 'data-kind': kind, 'aria-pressed': `${filter === kind}` });
+  return [
+    h('h2', { id: 'studiesTitle' }, 'Entries and verdicts'),
+    h('p', { class: 'row', role: 'group', 'aria-label': 'Show one kind' }, counts.map(count), h('span', { class: 'gap' }),
+        button('Save list', 'as comma-separated values, with the numbers of duals and missing defences', saveList, { id: 'saveList' })),
+    table(['No.', 'Title', 'Author', 'Stipulation', 'Verdict'], shown,
+        entry => [number(entry), entry.title, entry.author, entry.aim || '–', stampView(entry)])
+  ];
+}
+/** The facts of all studies are found first. */
+async function saveList() {
+  await reviewAll(doc(), true);
+  download(`${doc().name || 'studies'}.csv`, csvOf(entriesOf(doc(), listed(doc()))));
+}

@@ -1,0 +1,65 @@
+// @ts-check
+// A set-up becomes lines: a new study, another position for this one with an empty tree, or with as much of its tree as is legal.
+import { $ } from './dom.js';
+import { app, change, counting, doc, evaluate, opened, parts, say } from './app.js';
+import { addStudy, replacePosition, withMoves } from './edits.js';
+import { fensOf } from './script.js';
+import { closeSetup, draftFen } from './setup.js';
+import { bareOf, legalPart, turnedTree } from './turning.js';
+import { counted } from './words.js';
+/** @typedef {import('./types.js').Study} Study @typedef {import('./types.js').Doc} Doc @typedef {import('./setup.js').Draft} Draft */
+
+/**
+ * The moves of the study that is shown, as far as they are legal from the set-up.
+ * @param {Draft} d
+ * @param {string} fen
+ */
+async function movesFrom(d, fen) {
+  const tree = turnedTree(bareOf(/** @type {import('./types.js').View} */ (app.view).root), d.turns), head = ['position ' + fen, 'stipulate ' + d.aim];
+  await parts.shelf.ready(fensOf(head));
+  return legalPart(tree, async lines => {
+    const { refused } = await evaluate([...head, ...lines]), first = refused.find(r => r.line >= head.length);
+    return first ? first.line - head.length : -1;
+  });
+}
+/** @param {{san: string, below: number}[]} fallen */
+const fallenText = fallen => `Not legal any more, and left out: ${
+    fallen.slice(0, 8).map(({ san, below }) => san + (below ? ` with ${below} below it` : '')).join(', ')}${
+    fallen.length > 8 ? `, and ${fallen.length - 8} more` : ''}. Undo brings them back.`;
+/**
+ * @param {Draft} d
+ * @param {Doc} now
+ * @param {string} fen
+ */
+function anew(d, now, fen) {
+  const s = now.studies[now.at];
+  if (!d.anew && s) return replacePosition(now.lines, s, fen, d.aim);
+  return {
+    lines: addStudy(d.more ? now.lines : [], fen, d.aim, d.more ? now.studies[now.studies.length - 1] : undefined),
+    at: d.more ? now.studies.length : 0,
+    path: 'root',
+    ...(d.more ? {} : { name: '', note: '', id: d.id })
+  };
+}
+/** @param {'anew' | 'keep'} how */
+export const takeOver = how => counting(taken(how));
+/** @param {'anew' | 'keep'} how */
+async function taken(how) {
+  const d = /** @type {Draft} */ (app.setup), fen = draftFen(), before = doc();
+  const kept = how === 'keep' && app.view ? await movesFrom(d, fen).catch(fault => {
+    say('fen', `${fault.message}.`);
+    parts.show();
+    return null;
+  }) : { lines: [], fallen: [] };
+  if (!kept || app.setup !== d) return;
+  const done = await change(now => {
+    const s = now.studies[now.at];
+    return how === 'keep' && s ? withMoves(now.lines, s, fen, d.aim, kept.lines) : anew(d, now, fen);
+  }, 'fen');
+  if (!done) return;
+  closeSetup();
+  $('board').firstChild.focus({ preventScroll: true });
+  if (kept.fallen.length) say('board', `${counted(kept.lines.length, 'move')} kept. ${fallenText(kept.fallen)}`, true);
+  parts.show();
+  if (d.anew && !d.more) opened(before);
+}

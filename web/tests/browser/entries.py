@@ -1,0 +1,201 @@
+"""Entries and their list, and composing: in headless Chromium, by mouse and keys.
+
+    entries.py TABLES [NAME ..]
+
+TABLES has those of two and three men at least; what needs more is left out where they are not there.
+"""
+import csv
+import io
+import os
+import re
+import sys
+import tempfile
+
+from user import TOP, By, run
+
+TABLES = os.path.abspath(sys.argv[1])
+FEN = "8/8/8/6k1/8/8/1P5K/8 w - - 0 1"
+SMALL = "KK KQK KRK KBK KNK KPK".split()
+GAME = """[Event "{event}"]
+[White "{author}"]
+[Annotator "an editor"]
+[Result "{result}"]
+[FEN "{fen}"]
+
+{moves} {result}
+
+"""
+
+
+def game(event, author, moves, result="1-0", fen=FEN):
+    return GAME.format(event=event, author=author, moves=moves, result=result, fen=fen)
+
+
+def script(user):
+    return user.promise("studyboard.script()")
+
+
+def rows(user):
+    """The list of entries: number, title, author, stipulation, verdict."""
+    return user.js("""return [...document.querySelectorAll('#list tbody tr')].map(row =>
+        [...row.cells].map(cell => cell.innerText.trim()))""")
+
+
+def opened(user, name, text, waited="document.getElementById('stamp')"):
+    user.open_file(name, text)
+    user.until(waited, 60)
+    user.settle()
+
+
+def test_ten_entries_are_ten_rows(user):
+    """A script as studyimport makes it, with games that were left out, and slips of its own."""
+    user.open_tables(TABLES, SMALL)
+    one = f"position {FEN}\nstipulate white win\n"
+    blocks = ["# game 1, line 1: stipulated by its comment\n# White was: Réti, Richard\n" + one + "tag White Reti, Richard\ninsert root Kg3\ninsert 0 Kf5\npgn\n",
+              "# game 2, line 9: left out: 6 men\n", one + "tag White A\ninsert root Kh9\npgn\n", "position 8/8\ntag White Kasparyan, G.\npgn\n",
+              one + "tag White C\npgn\n", one + "tag White D\ninsert root b4\ninsert 0 Kf6\npgn\n", "# game 7, line 40, column 3: NoSuchMove at Kb6\n",
+              f"position {FEN}\nstipulate black win\ntag White E\ninsert root Kg3\npgn\n", one + "tag White F\ninsert root Kg3\npgn\n",
+              one + "tag White G\ninsert root Kg3\npgn\n"]
+    opened(user, "entries.script", "\n".join(blocks))
+    list_ = rows(user)
+    assert [row[4].split(" ")[0] for row in list_] == "sound left not left holds unsound left wrong sound sound".split(), list_
+    assert list_[0][2] == "Réti, Richard" and list_[3][2] == "Kasparyan, G." and "6 men" in list_[1][4] and list_[2][4] == "not read: Kh9", list_
+    counts = user.js("return [...document.querySelectorAll('#list [data-kind]')].map(b => b.innerText)")
+    assert counts == ["3 sound", "1 unsound", "1 wrong", "1 holds", "1 not read", "3 left out"], counts
+    user.d.find_element(By.CSS_SELECTOR, '#list [data-kind="wrong"]').click()
+    assert [row[0] for row in rows(user)] == ["8"]
+    user.d.find_element(By.CSS_SELECTOR, '#list [data-kind="wrong"]').click()
+    name, text = user.download("saveList")
+    table = list(csv.reader(io.StringIO(text)))
+    assert name == "entries.csv" and len(table) == 11 and table[1][2] == "Réti, Richard" and table[1][5] == "sound", table
+    assert int(table[1][8]) > 0 and table[2][5].startswith("left out")
+    assert '[White "Réti, Richard"]' in user.download("savePgn")[1]
+    user.picture("entries")
+
+
+def test_letters_of_another_code(user):
+    user.open_tables(TABLES, SMALL)
+    path = os.path.join(tempfile.mkdtemp(), "latin1.pgn")
+    with open(path, "wb") as file:
+        file.write(game("Léger", "Réti", "1. Kg3").encode("latin-1"))
+    user.by("file").send_keys(path)
+    user.until("document.getElementById('stamp')", 60)
+    user.settle()
+    assert "Léger" in user.text("head") and "Réti" in user.text("head") and "tag White Reti" in script(user)
+    assert '[White "Réti"]' in user.download("savePgn")[1]
+    user.d.refresh()
+    user.idle()
+    assert "Réti" in user.text("head")
+    user.fill("tagWhite", "Prokeš")
+    assert "# White was: Prokeš" in script(user) and "tag White Prokes\n" in script(user)
+    user.fill("tagWhite", "Prokes")
+    assert "was: P" not in script(user)
+
+
+def test_neither_script_nor_pgn(user):
+    user.open_tables(TABLES, SMALL)
+    user.set_up(FEN, "white win")
+    before = script(user)
+    for name, text in (("a.json", '{"position": 1}'), ("b.txt", "prose\nand more\n"), ("c.pgn", '[Event "x"]\n\n1. e4 *\n')):
+        user.open_file(name, text)
+        user.until("document.body.textContent.includes('Nothing was changed')", 20)
+        user.settle()
+        assert script(user) == before
+
+
+def test_studies_are_copied_and_moved(user):
+    user.open_tables(TABLES, SMALL)
+    text = (f"position {FEN}\nstipulate white win\ntag Event One\ninsert root Kg3\n\nposition 8/3k4/8/3KP3/8/8/8/8 w - - 0 1\n"
+            "stipulate white draw\ntag Event Two\n")
+    user.promise("studyboard.open(a[0])", text)
+    user.settle()
+    user.click("copyStudy")
+    user.settle()
+    assert [row[1] for row in rows(user)] == ["One", "One", "Two"]
+    user.click("studyDown")
+    user.settle()
+    assert [row[1] for row in rows(user)] == ["One", "Two", "One"]
+    assert [row[3] for row in rows(user)] == ["White to win", "White to draw", "White to win"]
+    user.click("undo")
+    user.click("undo")
+    user.settle()
+    assert [row[1] for row in rows(user)] == ["One", "Two"]
+
+
+def test_the_diagram_is_turned_with_its_moves(user):
+    user.open_tables(TABLES, SMALL)
+    user.set_up(FEN, "white win")
+    for san in ("Kg3", "Kf5", "Kf3"):
+        user.play(san)
+    user.click("setUp")
+    user.d.find_element(By.CSS_SELECTOR, '[data-turn="mirror"]').click()
+    user.d.find_element(By.CSS_SELECTOR, '[data-turn="colours"]').click()
+    user.until("!document.getElementById('start').disabled", 30)
+    user.click("start")
+    user.settle()
+    assert script(user).startswith("position k7/6p1/8/8/1K6/8/8/8 b - - 0 1\nstipulate black win\n"), script(user)
+    assert re.findall(r"insert \S+ (\S+)", script(user)) == ["Kb6", "Kc4", "Kc6"] and user.text("stamp") == "sound"
+    user.click("setUp")
+    user.d.find_element(By.CSS_SELECTOR, '[data-turn="right"]').click()
+    user.until("!document.getElementById('start').disabled", 30)
+    user.click("start")
+    user.settle()
+    assert script(user).startswith("position 1k6/7p/") and len(re.findall("insert", script(user))) == 3
+
+
+def test_what_is_legal_of_a_tree_is_kept(user):
+    user.open_tables(TABLES, SMALL)
+    user.set_up(FEN, "white win")
+    for san in ("Kg3", "Kf5", "Kf3"):
+        user.play(san)
+    user.click("first")
+    user.settle()
+    user.play("b4")
+    user.click("setUp")
+    user.drag("h2", "a1")
+    user.until("!document.getElementById('start').disabled", 30)
+    user.click("start")
+    user.settle()
+    said = user.text("sayBoard")
+    assert re.findall(r"insert \S+ (\S+)", script(user)) == ["b4"] and "Kg3 with 2 below it" in said, said
+
+
+def test_a_study_begins_earlier(user):
+    user.open_tables(TABLES, SMALL)
+    user.set_up(FEN, "white win")
+    user.play("Kg3")
+    user.click("first")
+    user.settle()
+    user.click("beginEarlier")
+    user.until("document.querySelector('#earlier [data-before]')", 60)
+    first = user.js("return document.querySelector('#earlier [data-before]').dataset.before")
+    user.d.find_element(By.CSS_SELECTOR, "#earlier [data-before]").click()
+    user.until(f"document.getElementById('earlierState').innerText.includes('before {first}')", 60)
+    user.picture("earlier", whole=False)
+    user.until("document.querySelector('#earlier [data-before]')", 60)
+    second = user.js("return document.querySelector('#earlier [data-before]').dataset.before")
+    user.d.find_element(By.CSS_SELECTOR, "#earlier [data-before]").click()
+    user.settle()
+    sans = re.findall(r"insert (\S+) (\S+)", script(user))
+    assert [path for path, _ in sans] == ["root", "0", "0.0"] and [san for _, san in sans] == [second, first, "Kg3"], sans
+
+
+def test_a_diagram_is_saved(user):
+    user.open_tables(TABLES, SMALL)
+    user.set_up(FEN, "white win")
+    name, text = user.download("saveSvg")
+    assert name.endswith(".svg") and text.startswith("<svg") and text.count("<use") == 3 and "<symbol" in text
+
+
+def test_zugzwangs_of_a_study(user):
+    if not os.path.exists(os.path.join(TABLES, "KBPK.dtm")):
+        return
+    user.open_tables(TABLES, SMALL + "KQBK KRBK KBBK KBNK KBPK".split())
+    with open(os.path.join(TOP, "examples", "kbpk_three_zugzwangs.script"), encoding="utf-8") as file:
+        user.promise("studyboard.open(a[0])", re.sub(r"^build .*\n", "", file.read(), flags=re.M))
+    user.settle()
+    user.until("document.getElementById('zugzwangs')", 60)
+    assert user.js("return document.querySelectorAll('.tree .zugzwang').length") >= 3
+
+
+run(globals(), sys.argv[2:])

@@ -1,0 +1,35 @@
+// What the program makes of a PGN, as the page reads it; the lines are those of an independent reference.
+import test from 'node:test';
+import assert from 'node:assert/strict';
+import { decoded, leftOutBy, looksLikePgn, originalsIn, whyLeftOut } from '../src/imported.js';
+import { readScript, savedGames, supposed } from '../src/script.js';
+
+const LINES = [
+  '# game 1, line 1: stipulated by its comment', '# not taken over: comments 9, NAGs 4, tags 1, repeated 1, moves behind 2',
+  '# White was: Троицкий', 'position 7K/8/8/8/8/8/8/k7 w - - 0 1', 'stipulate white draw', 'tag White Troickij', 'pgn', '',
+  '# game 2, line 14: left out: 7 men', '', '# game 3, line 31, column 17: NoSuchMove at Kb6', '', '# game 4, line 40: NoStipulation', '',
+  '# game 5, line 52: stipulated by its tag Result', '# not taken over: comments 1', 'position 7K/8/8/8/8/8/8/k7 w - - 0 1',
+  'stipulate white draw', 'tag White ?', 'pgn', '', '# games 5, studies 2'
+];
+test('a PGN is told from a script', () => {
+  for (const text of ['[Event "x"]', '\ufeff\n [White "x"]', '% a remark\n[FEN "x"]', 'by an editor\n\n[FEN "x"]']) assert.ok(looksLikePgn(text), text);
+  for (const text of ['', 'position x', '# [FEN "x"]', '{"FEN": 1}', '[1, 2]']) assert.ok(!looksLikePgn(text), text);
+});
+test('a file is UTF-8, else Latin 1', () => {
+  assert.equal(decoded(new TextEncoder().encode('Réti')), 'Réti');
+  assert.equal(decoded(Uint8Array.from([82, 0xe9, 116, 105])), 'Réti');
+});
+test('games that were left out, and why', () => {
+  assert.deepEqual(LINES.map(leftOutBy).filter(Boolean).map(whyLeftOut), ['7 men', 'Kb6: not legal here', 'it does not say what is to be done']);
+  assert.deepEqual(leftOutBy(LINES[10]), { game: 3, line: 31, column: 17, why: 'NoSuchMove', text: 'Kb6' });
+});
+test('remarks above a position are the study\'s, and names stay in their letters', () => {
+  const lines = LINES.slice(0, -2), { studies } = supposed(lines);
+  assert.deepEqual(studies.map(s => [s.head, s.from, s.end]), [[0, 3, 14], [14, 16, lines.length]]);
+  assert.deepEqual(studies.map(s => s.originals), [{ White: 'Троицкий' }, {}]);
+  assert.deepEqual(originalsIn(['# Site was:  a b ']), { Site: 'a b' });
+  const game = '[Event "?"]\n[White "Troickij"]\n\n1-0\n\n', sent = lines.map((text, line) => ({ text, line }));
+  const replies = lines.map(text => (text === 'pgn' ? game : text.startsWith('stipulate') ? 'stipulate White to draw' : text));
+  const script = readScript(lines, sent, replies);
+  assert.equal(savedGames(script), game.replace('Troickij', 'Троицкий') + game);
+});
