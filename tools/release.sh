@@ -2,17 +2,40 @@
 # Makes one archive of the programs, the board, the documents and the gallery, from a clean checkout that has passed the gate.
 #
 #   rt ci 2>&1 | tee gate.log; tools/web.sh; tools/release.sh gate.log TABLES
+#   tools/release.sh --board      puts the board of this commit, which tools/web.sh has built, into dist/, for whoever has no toolchain
+#   tools/release.sh --check      builds the board of dist/ anew, from the commit that dist/studyboard.txt names, and compares the bytes
 #
 # web/out/studyboard.html is taken where tools/web.sh has built it. TABLES, a folder of all tables (tools/all_tables.sh), gives the printed
 # pages of the gallery. The archive is out/studybench-VERSION-linux-x86_64.tar.gz, the same
 # bytes for the same programs. It is unpacked into an empty folder and tried there with an empty PATH: the programs need the C library and
 # nothing else.
 set -e
-top=$(cd "$(dirname "$0")/.." && pwd); log=$(realpath "${1:?the log of rt ci}")
+top=$(cd "$(dirname "$0")/.." && pwd)
+if [ "$1" = --board ]; then
+    cd "$top"
+    [ -z "$(git status --porcelain)" ] || { echo "the checkout is not clean"; exit 1; }
+    mkdir -p dist
+    cp web/out/studyboard.html dist/studyboard.html
+    version=$(sed -n 's/^pub const VERSION: &str = "\([^ ]*\) .*/\1/p' crates/study_program/src/options.rt)
+    printf 'version %s\ncommit %s\nsha256 %s\n' "$version" "$(git rev-parse HEAD)" "$(sha256sum < dist/studyboard.html | cut -d' ' -f1)" | tee dist/studyboard.txt
+    exit 0
+fi
+if [ "$1" = --check ]; then
+    cd "$top"
+    commit=$(sed -n 's/^commit //p' dist/studyboard.txt); sum=$(sed -n 's/^sha256 //p' dist/studyboard.txt)
+    [ "$(sha256sum < dist/studyboard.html | cut -d' ' -f1)" = "$sum" ] || { echo "dist/studyboard.html is not the file that dist/studyboard.txt names"; exit 1; }
+    work=$(mktemp -d); trap 'rm -rf "$work"' EXIT
+    git clone -q "$top" "$work/clone" && cd "$work/clone" && git checkout -q "$commit" && tools/web.sh "$work/module"
+    cmp web/out/studyboard.html "$top/dist/studyboard.html" && echo "dist/studyboard.html is the board of $commit"
+    exit
+fi
+log=$(realpath "${1:?the log of rt ci}")
 tables=$(realpath "${2:?the folder of all tables}"); cd "$top"
 [ -z "$(git status --porcelain)" ] || { echo "the checkout is not clean"; exit 1; }
 tail -1 "$log" | grep -q '[0-9] passed, 0 failed' || { echo "the gate's last line is not '.. passed, 0 failed'"; exit 1; }
-for program in studybench studyreport studyimport studymine; do (cd "crates/$program" && rt run -- --version > /dev/null 2>&1); done
+for program in studybench studyreport studyimport studymine; do
+    [ -x "crates/$program/out/$program" ] || (cd "crates/$program" && rt run -- --version > /dev/null 2>&1)
+done
 version=$(crates/studybench/out/studybench --version | cut -d' ' -f2)
 name=studybench-$version-linux-x86_64
 work=$(mktemp -d); trap 'rm -rf "$work"' EXIT
