@@ -9,6 +9,7 @@ ghost use Rattle.study_html.specs.Escape.{said};
 ghost use Rattle.study_html.specs.Elements.{inside};
 ghost use Rattle.study_page.specs.Rows.{loses_time, forced_words, time_words, move_word, by_words, later_words, difference, also_words, also_item};
 ghost use Rattle.study_page.specs.Rows.{card_title, card_words, card, front_cells, told_move, refuted_item, refuted_items, of_all, refuted_count, try_row};
+ghost use Rattle.study_page.specs.Rows.{points_words, to_move_words, zugzwang_row};
 
 use crate::diagram::draw_mini;
 use crate::signs::is_stalemate;
@@ -19,7 +20,7 @@ use study_html::{Element, Html, put_words};
 use study_moves::{Move, legal_moves};
 use study_notation::Start;
 use study_pgn::{add_san, add_value};
-use study_review::{Alternative, Continuation};
+use study_review::{Alternative, Continuation, Zugzwang};
 use study_text::Text;
 use study_values::Value;
 
@@ -392,5 +393,70 @@ pub fn put_try<'a, A: Allocator>(
     put_refutations(alloc, &mut cell, p, list)?;
     put_refuted_count(alloc, &mut cell, p, list.len() as u32)?;
     row.put(Element::Cell, &cell)?;
+    html.put(Element::Row, &row)
+}
+
+fn points_words(zugzwang: Zugzwang) -> &'static [u8]
+    ensures { result.now ≡ points_words zugzwang }
+{
+    match zugzwang {
+        Zugzwang::Full => b"full point",
+        Zugzwang::Half(_) => b"half a point",
+    }
+}
+
+/// What comes of it with this side to move.
+fn to_move_words(zugzwang: Zugzwang, side: Side) -> &'static [u8]
+    ensures { result.now ≡ to_move_words zugzwang side }
+{
+    match (zugzwang, side) {
+        (Zugzwang::Half(Side::White), Side::White) => b"draw",
+        (Zugzwang::Half(Side::Black), Side::Black) => b"draw",
+        (_, Side::White) => b"Black wins",
+        (_, Side::Black) => b"White wins",
+    }
+}
+
+/// The node, and of how much of a point it is.
+fn put_node<'a, A: Allocator>(
+    alloc: &'a A,
+    html: &mut Html<'_, A>,
+    node: &[u8],
+    zugzwang: Zugzwang,
+) -> Result<(), AllocError>
+    ensures { OnOk result (html.new ≡ html.old ++ inside Element.Cell (said node.now ++ (said (codes " ")
+        ++ inside Element.Label (said (points_words zugzwang))))) }
+{
+    let mut cell = Html::new(alloc);
+    cell.say(node)?;
+    cell.say(b" ")?;
+    put_words(alloc, &mut cell, Element::Label, points_words(zugzwang))?;
+    html.put(Element::Cell, &cell)
+}
+
+/// The row of a mutual zugzwang.
+#[tactic(auto, unfolding(crate::specs::Rows::zugzwang_row))]
+pub fn put_zugzwang<'a, A: Allocator>(
+    alloc: &'a A,
+    html: &mut Html<'_, A>,
+    node: &[u8],
+    zugzwang: Zugzwang,
+) -> Result<(), AllocError>
+    ensures { OnOk result (html.new ≡ html.old ++ zugzwang_row node.now zugzwang) }
+{
+    let mut row = Html::new(alloc);
+    put_node(alloc, &mut row, node, zugzwang)?;
+    put_words(
+        alloc,
+        &mut row,
+        Element::Cell,
+        to_move_words(zugzwang, Side::White),
+    )?;
+    put_words(
+        alloc,
+        &mut row,
+        Element::Cell,
+        to_move_words(zugzwang, Side::Black),
+    )?;
     html.put(Element::Row, &row)
 }
