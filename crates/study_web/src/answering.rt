@@ -2,10 +2,12 @@
 ghost use Rattle.std.specs.Prelude.{◌≡◌, ◌≤◌, true, is_some, IfSome, IfOk, IfErr};
 ghost use Rattle.study_command.specs.Paths.{steps_of, is_path_word};
 ghost use Rattle.study_web.specs.Answers.{IsAnswer, IsMade, IsMadeFile, IsMakeDenial, IsNoMemory, IsPassedList, IsPrinted, IsReviewed, IsRun, of_make};
-ghost use Rattle.study_web.specs.Answers.{IsSurveyed, IsTableList, IsViewed, MayEnd};
+ghost use Rattle.study_web.specs.Answers.{IsFoundTo, IsImported, IsSurveyed, IsTableList, IsViewed, MayEnd};
 ghost use Rattle.study_web.specs.Request.{request_of};
 
 use crate::denial::Denial;
+use crate::find::{found_of, spans_for};
+use crate::imported::imported_of;
 use crate::make::{MakeFault, make_file};
 use crate::printed::printed_of;
 use crate::replies::replies_over;
@@ -18,6 +20,8 @@ use crate::spans::Span;
 use crate::store::SpanStore;
 use crate::surveyed::survey_of;
 use std::alloc::Allocator;
+use study_listing::{Piece, classes_for};
+use study_marks::Stipulation;
 use study_material::Class;
 use study_notation::Start;
 use study_reply::Refusal;
@@ -25,7 +29,8 @@ use study_reply::Refusal;
 /// Answers a request for a script, over the files that are handed in.
 ///
 /// Requests are lines of words: `run`, `make CLASS`, `view PATH`, `review`, `report`, `survey SQUARE SIDE GOAL FEN`, `tables`,
-/// `passed FEN`. For `view`, `review`, `report` and `survey` each file that is handed in is opened by pages, and must be a table. What `run` saves is put into
+/// `passed FEN`, `find CLASS THEME [FILTER ..] FROM TO`, `import`, `import SIDE GOAL`. For `import` the script is PGN, as Latin-1 or UTF-8. For
+/// `find` the files of the class and of what it needs are looked at, and no others; for `view`, `review`, `report` and `survey` each file that is handed in is opened by pages, and must be a table. What `run` saves is put into
 /// the cells, one for each class.
 pub fn answer<'f, 'a, A: Allocator>(
     alloc: &'a A,
@@ -49,6 +54,9 @@ pub fn answer<'f, 'a, A: Allocator>(
         Ok(Request::Survey(asked)) => of_survey(alloc, &asked, spans, bytes, pages),
         Ok(Request::Tables) => of_tables(alloc, script),
         Ok(Request::Passed(start)) => of_passed(alloc, &start),
+        Ok(Request::Find(piece)) => of_find(alloc, &piece, spans, bytes, pages),
+        Ok(Request::Unread(fault)) => denied(alloc, Denial::Unread(fault)),
+        Ok(Request::Import(given)) => of_import(alloc, script, given),
     }
 }
 
@@ -181,4 +189,31 @@ fn of_passed<'a, A: Allocator>(alloc: &'a A, start: &Start) -> Reply<'a, A>
     ensures { IsPassedList start.now result.text.items result.ended }
 {
     told(alloc, passed_of(alloc, start))
+}
+
+/// Of the files those that are needed are looked at.
+fn of_find<'a, A: Allocator>(
+    alloc: &'a A,
+    piece: &Piece,
+    spans: &[Span],
+    bytes: &[u8],
+    pages: Option<u16>,
+) -> Reply<'a, A>
+    requires { IfSome pages (λ n. (1 ≤ n) × (n ≤ 4096)) }
+    ensures { IsFoundTo spans.now bytes.now piece.now result.text.items result.ended }
+{
+    let classes = classes_for(&piece.request);
+    match spans_for(alloc, classes.as_slice(), spans) {
+        Err(_) => denied(alloc, Denial::Refused(Refusal::OutOfMemory)),
+        Ok(those) => {
+            let mut store = SpanStore::new(alloc, those.as_slice(), bytes, &[]);
+            told(alloc, found_of(alloc, piece, &mut store, pages))
+        }
+    }
+}
+
+fn of_import<'a, A: Allocator>(alloc: &'a A, pgn: &[u8], given: Option<Stipulation>) -> Reply<'a, A>
+    ensures { IsImported pgn.now given result.text.items result.ended }
+{
+    told(alloc, imported_of(alloc, pgn, given))
 }

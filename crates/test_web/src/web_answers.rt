@@ -312,6 +312,16 @@ fn refused_by_name(rt: HostRuntime) -> Result<(), Fail> {
             "NoTable KRK\n",
         ),
         ("run\n", "BadByte\n"),
+        ("find KQ zugzwang 0 9", "NotAClass\n"),
+        ("find KRK mate 0 x", "NoSuchTheme\n"),
+        ("find KRK draw 1 red 0 x", "NoSuchFilter\n"),
+        ("find KRK zugzwang no-check 0 x", "NoKeyMove\n"),
+        ("find KRK zugzwang 0 x", "BadArguments\n"),
+        ("find KRK 9", "BadArguments\n"),
+        ("find KRK zugzwang 0 9", "NoTable KRK\n"),
+        ("find KRK draw 1 0 9", "NoTable KK\n"),
+        ("import white", "UnknownStipulation\n"),
+        ("import white win 5", "BadArguments\n"),
     ];
     for (request, name) in cases {
         let text = refusal(&alloc, request, "", &[], &[])?;
@@ -368,4 +378,78 @@ fn memory_for_an_answer(rt: HostRuntime) -> Result<(), Fail> {
         refused = refused.saturating_add(1);
     }
     Err(Fail::from("no heap was large enough"))
+}
+
+/// By an independent program: the one draw of king and rook with two only moves in a row and a king on c3, and its first image with
+/// a king on f6.
+const FOUND: &str = "6kR/8/5K2/8/8/8/8/8 b - - 0 1 draw Kxh8\nto 81920 of 81920\n";
+
+/// Positions are found over the files that they need; another file is not looked at.
+#[test]
+fn found_over_tables(rt: HostRuntime) -> Result<(), Fail> {
+    let alloc = rt.alloc();
+    let (bytes, two) = two_files(&alloc)?;
+    let cut = Span {
+        class: Class::KQK as usize,
+        start: 0,
+        length: 63,
+    };
+    let spans = [cut, two[0], two[1]];
+    let request = "find KRK draw 2 Kf6 0 999999999";
+    let found = ask(&alloc, request, "", &spans, bytes.as_slice());
+    assert!(rt; found.ended == Ending::Answered);
+    assert!(rt; found.text.as_slice() == FOUND.as_bytes());
+    let none = ask(
+        &alloc,
+        "find KK zugzwang 3 40",
+        "",
+        &spans,
+        bytes.as_slice(),
+    );
+    assert!(rt; none.text.as_slice() == b"to 40 of 1280\n".as_slice());
+    let longest = ask(
+        &alloc,
+        "find KK longest black 0 2000",
+        "",
+        &spans,
+        bytes.as_slice(),
+    );
+    assert!(rt; longest.text.as_slice() == b"to 1280 of 1280\n".as_slice());
+    Ok(())
+}
+
+const GAME: &str = r#"[Event "e"]
+[FEN "8/8/8/4k3/8/4K3/4P3/8 w - - 0 1"]
+[Result "*"]
+
+1. Kd3 *
+"#;
+
+/// By an independent program.
+const BLOCK: &str = "position 8/8/8/4k3/8/4K3/4P3/8 w - - 0 1
+stipulate white draw
+tag Event e
+tag Site ?
+tag Date ????.??.??
+tag Round ?
+tag White ?
+tag Black ?
+insert root Kd3
+pgn
+
+# games 1, studies 1
+";
+
+/// Games come in as PGN; one that says no stipulation wants one.
+#[test]
+fn games_come_in(rt: HostRuntime) -> Result<(), Fail> {
+    let alloc = rt.alloc();
+    let without = ask(&alloc, "import", GAME, &[], &[]);
+    assert!(rt; without.ended == Ending::Answered);
+    let want = b"# game 1, line 1: NoStipulation\n\n# games 1, studies 0\n";
+    assert!(rt; without.text.as_slice() == want.as_slice());
+    let given = ask(&alloc, "import white draw", GAME, &[], &[]);
+    assert!(rt; given.ended == Ending::Answered);
+    assert!(rt; given.text.as_slice().ends_with(BLOCK.as_bytes()));
+    Ok(())
 }
