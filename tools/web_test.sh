@@ -32,6 +32,7 @@ if [ -n "$short" ]; then
     try "$python" kept.py "$tables"
 else
     try "$python" page.py "$tables"
+    try "$python" entries.py "$tables"
     try "$python" kept.py "$tables"
     try "$python" screen.py "$tables"
     try "$python" gallery.py "$tables"
