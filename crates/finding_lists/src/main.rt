@@ -62,7 +62,7 @@ fn build_tables<'a, A: Allocator>(
     Ok(())
 }
 
-/// The digest of the list that a line asks for: `KPK`, a tab and `win 5`.
+/// The digest of the list that a line names: `KPK`, a tab and `win 5`.
 fn list<'a, A: Allocator, W: Write>(
     alloc: &'a A,
     line: &str,

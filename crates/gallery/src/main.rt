@@ -1,5 +1,5 @@
 //! What the studies of the gallery come to, for the gate: the replies to their scripts and the lines of their reports, then the views and
-//! surveys that a page of a browser asks for, then printed pages. The gate compares them with those of an independent program.
+//! surveys that a page of a browser requests, then printed pages. The gate compares them with those of an independent program.
 #![tactic(auto)]
 
 mod pages;

@@ -101,7 +101,7 @@ fn passed_possible(men: &[Man], to_move: Side, passed: Option<Square>) -> bool
     }
 }
 
-/// Whether men who are at most four, with one king of each side, are no position. It tells less than `first_fault`, and
+/// Whether men who are at most four, with one king of each side, are no position. It says less than `first_fault`, and
 /// looks for fewer faults.
 #[inline]
 #[tactic(auto, unfolding(crate::specs::Position::first_fault))]

@@ -1,4 +1,4 @@
--- What a line of a script asks for.
+-- The command in a line of a script.
 use Rattle.std.specs.Prelude.{ℕ, ◌-◌, Bool, not, ◌&&◌, ◌==◌, nat_le, false, List, [], ◌∷◌, length}
 use Rattle.std.specs.Prelude.{Option, Some, None, Result, Ok, Err, if◌then◌else◌, codes}
 use Rattle.std.specs.List.{list_all}
@@ -224,7 +224,7 @@ line_asked line (first ∷ arguments) =
     else (if not (list_all is_printable line) then Err BadByte
     else asked_with (word_of first) (behind_word line))
 
--- nothing is asked by a line of spaces, or by one that begins, after spaces, with `#`
+-- there is no command in a line of spaces, or in one that begins, after spaces, with `#`
 unfoldable pub command_of : List ℕ → Asks
 command_of line = line_asked line (words line)
 

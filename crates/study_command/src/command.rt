@@ -36,7 +36,7 @@ pub enum TableCommand {
     Verify,
 }
 
-/// The first words of lines that ask for something.
+/// The first words of lines with a command.
 #[derive(Clone, Copy, Debug, PartialEq, Eq)]
 pub enum Keyword {
     FromFen(FenCommand),

@@ -1,6 +1,6 @@
-//! What a line of a script asks for.
+//! The command in a line of a script.
 //!
-//! `Line` reads the lines of a script one by one, `read_command` tells what a line asks for, or the first fault of its form,
+//! `Line` reads the lines of a script one by one, `read_command` reads the command of a line, or reports the first fault of its form,
 //! and `read_path` turns a path as it is written into places of children.
 #![tactic(auto)]
 

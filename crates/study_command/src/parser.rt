@@ -1,4 +1,4 @@
-//! What a line of a script asks for.
+//! The command in a line of a script.
 ghost use Rattle.std.specs.Prelude.{◌≡◌, true};
 ghost use Rattle.std.specs.Option.{option_map};
 ghost use Rattle.std.specs.List.{list_all};
@@ -19,7 +19,7 @@ use study_board::Side;
 use study_marks::{Goal, MateMoves, Stipulation, TagName, is_printable};
 use study_text::next_word;
 
-/// What the line asks for: nothing in a comment or between words, else a command, or the first fault of form.
+/// The command of the line: none in a comment or an empty line, else a command, or the first fault of form.
 #[tactic(auto, using(crate::proofs::Printable::printable_behind), unfolding(crate::specs::Parser::command_of))]
 pub fn read_command(line: &[u8]) -> Result<Option<Command<'_>>, SyntaxFault>
     ensures { line_seen result ≡ command_of line.now }

@@ -264,7 +264,7 @@ fn read_glyphs(text: &[u8]) -> Result<Cut<'_>, TokenFault>
     found(Token::Aside, behind)
 }
 
-/// The first token of a text, and what follows it; `fresh` tells that the text begins a line.
+/// The first token of a text, and what follows it; `fresh`: the text begins a line.
 pub fn read_token(text: &[u8], fresh: bool) -> Option<Result<Cut<'_>, TokenFault>>
     ensures { option_map lexed_seen result ≡ token_at fresh text.now }
 {

@@ -1,4 +1,4 @@
--- The exit status of the program, and what it tells where a run stops.
+-- The exit status of the program, and the message when a run stops.
 use Rattle.std.specs.Prelude.{ℕ, Bool, true, false, ◌==◌, ◌⊎◌, List, Option, Result, Ok, Err, if◌then◌else◌, codes}
 use Rattle.std.specs.Io.KnownBytes.{Appends, Keeps}
 use Rattle.clap.specs.declared.error.kind.ErrorKind.{ErrorKind}
@@ -8,12 +8,12 @@ use Rattle.study_import.specs.declared.importer.Imported.{Imported}
 use Rattle.study_import_program.specs.declared.streaming.ImportFault.{ImportFault}
 use Rattle.study_import_program.specs.declared.streaming.ImportFault.TheVariants.{ReadDevice, WriteDevice, OutOfMemory}
 
--- 0 where each game that was told is a study, 1 where some is not, 3 where the run stopped at a fault
+-- 0 if each game that was written is a study, 1 if some is not, 3 if the run stopped at a fault
 abbrev pub status_told : Result Imported ImportFault → ℕ
 status_told (Ok imported) = if imported.told == imported.studies then 0 else 1
 status_told (Err fault) = 3
 
--- help or the version was asked for: 0 where it was printed; elsewhere the words were refused
+-- help or the version was requested: 0 if it was printed; elsewhere the words were refused
 abbrev pub status_shown : Bool → ℕ
 status_shown true = 0
 status_shown false = 3
@@ -30,7 +30,7 @@ stop_text ReadDevice = codes "studyimport: ReadDevice\n"
 stop_text WriteDevice = codes "studyimport: WriteDevice\n"
 stop_text OutOfMemory = codes "studyimport: OutOfMemory\n"
 
--- a run that stopped is told, or a prefix of that where standard error fails; of another nothing is
+-- a run that stopped is reported, or a prefix of that if standard error fails; of another nothing is written
 abbrev pub IsTold : Result Imported ImportFault → Option (List ℕ) → Option (List ℕ) → Type 0
 IsTold (Ok imported) old new = Keeps old new
 IsTold (Err fault) old new = Appends old new (stop_text fault) ⊎ TakesPrefix old new (stop_text fault)

@@ -77,7 +77,7 @@ fn import_streams(rt: &HostRuntime, options: &Options) -> u8 {
     import_stream(&alloc, options, &mut games, &mut out, &mut errors)
 }
 
-/// Imports the games of a reader, tells on `errors` why the run stopped, if it did, and answers the exit status.
+/// Imports the games of a reader, reports on `errors` why the run stopped, if it did, and returns the exit status.
 pub fn import_stream<A: Allocator, R: Read, W: Write, E: Write>(
     alloc: &A,
     options: &Options,
@@ -96,7 +96,7 @@ pub fn import_stream<A: Allocator, R: Read, W: Write, E: Write>(
     ended(errors, &answer)
 }
 
-/// Tells why a run stopped, if it did. Nobody can be told that standard error failed.
+/// Reports why a run stopped, if it did. A failure of standard error cannot be reported.
 fn ended<E: Write>(errors: &mut E, answer: &Result<Imported, ImportFault>) -> u8
     ensures status { result ≡ status_told answer.now }
     ensures told { IsTold answer.now (E.contents errors.old) (E.contents errors.new) }

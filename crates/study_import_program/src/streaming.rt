@@ -19,7 +19,7 @@ pub enum ImportFault {
     OutOfMemory,
 }
 
-/// Writes the script of the games of a reader. `errors` is told how far it came, where `progress` asks for it.
+/// Writes the script of the games of a reader. If `progress` is set, `errors` takes how far it came.
 pub fn import_games<A: Allocator, R: Read, W: Write, E: Write>(
     alloc: &A,
     games: &mut R,
@@ -49,7 +49,7 @@ pub fn import_games<A: Allocator, R: Read, W: Write, E: Write>(
     Err(ImportFault::ReadDevice)
 }
 
-/// Tells after every hundred games how many were read. Nobody can be told that standard error failed.
+/// Reports after every hundred games how many were read. A failure of standard error cannot be reported.
 fn tell_progress<E: Write>(errors: &mut E, before: u32, met: u32) {
     if before < met && met % 100 == 0 {
         let _ = put_games(errors, met);

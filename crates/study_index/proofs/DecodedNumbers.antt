@@ -42,13 +42,13 @@ placed_least c n o p l =
 the_same : (m n : ℕ) (o : Option ℕ) → o ≡ Some m → o ≡ Some n → m ≡ n
 the_same m n o e f = (let s : Some m ≡ Some n = sym e ∙ f in cc)
 
--- the position of the men, the side and the passed square that a number tells
+-- the position of the men, the side and the passed square that a number encodes
 abbrev pub IsTold : Class → ℕ → Position → Type 0
 IsTold c n p =
     IsPlaced (told_men (slots_of c) (without_bit n)) (told_side (slots_of c) (without_bit n))
     (passed_behind (has_bit n) (told_side (slots_of c) (without_bit n)) (told_men (slots_of c) (without_bit n))) p
 
--- the number without its bit is the least of the men that it tells
+-- the number without its bit is the least of the men that it encodes
 abbrev pub IsLeastTold : Class → ℕ → Type 0
 IsLeastTold c n = HasLeast (slots_have_pawn (slots_of c)) (told_side (slots_of c) (without_bit n)) (without_bit n) (told_men (slots_of c) (without_bit n))
 

@@ -1,4 +1,4 @@
--- The least number of the men that a number tells.
+-- The least number of the men that a number encodes.
 use Rattle.std.proofs.Common.{◌≡◌, ℕ, ◌+◌, ◌*◌, ◌/◌, ◌%◌, ◌<◌, ◌==◌, Bool, true, false, cond, not, ◌&&◌, nat_lt, List, [], ◌∷◌, map}
 use Rattle.std.proofs.Common.{Option, Some, None, refl, sym, ◌∙◌, ap, arith}
 use Rattle.std.specs.Option.{option_map}
@@ -89,7 +89,7 @@ placed_across q l =
         ap (λ x. Some x) (eqb-true r q t.1)
     by_place (Some r) false e h = let t = both (is_on_diagonal q) (r == q) h in absurd (false≢true (sym e ∙ t.0))
 
--- ---- the numbers of the squares that a number tells
+-- ---- the numbers of the squares that a number encodes
 
 few_places : (pawns : Bool) (h : ℕ) → h % listed_count pawns < listed_count pawns
 few_places true h = omega arith

@@ -80,7 +80,7 @@ least_index c p men side r valid same filled in_slots to_move dead e =
     found.1 ∙ ap (λ (k : ℕ). Some k)
     (index_of-only p found.0 valid (record { number = found.0; least = found.2; is = ap (λ w. with_bit w found.0) (sym dead) }))
 
--- the least number of the men that a number tells, one of them on another square, is the index of their position
+-- the least number of the men that a number encodes, one of them on another square, is the index of their position
 pub moved_number : (c : Class) (n x a : ℕ) (p : Position) (r : Option ℕ) → IsMoved c n x a p
     → r ≡ least_of (slots_have_pawn (slots_of c)) (other_side (told_side (slots_of c) (without_bit n))) false
     (map (from_to x a) (told_men (slots_of c) (without_bit n))) → r ≡ Some (index_of p)

@@ -252,7 +252,7 @@ no_cell slots n a e q d = false≢true (sym e ∙ (IsOfMen-decoded slots n q a d
 some_fault : (o : Option PositionFault) (f : PositionFault) → o ≡ None → o ≡ Some f → ⊥
 some_fault o f e d = (let no : None ≡ Some f = sym e ∙ d in cc)
 
--- the men and the passed square that a number tells, and the same of a decoded position, have one fault
+-- the men and the passed square that a number encodes, and the same of a decoded position, have one fault
 pub told_fault : (slots : List Slot) (n : ℕ) (q : Position) → IsOfMen slots n q
     → first_fault (told_men slots (without_bit n)) (told_side slots (without_bit n))
     (passed_behind (has_bit n) (told_side slots (without_bit n)) (told_men slots (without_bit n)))

@@ -129,7 +129,7 @@ replaced_in_four : (places n x a : ℕ) → IsTurned places (n / 64 / 64 / 64) x
 unfolding stepped_by
 replaced_in_four places n x a h = let t = turned_four places n x h in (omega (arith, t), omega (arith, t), omega (arith, t))
 
--- the number of the men that a number tells, of whom one has moved
+-- the number of the men that a number encodes, of whom one has moved
 stepped_number : (pawns : Bool) (slots : List Slot) (n i a : ℕ) → AreSlots slots → nat_lt (head slots n / listed_count pawns) 2 ≡ true → 1 ≤ i → i < length slots
     → number pawns (other_side (side_numbered (head slots n / listed_count pawns))) (moved_to i a (men_of pawns slots n))
     ≡ Some (stepped_by (listed_count pawns) (length slots) n i a)

@@ -1,4 +1,4 @@
--- The men that a number tells are few, and each side has one king among them.
+-- The men that a number encodes are few, and each side has one king among them.
 use Rattle.std.proofs.Common.{◌≡◌, ℕ, ◌/◌, ◌%◌, ◌<◌, ◌&&◌, Bool, true, false, cond, List, [], ◌∷◌, refl, arith}
 use Rattle.std.specs.List.{count_by}
 use Rattle.study_board.specs.declared.men.Side.{Side}
@@ -88,7 +88,7 @@ kings k b x y men hk hb none =
       (black_king b.side b.kind hb).1,
     ) refl
 
--- the men that a number tells have one king of each side
+-- the men that a number encodes have one king of each side
 pub told_kings : (slots : List Slot) (n : ℕ) → AreSlots slots → (has_one_king (told_men slots n) White && has_one_king (told_men slots n) Black) ≡ true
 told_kings (k ∷ b ∷ []) n a = kings k b _ _ [] a.0 a.1 NoKings-none
 told_kings (k ∷ b ∷ x ∷ []) n a = kings k b _ _ (man x (n % 64) ∷ []) a.0 a.1 (NoKings-further x (n % 64) [] a.2 NoKings-none)

@@ -7,7 +7,7 @@ use Rattle.study_values.specs.Number.{has_bit, without_bit, cells_of}
 use Rattle.study_index.specs.Decoded.{slots_of, told_men, told_side, passed_behind}
 use Rattle.study_values.specs.Index.{index_of}
 
--- the position of the men, the side and the passed square that a number tells
+-- the position of the men, the side and the passed square that a number encodes
 abbrev pub position_told : Class → ℕ → Position
 position_told c n = record {
   men = in_order (told_men (slots_of c) (without_bit n));

@@ -43,7 +43,7 @@ abbrev pub passed_behind : Bool → Side → List Man → Option ℕ
 passed_behind true to_move men = square_behind_pawn (other_side to_move) men
 passed_behind false to_move men = None
 
--- the position whose men fill these slots so that n is their number, with the passed square that its bit tells
+-- the position whose men fill these slots so that n is their number, with the passed square that its bit gives
 pub record IsReadOff (slots : List Slot) (n : ℕ) (q : Position) : Type 0 where
   pub filling : List Man
   pub fills : IsFilling false q.men filling
@@ -61,7 +61,7 @@ pub record IsDecodedAt (slots : List Slot) (n : ℕ) (q : Position) : Type 0 whe
 abbrev pub IsDecoded : Class → ℕ → Position → Type 0
 IsDecoded c n q = IsDecodedAt (slots_of c) n q
 
--- ---- how a number is read: the men, their squares and the side that it tells, as `position_numbered` names them
+-- ---- how a number is read: the men, their squares and the side that it encodes, as `position_numbered` names them
 
 -- slots in order, two to four, the kings first
 abbrev pub number_of_slot : Slot → ℕ
@@ -91,7 +91,7 @@ head (k ∷ b ∷ x ∷ []) n = n / 64 / 64
 head (k ∷ b ∷ x ∷ y ∷ []) n = n / 64 / 64 / 64
 head slots n = n
 
--- the men on the squares that the number tells
+-- the men on the squares that the number encodes
 abbrev pub men_of : Bool → List Slot → ℕ → List Man
 men_of pawns (k ∷ b ∷ []) n = man k (listed_square pawns (n / 64 % listed_count pawns)) ∷ man b (n % 64) ∷ []
 men_of pawns (k ∷ b ∷ x ∷ []) n =
@@ -107,7 +107,7 @@ side_numbered n = if n == 0 then White else Black
 abbrev pub is_cell : List Slot → ℕ → Bool
 is_cell slots n = nat_lt (head slots n / listed_count (slots_have_pawn slots)) 2
 
--- the men and the side to move that a number tells
+-- the men and the side to move that a number encodes
 abbrev pub told_men : List Slot → ℕ → List Man
 told_men slots n = men_of (slots_have_pawn slots) slots n
 

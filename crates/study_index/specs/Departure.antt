@@ -27,7 +27,7 @@ IsLeastOfAdded c n x t =
     (a : ℕ) (p : Position) → a < 64 → IsMoved c n x a p
     → index_of p ≡ least_image (slots_have_pawn (slots_of c)) (are_like_slots (slots_of c)) (slots_of c) (sum_with t a)
 
--- n tells that the man of the slot stands on x
+-- n encodes that the man of the slot stands on x
 abbrev pub StandsOn : Class → ℕ → ℕ → ℕ → Type 0
 StandsOn c n i x = (d : Man) → (slice_index_or (told_men (slots_of c) (without_bit n)) i d).at ≡ x
 

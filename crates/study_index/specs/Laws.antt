@@ -69,7 +69,7 @@ pub record AgreeAlike (p q : Position) : Type 0 where
 abbrev pub AlikeAgree : Type 0
 AlikeAgree = (p q : Position) → AreAlike p q → AgreeAlike p q
 
--- the men of a position as its number tells them, one for each slot; the side to move; and the passed square
+-- the men of a position as its number encodes them, one for each slot; the side to move; and the passed square
 pub record IsTold (c : Class) (n : ℕ) (q : Position) : Type 0 where
   pub men : IsPermutation (told_men (slots_of c) (without_bit n)) q.men
   pub same : (m : Man) → Contains (told_men (slots_of c) (without_bit n)) m ↔ Contains q.men m

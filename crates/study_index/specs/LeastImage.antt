@@ -1,4 +1,4 @@
--- Not part of any public contract: the least number of the men that a number tells, by its squares in base 64.
+-- Not part of any public contract: the least number of the men that a number encodes, by its squares in base 64.
 use Rattle.std.specs.Prelude.{ℕ, ◌+◌, ◌-◌, ◌*◌, ◌/◌, ◌%◌, ◌^◌, Bool, false, not, ◌&&◌, ◌||◌, ◌==◌, nat_lt, List, [], ◌∷◌, map, if◌then◌else◌}
 use Rattle.study_board.specs.declared.men.Man.{Man}
 use Rattle.study_board.specs.declared.symmetry.Symmetry.{Symmetry}
@@ -35,7 +35,7 @@ lesser x y = if nat_lt y x then y else x
 abbrev pub is_on_diagonal : ℕ → Bool
 is_on_diagonal q = (q == 0) || (q == 4) || (q == 7) || (q == 9)
 
--- the least number of the men that n tells
+-- the least number of the men that n encodes
 unfoldable pub least_image : Bool → Bool → List Slot → ℕ → ℕ
 least_image pawns like slots n =
     if not pawns && is_on_diagonal (head slots n % 10) then lesser (ascending_if like n) (ascending_if like (turned_across slots n))

@@ -1,4 +1,4 @@
--- What a move that takes no man and promotes none makes of the men that a number tells: one of them stands on another square, and the
+-- What a move that takes no man and promotes none makes of the men that a number encodes: one of them stands on another square, and the
 -- other side is to move.
 use Rattle.std.specs.Prelude.{◌≡◌, ℕ, ◌==◌, false, map, if◌then◌else◌}
 use Rattle.std.specs.List.Sorted.{IsPermutation}

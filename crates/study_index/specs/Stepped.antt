@@ -24,7 +24,7 @@ square_weight count i = 64 ^ (count - 1 - i)
 abbrev pub side_weight : ℕ → ℕ
 side_weight count = 32 * 64 ^ (count - 1)
 
--- the square that a number tells of a slot after the first
+-- the square that a number encodes for a slot after the first
 abbrev pub square_told : ℕ → ℕ → ℕ → ℕ
 square_told count i n = n / square_weight count i % 64
 

@@ -119,7 +119,7 @@ fn position_if(men: &[Man], to_move: Side, passed: bool) -> Option<Position>
     }
 }
 
-/// Whether the number is the least of the men that it tells.
+/// Whether the number is the least of the men that it encodes.
 #[inline]
 fn is_least(slots: &[Slot], pawns: bool, like: bool, n: u32) -> bool
     requires slots { AreSlots slots.now }
@@ -132,7 +132,7 @@ fn is_least(slots: &[Slot], pawns: bool, like: bool, n: u32) -> bool
     least_image(pawns, like, slots, n) == n
 }
 
-/// The position of the men and the side that the number tells, if they are one and the number is their least, with a
+/// The position of the men and the side that the number encodes, if they are one and the number is their least, with a
 /// passed square or without.
 #[inline]
 fn decode_slots(slots: &[Slot], pawns: bool, like: bool, n: u32, passed: bool) -> Option<Position>

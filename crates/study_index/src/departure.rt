@@ -116,7 +116,7 @@ impl Departure {
     }
 
     /// The number of the position with the man on another square and the other side to move, where no capture in passing
-    /// is legal: what `number_moved` tells.
+    /// is legal: that of `number_moved`.
     #[inline(always)]
     pub fn number_to(&self, to: Square) -> u32
         ensures { (p : Seen) → IsMoved self.now.class self.now.number self.now.from to p → index_of p ≡ result }

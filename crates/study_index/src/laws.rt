@@ -29,7 +29,7 @@ pub fn numbers_step()
     ensures { NumbersStep }
 {}
 
-/// A number tells the men of its position, one for each slot of its class, the side to move and the passed square.
+/// A number encodes the men of its position, one for each slot of its class, the side to move and the passed square.
 pub fn numbers_tell()
     ensures { NumbersTell }
 {}

@@ -1,4 +1,4 @@
-//! The least number of the men that a number tells, by its squares in base 64.
+//! The least number of the men that a number encodes, by its squares in base 64.
 ghost use Rattle.std.specs.Prelude.{◌≡◌, ◌<◌, ◌≤◌, ◌+◌, ◌*◌};
 ghost use Rattle.study_index.specs.Decoded.{head};
 ghost use Rattle.study_index.specs.LeastImage.{across, turned_across, exchanged, ascending_if, is_on_diagonal, least_image};
@@ -64,7 +64,7 @@ pub fn is_on_diagonal(place: u32) -> bool
     place == 0 || place == 4 || place == 7 || place == 9
 }
 
-/// The least number of the men that the number tells.
+/// The canonical number of the men that a number encodes.
 #[inline(always)]
 #[tactic(auto, unfolding(crate::specs::LeastImage::least_image))]
 pub fn least_image(pawns: bool, like: bool, slots: &[Slot], n: u32) -> u32

@@ -51,7 +51,7 @@ fn straight_frame(has_pawns: bool, to_move: Side) -> Frame
     }
 }
 
-/// The least number of the men that a number tells, the man on `from` put on `to` and the other side to move.
+/// The least number of the men that a number encodes, the man on `from` put on `to` and the other side to move.
 fn least_moved(slots: &[Slot], pawns: bool, n: u32, from: Square, to: Square) -> Option<u32>
     requires slots { AreSlots slots.now }
     requires pawns { pawns ≡ slots_have_pawn slots.now }
@@ -123,7 +123,7 @@ fn with_head(slots: &[Slot], head: u32, n: u32) -> u32
     }
 }
 
-/// The number of the men that a number tells, the white king put on `to` and the other side to move, turned so that the
+/// The number of the men that a number encodes, the white king put on `to` and the other side to move, turned so that the
 /// king comes to a listed square.
 #[inline(always)]
 fn number_with_king_on(slots: &[Slot], pawns: bool, n: u32, to: Square) -> Option<u32>

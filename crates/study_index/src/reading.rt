@@ -1,4 +1,4 @@
-//! The men and the side to move that a number tells, whether or not it has a position.
+//! The men and the side to move that a number encodes, whether or not it has a position.
 ghost use Rattle.std.specs.Prelude.{◌≡◌, ◌/◌, ◌%◌, length};
 ghost use Rattle.arrayvec.specs.ArrayVec.{array_vec_len};
 ghost use Rattle.study_values.specs.Number.{listed_count, without_bit};
@@ -11,7 +11,7 @@ use study_board::{Man, Side};
 use study_material::Class;
 use study_values::EN_PASSANT_BIT;
 
-/// What a number tells: a man for each slot of its class, in their order, and the side to move.
+/// What a number encodes: a man for each slot of its class, in their order, and the side to move.
 #[derive(Drop)]
 pub struct Setup {
     pub men: ArrayVec<Man, 4>,
@@ -42,7 +42,7 @@ pub fn has_like_men(class: Class) -> bool
     }
 }
 
-/// The white king on the square that the number without the other squares tells.
+/// The white king on the square that the number without the other squares encodes.
 #[inline]
 #[tactic(auto, unfolding(crate::specs::Decoded::listed_square))]
 pub fn king_told(pawns: bool, slot: &Slot, head: u32) -> Man
@@ -67,7 +67,7 @@ pub fn side_told(pawns: bool, head: u32) -> Side
     }
 }
 
-/// The men and the side to move that the number tells, by shifts alone.
+/// The men and the side to move that the number encodes, by shifts alone.
 #[inline(always)]
 pub fn told(class: Class, number: u32) -> Setup
     ensures men { result.men.items ≡ told_men (slots_of class) (without_bit number) }

@@ -135,7 +135,7 @@ impl RowDeparture {
     }
 
     /// The row of the numbers after the man has moved to another square, each with the last man where it was: what
-    /// `Departure::number_to` tells of each. It is not known where two men are like; where the man is the white king and the
+    /// `Departure::number_to` gives for each. It is not known where two men are like; where the man is the white king and the
     /// square is not listed, or is on the diagonal where no man is a pawn; or where it is another man and the king is there.
     #[inline(always)]
     pub fn row_to(&self, to: Square) -> Option<u32>
@@ -157,7 +157,7 @@ impl RowDeparture {
     }
 
     /// The number of the row's position with the last man on its square, after the man has moved to another square: what
-    /// `Departure::number_to` tells.
+    /// `Departure::number_to` gives.
     #[inline(always)]
     pub fn number_to(&self, to: Square, last: Square) -> u32
         ensures { (p : Seen) → IsMoved self.now.class (64 * self.now.row + last) self.now.from to p → index_of p ≡ result }

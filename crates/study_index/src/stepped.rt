@@ -57,7 +57,7 @@ pub fn square_weight(count: u32, slot: u32) -> u32
     }
 }
 
-/// The square that a number tells of a slot after the first.
+/// The square that a number encodes for a slot after the first.
 #[inline]
 pub fn square_told(count: u32, slot: u32, number: u32) -> u32
     requires many { count ≤ 4 }

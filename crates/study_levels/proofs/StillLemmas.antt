@@ -1,4 +1,4 @@
--- Cells that tell of no mate to come stay as they are at every later level, and so are right.
+-- Cells that have no mate to come stay as they are at every later level, and so are right.
 use Rattle.std.proofs.Common.{◌≡◌, ℕ, zero, suc, ◌+◌, ◌-◌, ◌<◌, ◌≤◌, inl, inr, sym, subst, refl}
 use Rattle.std.proofs.Common.{arith, List, slice_index, Option, Some, None, Bool, true, false}
 use Rattle.study_values.specs.declared.value.Value.{Value}
@@ -43,7 +43,7 @@ module _ {P : Type 0} {leads : P → P → Type 0} {mate : P → Type 0} {known 
       let e : k + (254 - k) ≡ 254 = omega arith in
       subst (λ (n : ℕ). AreHeld leads mate home far n position size cells) e (still-all k (254 - k) (λ f. omega arith) near held)
 
-  -- after the last level no cell tells anything wrong about mates in fewer than 255 plies
+  -- after the last level no cell is wrong about mates in fewer than 255 plies
   pub held-below : ((j : ℕ) → j < size → slice_index cells j ≤ 255)
       → AreHeld leads mate home far 254 position size cells → AreRightBelow leads mate 255 position size cells
   held-below bytes held n b = by_position (position n) (held n b) (bytes n b)

@@ -87,7 +87,7 @@ module _ {P : Type 0} where
   abbrev pub OutsideGives : Numbered P → P → Value → Type 0
   OutsideGives g p v = GivesOutside (leads_in g) g.home g.outside p v
 
-  -- the cell of a number tells what the cells give it; or something else
+  -- the cell of a number has what the cells give it; or something else
   abbrev pub IsGivenAt : Numbered P → List ℕ → ℕ → Type 0
   IsGivenAt g cells n = IsGivenCell (leads_in g) g.mate (label_by g cells) (g.position n) (slice_index cells n)
 
@@ -109,7 +109,7 @@ module _ {P : Type 0} where
   abbrev pub CellsAreHeld : Numbered P → Bool → ℕ → List ℕ → Type 0
   CellsAreHeld g far k cells = AreHeld (leads_in g) g.mate g.home far k g.position g.size cells
 
-  -- each cell tells the game's value of its position
+  -- each cell has the game's value of its position
   abbrev pub CellsAreRight : Numbered P → List ℕ → Type 0
   CellsAreRight g cells = AreRight (leads_in g) g.mate g.position g.size cells
 
@@ -119,7 +119,7 @@ module _ {P : Type 0} where
 
   -- ---- what the functions of a level promise
 
-  -- a claim, where what is outside of the class is right and the cells tell which positions are won within k plies
+  -- a claim, where what is outside of the class is right and the cells say which positions are won within k plies
   abbrev pub WhereWinsAreTold : Numbered P → ℕ → List ℕ → Type 0 → Type 0
   WhereWinsAreTold g k cells Claim = OutsideIsRight g → TellWins g k cells → Claim
 
@@ -127,7 +127,7 @@ module _ {P : Type 0} where
   abbrev pub NoLossBy : Numbered P → List ℕ → ℕ → ℕ → Type 0
   NoLossBy g cells k n = (p : P) → g.position n ≡ Some p → LosesBy g cells k p → ⊥
 
-  -- a cell of n that tells of a mate in one ply more than k is true; and such a cell stays where it is true
+  -- a cell of n that has a mate in one ply more than k is true; and such a cell stays where it is true
   abbrev pub LossIsTrue : Numbered P → ℕ → ℕ → List ℕ → Type 0
   LossIsTrue g k n cells = (p : P) → g.position n ≡ Some p → slice_index cells n ≡ k + 2 → IsMatedWithin g (k + 1) p
 
@@ -154,7 +154,7 @@ module _ {P : Type 0} where
   abbrev pub RaisesLevel : Numbered P → ℕ → ℕ → List ℕ → List ℕ → Type 0
   RaisesLevel g k j old new = OutsideIsRight g → (far : Bool) → CellsAreHeld g far k old → CellsAreHeld g far j new
 
-  -- where no cell tells of a mate to come, all are right
+  -- where no cell has a mate to come, all are right
   abbrev pub EndsRight : Numbered P → Bool → List ℕ → List ℕ → Type 0
   EndsRight g silent old new = OutsideIsRight g → CellsAreHeld g false 0 old → IsTrue silent → CellsAreRight g new
 

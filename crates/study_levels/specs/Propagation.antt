@@ -24,9 +24,9 @@ TellsWins {P} leads mate k position cells =
     (n : ℕ) (p : P) → position n ≡ Some p → (IsWonCell k (slice_index cells n) → Mates leads mate p k)
     × (Mates leads mate p k → IsWonCell k (slice_index cells n))
 
--- What a cell c is worth where the mates within k plies are set, and no others. A cell of at most k + 1 is right. An even one above tells of a mate
--- that a move out of the class forces, though there may be a shorter one; an odd one above tells for how long moves out of the class put
--- off a mate. Where `far`, some move out of the class leads to a mate that no cell can tell.
+-- What a cell c is worth where the mates within k plies are set, and no others. A cell of at most k + 1 is right. An even one above has a mate
+-- that a move out of the class forces, though there may be a shorter one; an odd one above says for how long moves out of the class put
+-- off a mate. Where `far`, some move out of the class leads to a mate that no cell can encode.
 pub record IsHeld {P : Type 0} (leads : P → P → Type 0) (mate : P → Type 0) (home : P → Bool) (far : Bool) (k : ℕ) (p : P) (c : ℕ) : Type 0 where
   pub set : c ≢ 0 → c ≤ k + 1 → IsGame leads mate p (value_of c)
   pub unmating : (c ≡ 0) ⊎ (k + 1 < c) → Mates leads mate p k → ⊥
@@ -45,7 +45,7 @@ IsHeldCell leads mate home far k (Some p) c = IsHeld leads mate home far k p c
 abbrev pub AreHeld : {P : Type 0} → (P → P → Type 0) → (P → Type 0) → (P → Bool) → Bool → ℕ → (ℕ → Option P) → ℕ → List ℕ → Type 0
 AreHeld leads mate home far k position size cells = (n : ℕ) → n < size → IsHeldCell leads mate home far k (position n) (slice_index cells n)
 
--- what a value makes of a cell before the levels, if a cell can tell it
+-- what a value makes of a cell before the levels, if a cell can encode it
 abbrev pub IsInitial : Value → ℕ → Bool → Type 0
 IsInitial v c far =
     (v ≡ Draw) × (c ≡ 0) × (far ≡ false)

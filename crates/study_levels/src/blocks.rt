@@ -4,7 +4,7 @@ ghost use Rattle.study_board.specs.Sets.{has};
 
 use study_board::{Square, SquareSet};
 
-/// How many cells are looked at before what they tell is asked.
+/// How many cells are folded together before the result is tested.
 const BLOCK: usize = 64;
 
 /// How many cells of a row are compared at once.
@@ -57,7 +57,7 @@ pub fn next_block(cells: &[u8], from: u32, byte: u8) -> u32
     at as u32
 }
 
-/// Whether some cell tells of a mate in `level` plies or more.
+/// Whether some cell has a mate in `level` plies or more.
 pub fn has_later(cells: &[u8], level: u8) -> bool
     ensures { result ≡ false → (i : ℕ) → i < length cells.now → slice_index cells.now i ≤ level }
 {

@@ -1,4 +1,4 @@
-//! What the cells of a table give a number, and whether they tell it.
+//! The value that the cells of a table give a number, and whether its own cell has it.
 ghost use Rattle.std.specs.Prelude.{◌≡◌, ◌<◌, ◌↔◌, false, length, Some, IsTrue, IfSome, IfNone, ℕ};
 ghost use Rattle.study_values.specs.Cells.{distance_of};
 ghost use Rattle.study_levels.specs.Numbered.{CellsAreRight, CellsGive, IsGivenAt, IsNumberedClass, IsOtherAt, OutsideIsRight, label_by};
@@ -42,7 +42,7 @@ pub fn value_from_moves<G: LabelledGame>(
     replies.value(game.is_mate(at))
 }
 
-/// Whether a number's cell tells what the cells give it.
+/// Whether a number's cell has the value that the cells give it.
 pub fn is_consistent<G: LabelledGame>(game: &G, cells: &[u8], number: u32) -> bool
     requires laws { IsNumberedClass (G.numbered game.now) }
     requires number { number < (G.numbered game.now).size }
@@ -57,7 +57,7 @@ pub fn is_consistent<G: LabelledGame>(game: &G, cells: &[u8], number: u32) -> bo
     }
 }
 
-/// The first number whose cell tells something else than the cells give it.
+/// The first number whose cell has another value than the cells give it.
 pub fn first_inconsistent<G: LabelledGame>(game: &G, cells: &[u8]) -> Option<u32>
     requires laws { IsNumberedClass (G.numbered game.now) }
     requires cells { length cells.now ≡ (G.numbered game.now).size }

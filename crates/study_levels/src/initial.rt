@@ -48,7 +48,7 @@ pub fn value_by_conversion<G: Game>(game: &G, at: &G::Position) -> Value
     replies.value(false)
 }
 
-/// What a number begins with: its cell, and whether it has a mate that no cell can tell.
+/// What a number begins with: its cell, and whether it has a mate that no cell can encode.
 #[derive(Clone, Copy)]
 pub struct Initial {
     pub cell: u8,
@@ -106,8 +106,8 @@ fn clear_all(cells: &mut [u8])
     cells.fill(0);
 }
 
-/// Writes the cell that a number begins with, where the class has that number, and tells whether it has a mate that no cell
-/// can tell.
+/// Writes the cell that a number begins with, where the class has that number, and returns whether it has a mate that no cell
+/// can encode.
 #[inline]
 fn write_first<G: SteppedGame>(game: &G, cells: &mut [u8], number: u32) -> bool
     requires laws { IsNumberedClass (G.numbered game.now) }
@@ -125,8 +125,8 @@ fn write_first<G: SteppedGame>(game: &G, cells: &mut [u8], number: u32) -> bool
     first.far
 }
 
-/// Writes the cells that the numbers of a row begin with whose squares are in the set, and tells whether some have a mate
-/// that no cell can tell.
+/// Writes the cells that the numbers of a row begin with whose squares are in the set, and returns whether some have a mate
+/// that no cell can encode.
 #[inline]
 fn write_each_first<G: SteppedGame>(
     game: &G,
@@ -160,7 +160,7 @@ fn write_each_first<G: SteppedGame>(
     far
 }
 
-/// What the numbers of a row begin with whose cells are 0, and whether some mate cannot be told.
+/// What the numbers of a row begin with whose cells are 0, and whether some mate cannot be encoded.
 #[inline]
 fn initialise_row<G: SteppedGame>(game: &G, cells: &mut [u8], row: u32) -> bool
     requires laws { IsNumberedClass (G.numbered game.now) }
@@ -177,7 +177,7 @@ fn initialise_row<G: SteppedGame>(game: &G, cells: &mut [u8], row: u32) -> bool
     write_each_first(game, cells, row, unknown.complement())
 }
 
-/// What all numbers begin with, and whether some mate cannot be told.
+/// What all numbers begin with, and whether some mate cannot be encoded.
 pub fn initialise<G: SteppedGame>(game: &G, cells: &mut [u8]) -> bool
     requires laws { IsNumberedClass (G.numbered game.now) }
     requires cells { length cells.old ≡ (G.numbered game.now).size }

@@ -35,7 +35,7 @@ pub fn propagate_losses<G: SteppedGame>(game: &G, cells: &mut [u8], level: u8) -
     examined
 }
 
-/// Marks all that leads to a position won in `level` plies, where it tells of no mate: it may be lost in one more.
+/// Marks all that leads to a position won in `level` plies, where it has no mate yet: it may be lost in one more.
 pub fn propagate_wins<G: SteppedGame>(game: &G, cells: &mut [u8], level: u8) -> u64
     requires laws { IsNumberedClass (G.numbered game.now) }
     requires level { level < 254 }
@@ -116,7 +116,7 @@ pub fn step<G: SteppedGame>(game: &G, cells: &mut [u8], level: u8) -> u64
     }
 }
 
-/// What levels came to: whether they ended where no cell told of a mate to come, and how much they examined.
+/// The result of the levels: whether they ended with no mate left to come, and how much they examined.
 #[derive(Clone, Copy)]
 pub struct LevelsDone {
     pub silent: bool,

@@ -10,7 +10,7 @@ use crate::stepped::LabelledGame;
 use study_board::SquareSet;
 use study_values::Value;
 
-/// Sets a cell, where it tells of no mate so near.
+/// Sets a cell, unless it has a mate as near.
 pub fn lower_cell(cells: &mut [u8], number: u32, cell: u8)
     requires number { number < length cells.old }
     requires cell { 0 < cell }
@@ -23,7 +23,7 @@ pub fn lower_cell(cells: &mut [u8], number: u32, cell: u8)
     }
 }
 
-/// Sets a cell, where it tells of no mate.
+/// Sets a cell, unless it has a mate.
 pub fn mark_cell(cells: &mut [u8], number: u32, cell: u8)
     requires number { number < length cells.old }
     requires cell { 0 < cell }
@@ -79,7 +79,7 @@ pub fn lower_by_moves<G: Game>(game: &G, cells: &mut [u8], number: u32, level: u
     before.len() as u64
 }
 
-/// A position that is won in `level` plies: what leads to it is marked, where it tells of no mate.
+/// A position that is won in `level` plies: what leads to it is marked, unless it has a mate.
 pub fn mark_by_moves<G: Game>(game: &G, cells: &mut [u8], number: u32, level: u8) -> u64
     requires laws { IsNumberedClass (G.numbered game.now) }
     requires level { level < 254 }
@@ -128,7 +128,7 @@ pub fn is_won(value: Value, level: u8) -> bool
     }
 }
 
-/// Whether a cell tells of a win within `level` plies: without a value made of it, so that many are looked at fast.
+/// Whether a cell has a win within `level` plies: without a value made of it, so that many are looked at fast.
 #[inline]
 pub fn tells_win(cell: u8, level: u8) -> bool
     ensures { IsTrue result ↔ ((m : ℕ) × (value_of cell ≡ Value.Win m) × (m ≤ level)) }

@@ -1,4 +1,4 @@
-//! What the levels ask of a game, besides its rules: so a game that reads its numbers may answer faster than by lists of moves.
+//! What the levels need of a game besides its rules: a game that computes with its numbers may be faster than by lists of moves.
 ghost use Rattle.std.specs.Prelude.{◌≡◌, ◌≢◌, ◌+◌, ◌*◌, ◌<◌, ℕ, true, false, length, slice_index, None, Some};
 ghost use Rattle.study_board.specs.Sets.{has};
 ghost use Rattle.study_values.specs.Cells.{distance_of};
@@ -12,7 +12,7 @@ use study_board::SquareSet;
 use study_moves::Move;
 use study_values::Value;
 
-/// A game that tells where a move leads by the number of the position before it.
+/// A game that computes where a move leads from the number of the position before it.
 pub trait LabelledGame: Game {
     /// The label of the position after a move from the position of a number.
     fn label_after(&self, cells: &[u8], number: u32, at: &Self::Position, by: &Move) -> Value
@@ -47,7 +47,7 @@ pub trait SteppedGame: LabelledGame {
         ensures rise { AreLowered (LeadsIntoRow (Self.numbered self.now) row decided) level cells.old cells.new }
         ensures done { (i y : ℕ) → y < 64 → has decided y ≡ true → StepLeads (Self.numbered self.now) i (64 * row + y) → IsSetBy (level + 2) cells.new i };
 
-    /// Positions of a row that are won in `level` plies: what leads to one of them is marked, where it tells of no mate.
+    /// Positions of a row that are won in `level` plies: what leads to one of them is marked, where it has no mate yet.
     fn mark_before(&self, cells: &mut [u8], row: u32, decided: SquareSet, level: u8) -> u64
         requires laws { IsNumberedClass (Self.numbered self.now) }
         requires level { level < 254 }

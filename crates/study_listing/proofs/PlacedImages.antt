@@ -1,4 +1,4 @@
--- Where a position has men where they are asked for, so has an image of the position that its number reads as.
+-- Where a position has men where the filters want them, so has an image of the position that its number reads as.
 use Rattle.std.proofs.Common.{◌≡◌, Bool, true, false, List, Option, Some, refl, sym, ap, subst, ◌∙◌}
 use Rattle.std.specs.Prelude.{if◌then◌else◌}
 use Rattle.std.proofs.lemmas.Bool.{false≢true}

@@ -1,4 +1,4 @@
--- The image that is shown has men where they are asked for, and there is one where some image has.
+-- The image that is shown has men where the filters want them, and there is one where some image has.
 use Rattle.std.proofs.Common.{◌≡◌, ◌⊎◌, Bool, true, false, List, [], ◌∷◌, Option, Some, None, is_some, inl, inr, refl, sym, ap, subst, ◌∙◌}
 use Rattle.std.specs.List.{list_any}
 use Rattle.std.specs.Prelude.{◌&&◌, ◌||◌, not, if◌then◌else◌}
@@ -123,7 +123,7 @@ module _ (ws : List (Option Placed)) (p : Position) where
     | inr behind ↦ first-is gs q behind
   ]
 
--- where no man is asked for the first image is the position itself
+-- if the filters name no man the first image is the position itself
 first-alone : (p : Position) (b : Option Position) → IsValid p → or_else (first_placed no_filters.men p turns) b ≡ Some p
 unfolding turns
 first-alone p b valid = go (not (list_any is_pawn p.men)) ∙ ap (λ (q : Position). Some q) (image_unturned p valid.ordered)

@@ -90,7 +90,7 @@ abbrev pub with_side_or_man : Behind → List ℕ → Option Side → Result Beh
 with_side_or_man b word (Some side) = with_side b side
 with_side_or_man b word None = with_placed b (placed_told word)
 
--- what is asked of the key wants a theme that has one
+-- a filter of the key needs a theme that has one
 abbrev pub if_key : Theme → Behind → Result Behind Unread
 if_key t b = if has_key t then Ok b else Err NoKeyMove
 

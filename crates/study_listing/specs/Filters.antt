@@ -29,12 +29,12 @@ is_within w x = is_from_to (file_of w.from) (file_of w.to) (file_of x) && is_fro
 abbrev pub is_placed : Placed → Man → Bool
 is_placed w m = same_side m.side w.side && (same_kind m.kind w.kind && is_within w m.at)
 
--- there is such a man, where one is asked for
+-- there is such a man, if the filters name one
 abbrev pub has_placed : List Man → Option Placed → Bool
 has_placed men None = true
 has_placed men (Some w) = list_any (is_placed w) men
 
--- all that are asked for are there
+-- all that the filters name are there
 abbrev pub are_placed : List (Option Placed) → Position → Bool
 are_placed ws p = list_all (has_placed p.men) ws
 
@@ -53,7 +53,7 @@ abbrev pub or_else : {A : Type 0} → Option A → Option A → Option A
 or_else None b = b
 or_else (Some x) b = Some x
 
--- the image, if the men admit it (pawns go along files) and the men that are asked for are there
+-- the image, if the men admit it (pawns go along files) and the men that the filters name are there
 abbrev pub image_placed : List (Option Placed) → Position → Symmetry → Option Position
 image_placed ws p g = if admits p g && are_placed ws (image g p) then Some (image g p) else None
 
@@ -62,7 +62,7 @@ abbrev pub first_placed : List (Option Placed) → Position → List Symmetry �
 first_placed ws p [] = None
 first_placed ws p (g ∷ gs) = or_else (image_placed ws p g) (first_placed ws p gs)
 
--- some image that keeps the colours has the men that are asked for
+-- some image that keeps the colours has the men that the filters name
 pub record HasImagePlaced (ws : List (Option Placed)) (p : Position) : Type 0 where
   pub by : Symmetry
   pub colours : by.colours ≡ false
@@ -78,7 +78,7 @@ is_capture p m = nat_lt (length (after p m).men) (length p.men)
 abbrev pub gives_check : Position → Move → Bool
 gives_check p m = in_check (after p m).men (after p m).to_move
 
--- neither a capture nor a check, where that is asked for
+-- neither a capture nor a check, if the filters say so
 abbrev pub is_let_through : Filters → Position → Move → Bool
 is_let_through f p m = not (f.no_capture && is_capture p m) && not (f.no_check && gives_check p m)
 
@@ -86,7 +86,7 @@ is_let_through f p m = not (f.no_capture && is_capture p m) && not (f.no_check &
 abbrev pub HasKeyLetThrough : Filters → Position → Type 0
 HasKeyLetThrough f p = (m : Move) × ((o : Outcome) × IsKey o p m) × (is_let_through f p m ≡ true)
 
--- where anything is asked of the key
+-- if a filter speaks of the key
 abbrev pub HasWantedKey : Filters → Position → Type 0
 HasWantedKey f p = f.no_capture || f.no_check ≡ true → HasKeyLetThrough f p
 

@@ -24,11 +24,11 @@ abbrev pub ListsHaveAll : Type 0
 ListsHaveAll = (s : Selection) (form : Form) (a b : ℕ) (ns text : List ℕ) → IsList s form a b ns text
     → ((k : ℕ) → Contains ns k ↔ ((a ≤ k) × (k < b) × IsListedAt s k)) × AllPairs (λ x y. x < y) ns
 
--- some image of the position has men where they are asked for; or some image of its counterpart, where it has one in the list
+-- some image of the position has men where the filters want them; or some image of its counterpart, where it has one in the list
 abbrev pub HasImageShown : Selection → Position → Type 0
 HasImageShown s p = HasImagePlaced s.filters.men p ⊎ ((is_paired s.search ≡ true) × HasImagePlaced s.filters.men (counterpart p))
 
--- An image is shown just where there is such an image, and it has men where they are asked for; where none are, it is the position itself.
+-- An image is shown just where there is such an image, and it has men where the filters want them; where none are, it is the position itself.
 pub record IsShownRightly (s : Selection) (p : Position) : Type 0 where
   pub some : (is_some (shown s p) ≡ true) ↔ HasImageShown s p
   pub placed : (q : Position) → shown s p ≡ Some q → are_placed s.filters.men q ≡ true
@@ -37,7 +37,7 @@ pub record IsShownRightly (s : Selection) (p : Position) : Type 0 where
 abbrev pub ImagesAreShown : Type 0
 ImagesAreShown = (s : Selection) (p : Position) → IsShownRightly s p
 
--- Where a position of the class has men where they are asked for, an image of the position that its number reads as is shown: so a filter loses
+-- Where a position of the class has men where the filters want them, an image of the position that its number reads as is shown: so a filter loses
 -- no position. White has the class's first list.
 abbrev pub PlacedAreShown : Type 0
 PlacedAreShown = (s : Selection) (p q : Position) → IsValid p → IsOf s.search.class p → is_swapped p.men ≡ false

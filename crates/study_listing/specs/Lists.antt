@@ -50,12 +50,12 @@ IsOneOfPair s p = is_paired s ≡ true → IsListedOfTwo p
 abbrev pub second_placed : Selection → Position → Option Position
 second_placed s p = if is_paired s.search then first_placed s.filters.men (counterpart p) turns else None
 
--- The image of the position that is listed: the first, as it is first of all, that has men where they are asked for; and where none
+-- The image of the position that is listed: the first, as it is first of all, that has men where the filters want them; and where none
 -- of the one placement of a mutual zugzwang has, that of the other.
 abbrev pub shown : Selection → Position → Option Position
 shown s p = or_else (first_placed s.filters.men p turns) (second_placed s p)
 
--- The position is looked for, and is not the second placement of a mutual zugzwang; some image of it has men where they are asked
+-- The position is looked for, and is not the second placement of a mutual zugzwang; some image of it has men where they are wanted
 -- for; and its key is let through.
 pub record IsListed (s : Selection) (p : Position) : Type 0 where
   pub sought : IsLookedFor s.search p

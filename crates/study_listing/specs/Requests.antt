@@ -1,4 +1,4 @@
--- What the words of a request ask for: a theme, the side to move, and filters.
+-- The request of words: a theme, the side to move, and filters.
 use Rattle.std.specs.Prelude.{ℕ, Bool, true, ◌||◌, nat_le, List, [], ◌∷◌, Option, Some, None, Result, Ok, Err, codes, if◌then◌else◌}
 use Rattle.std.specs.Str.{bytes_eq}
 use Rattle.study_board.specs.declared.men.Side.{Side}

@@ -11,13 +11,13 @@ use study_board::{Kind, Side, Square};
 use study_command::read_side;
 use study_search::Theme;
 
-/// Why words ask for nothing.
+/// Why words are not filters.
 #[derive(Clone, Copy, Debug, PartialEq, Eq)]
 pub enum Unread {
     NoSuchTheme,
     /// Behind the theme stands a word that is no filter, a second side to move, or a fifth man.
     NoSuchFilter,
-    /// Something is asked of the key, and the theme has none.
+    /// A filter speaks of the key move, and the theme has none.
     NoKeyMove,
 }
 
@@ -212,7 +212,7 @@ fn with_side_or_man(behind: Behind, word: &[u8]) -> Result<Behind, Unread>
     }
 }
 
-/// What is asked of the key wants a theme that has one.
+/// A filter of the key move needs a theme that has one.
 fn if_key(theme: Theme, behind: Behind) -> Result<Behind, Unread>
     ensures { result ≡ if_key theme behind }
 {

@@ -83,7 +83,7 @@ fn has_man(men: &[Man], w: &Placed) -> bool
     men.iter().any(|man| is_placed(w, man))
 }
 
-/// The same, where one is asked for.
+/// The same, if there is such a filter.
 fn has_placed(men: &[Man], wanted: &Option<Placed>) -> bool
     ensures { result ≡ has_placed men.now wanted.now }
 {
@@ -93,7 +93,7 @@ fn has_placed(men: &[Man], wanted: &Option<Placed>) -> bool
     }
 }
 
-/// Whether all men that are asked for are there.
+/// Whether all men that the filters name are there.
 fn are_placed(wanted: &[Option<Placed>], p: &Position) -> bool
     ensures { result ≡ are_placed wanted.now p.now }
 {
@@ -128,7 +128,7 @@ fn turns() -> [Symmetry; 8]
     ]
 }
 
-/// The image, if the men admit it and the men that are asked for are there.
+/// The image, if the men admit it and the men that the filters name are there.
 fn image_placed(wanted: &[Option<Placed>], p: &Position, by: &Symmetry) -> Option<Position>
     ensures { result ≡ image_placed wanted.now p.now by.now }
 {
@@ -155,14 +155,14 @@ fn first_of(wanted: &[Option<Placed>], p: &Position, by: &[Symmetry]) -> Option<
     }
 }
 
-/// The first image of a position, as it is first, in which the men that are asked for are there.
+/// The first image of a position, as it is first, in which the men that the filters name are there.
 pub(crate) fn first_placed(wanted: &[Option<Placed>], p: &Position) -> Option<Position>
     ensures { result ≡ first_placed wanted.now p.now turns }
 {
     first_of(wanted, p, turns().as_slice())
 }
 
-/// Whether a legal move is let through: neither a capture nor a check, where that is asked for.
+/// Whether a legal move is let through: neither a capture nor a check, if the filters say so.
 fn is_let_through(filters: &Filters, p: &Position, m: Move) -> bool
     requires { is_legal p.now m ≡ true }
     ensures { result ≡ is_let_through filters.now p.now m }
@@ -195,7 +195,7 @@ fn has_key_let_through<V: Values>(
     }
 }
 
-/// The same, where anything is asked of the key.
+/// The same, if a filter speaks of the key move.
 pub(crate) fn has_wanted_key<V: Values>(
     filters: &Filters,
     p: &Position,

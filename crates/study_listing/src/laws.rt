@@ -16,12 +16,12 @@ pub fn lists_have_all()
     ensures { ListsHaveAll }
 {}
 
-/// An image is shown just where some image has men where they are asked for, and it has them there.
+/// An image is shown exactly if some image has men where the filters want them, and it has them there.
 pub fn images_are_shown()
     ensures { ImagesAreShown }
 {}
 
-/// Of each position of the class that has men where they are asked for, an image is shown.
+/// Of each position of the class that has men where the filters want them, an image is shown.
 pub fn placed_are_shown()
     ensures { PlacedAreShown }
 {

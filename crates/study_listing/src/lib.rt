@@ -1,4 +1,4 @@
-//! Lists of the positions that are found: what words ask for, the line of a position or its study, and the list as it is found.
+//! Lists of the positions that are found: the request of words, the line of a position or its study, and the list as it is found.
 //!
 //! Which positions are listed, and that none is missing, is said and proved in `study_search`; the texts of FENs and moves are those of
 //! `study_notation`. `list_found` writes the whole list, `list_numbers` that of a range of numbers, and `count_found` and

@@ -74,7 +74,7 @@ fn is_one_of_pair<V: Values>(
     Ok(true)
 }
 
-/// The colour image of a position with the other side to move, in which men are where they are asked for.
+/// The colour image of a position with the other side to move, in which men stand where the filters want them.
 fn counterpart_placed(selection: &Selection, p: &Position) -> Option<Position>
     ensures { IsValid (handed_on p.now) → result ≡ first_placed selection.now.filters.men (counterpart p.now) turns }
 {
@@ -99,7 +99,7 @@ fn second_placed(selection: &Selection, p: &Position) -> Option<Position>
     None
 }
 
-/// The image of a position that is listed: the first in which men are where they are asked for.
+/// The image of a position that is listed: the first in which men stand where the filters want them.
 fn shown(selection: &Selection, p: &Position) -> Option<Position>
     ensures { (is_paired selection.now.search ≡ true → IsValid (handed_on p.now)) → result ≡ shown selection.now p.now }
 {

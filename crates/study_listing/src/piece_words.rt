@@ -14,7 +14,7 @@ pub struct Piece {
     pub numbers: Numbers,
 }
 
-/// Why words ask for no piece.
+/// Why words are not a request for a piece.
 #[derive(Clone, Copy, Debug, PartialEq, Eq)]
 pub enum PieceFault {
     Unread(Unread),
@@ -69,7 +69,7 @@ fn numbered(request: Result<Request, Unread>, numbers: Option<Numbers>) -> Resul
     }
 }
 
-/// What the words `THEME [FILTER ..] FROM TO` after the class ask for.
+/// The request of the words `THEME [FILTER ..] FROM TO` after the class.
 #[tactic(auto, using(crate::proofs::Pieces::fronts, crate::proofs::Pieces::backs))]
 pub fn read_piece(class: Class, words: &[&[u8]]) -> Result<Piece, PieceFault>
     ensures { result ≡ piece_of class (map (λ word. word.now) words.now) }

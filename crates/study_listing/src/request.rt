@@ -13,7 +13,7 @@ use study_command::{read_place, read_side};
 use study_material::Class;
 use study_search::{Outcome, Search, Theme};
 
-/// What the words after the class ask for.
+/// The request of the words after the class.
 #[derive(Clone, Copy, Debug, PartialEq, Eq)]
 pub enum Request {
     /// The positions with a theme.
@@ -148,7 +148,7 @@ fn longest_for(class: Class, side: Option<Side>, rest: &[&[u8]]) -> Result<Reque
     }
 }
 
-/// What is asked for by a theme of two words.
+/// The theme of two words.
 fn by_two(class: Class, first: &[u8], rest: &[&[u8]]) -> Result<Request, Unread>
     ensures { result ≡ by_two class first.now (map (λ word. word.now) rest.now) }
 {

@@ -98,7 +98,7 @@ module _ (all : List Told) (k : BenchState) (start : Start) (u : Plain Label) (n
       → IsKeptRight (record { study = restarted k.study start u; relabelled = n })
   shifted-right s h = right-told (record { study = restarted k.study start u; relabelled = n }) s (subst (AllAreTold start.position) (sym e) h)
 
--- what is asked of a study with this start
+-- what is probed for a study with this start
 asked-mapped : {L M : Type 0} (g : L → M) (p : Position) (f : Forest L) → asked_below p (mapped g f) ≡ asked_below p f
 asked-mapped g p none = refl
 asked-mapped g p (more m l b r) =

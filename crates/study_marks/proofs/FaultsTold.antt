@@ -1,4 +1,4 @@
--- The fault of the first value that was not told, as a refusal.
+-- The fault of the first value that could not be read, as a refusal.
 use Rattle.std.proofs.Common.{◌≡◌, ℕ, ◌+◌, ◌<◌, List, [], ◌∷◌, ◌++◌, length, take, drop, get_or, suc, inl, inr, Result, Ok, Err, IsErrAnd, IfErr, sym, ap}
 use Rattle.std.proofs.Common.{◌∙◌, subst}
 use Rattle.study_board.specs.Position.{Position}

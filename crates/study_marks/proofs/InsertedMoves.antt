@@ -144,7 +144,7 @@ module _ {A : Type 0} (b k : BenchState) (steps : List ℕ) (m : Move) (same : b
   no-reason f l p d n = insert-reason b k steps m same ∙ chosen-same _ true _ true _ None _ false _ false f l p
       (not-at-most 256 (length steps) d) (not-at-most 4096 (size_of b.study.tree) n)
 
--- what a move that is not refused tells
+-- the result of a move that is not refused
 pub record Open (p : Position) (t : Plain Label) (steps : List ℕ) (m : Move) : Type 0 where
   pub found : has_spot t steps ≡ true
   pub legal : is_legal (position_after p (moves_to t.below steps)) m ≡ true
@@ -197,7 +197,7 @@ refused-before {A = A} {U = U} k steps path m r f answer P way e h a =
     go None h = absurd (false≢true (sym (ap is_ok e) ∙ h))
     go (Some g) h = let one : f ≡ g = (let two : Err f ≡ Err g = sym e ∙ h in cc) in told f answer a ∙ ap Err one
 
--- a value that was not told
+-- a value that could not be read
 pub outside-told : (A : Type 0) (held : Class → Bool) (asked : List Position) (f : ProbeFault)
     → IsUntold held asked f → IsOutside {A = A} held asked (refused_by f)
 outside-told A held asked (probe.NoTable c) h = h

@@ -37,7 +37,7 @@ counted≤ true (suc k) n = omega arith
 counted≤ false (suc k) n = omega arith
 
 module _ (all : List Told) (a : Aim) where
-  -- what is told of the node and of those below it, and what they are to the parent
+  -- the evaluation of the node and of those below it, and what they are to the parent
   step : (d k n : ℕ) (q : Told) (x : ℕ) (m : Move) (l : Label) (b r : Forest Label) (t : Told) (below later : Forest Label) (own_count : ℕ)
       → x + 1 + nodes_in b + nodes_in r ≤ 4096 → own_count ≤ 1
       → faults_below (hero_moves a (d + 1)) below ≤ nodes_in b

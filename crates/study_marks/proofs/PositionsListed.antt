@@ -68,7 +68,7 @@ module _ (p : Position) (f : Forest Label) (k : ℕ) where
   pub listed-all : (old all : List Position) → width f ≤ k → all ≡ old ++ positions_in p (firsts k f) → all ≡ old ++ positions_in p f
   listed-all old all full h = h ∙ ap (λ (x : Forest Label). old ++ positions_in p x) (firsts-all k f full)
 
--- what is asked of a list of positions
+-- what is probed for a list of positions
 pub asked_each-append : (ps qs : List Position) → asked_each (ps ++ qs) ≡ asked_each ps ++ asked_each qs
 asked_each-append [] qs = refl
 asked_each-append (p ∷ ps) qs = ap (λ x. asked_at p ++ x) (asked_each-append ps qs) ∙ sym (append_assoc (asked_at p) (asked_each ps) (asked_each qs))
@@ -128,7 +128,7 @@ AreToldOf-append [] qs (t ∷ ts) us h k = absurd h
 AreToldOf-append (p ∷ ps) qs [] us h k = absurd h
 AreToldOf-append (p ∷ ps) qs (t ∷ ts) us h k = (h.0, AreToldOf-append ps qs ts us h.1 k)
 
--- What was asked and told when all these positions were asked: by tables that are held, over the counts of questions and of failures, at the beginning and now.
+-- The answers when all these positions were probed: by tables that are held, over the counts of questions and of failures, at the beginning and now.
 pub record IsAsked (held now : Class → Bool) (asked asked_now failed failed_now : ℕ) (honest honest_now : Type 0)
     (ps : List Position) (was all : List Told) : Type 0 where
   pub tables : (c : Class) → now c ≡ held c
@@ -176,7 +176,7 @@ take-one {X = X} xs i x h e = ap (λ n. take n xs) (let z : i + 1 ≡ suc i = om
     go (y ∷ ys) zero h e = ap (λ z. z ∷ []) (sym e)
     go (y ∷ ys) (suc i) h e = ap (λ z. y ∷ z) (go ys i (omega (arith, h)) e)
 
--- where one is not told
+-- where one is not read
 module _ (held mid : Class → Bool) (asked asked_mid failed failed_mid : ℕ) (honest honest_mid : Type 0)
     (xs : List Position) (i : ℕ) (p : Position) (was all : List Told)
     (h : IsAsked held mid asked asked_mid failed failed_mid honest honest_mid (take i xs) was all) (short : i < length xs) (is : p ≡ get_or xs i p) where
@@ -209,7 +209,7 @@ pub fault-asked : {T : Type 0} (r : Result T ProbeFault) (f : ProbeFault) (n old
 fault-asked (Ok x) f n old new e h = absurd e
 fault-asked (Err x) f n old new e h = h
 
--- what is told of all nodes
+-- the evaluations of all nodes
 AreAt : List Told → ℕ → List Position → Type 0
 AreAt all n [] = Unit {0}
 AreAt all n (p ∷ ps) = ((d : Told) → IsToldOf p (told_in all n d)) × AreAt all (suc n) ps

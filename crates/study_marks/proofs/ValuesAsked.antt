@@ -1,4 +1,4 @@
--- Values asked one after the other.
+-- Values probed one after the other.
 use Rattle.std.proofs.Common.{◌≡◌, ℕ, ◌+◌, ◌≤◌, ◌<◌, ◌/◌, List, [], ◌∷◌, ◌++◌, map, length, Bool, true}
 use Rattle.std.proofs.Common.{false, inl, inr, Result, Ok, Err, refl, sym, ap, ◌∙◌, arith, suc, subst}
 use Rattle.std.proofs.Common.{is_ok, OnOk, IfErr, IsErrOf, ◌↔◌, append_assoc, length-append}
@@ -105,7 +105,7 @@ pub untold-more : {T V : Type 0} (held now : Class → Bool) (p : Position) (ps 
 untold-more held now p ps a v (Ok x) e k same h = tt
 untold-more held now p ps a v (Err f) e k same h = untold-later held now p ps f (held-told held p a v e k) same h
 
--- how many were asked
+-- how many were probed
 pub asked-more : (n : ℕ) (b : Bool) (old mid new : ℕ) → mid ≡ counted old → WasAsked n b mid new → WasAsked (suc n) b old new
 asked-more n true old mid new e h = h ∙ ap (counted_times n) e
 asked-more n false old mid new e h = (suc h.0, (let z : suc h.0 < suc n = omega (arith, h.1) in z), h.2 ∙ ap (counted_times (suc h.0)) e)

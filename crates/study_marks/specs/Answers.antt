@@ -25,20 +25,20 @@ module _ {V : Type 0} where
     pub failed_so : (c : Class) (f : SourceFault) → IsOf c p → IsErrOf answer (probe.TableRead f) → may_fail old c f
     pub fails_as_before : (c : Class) (f : SourceFault) → may_fail new c f → may_fail old c f
 
-  -- these positions were asked in their order, and the value of each was told
+  -- these positions were probed in their order, and the value of each was read
   abbrev pub WereTold : (V → Position → ProbeAnswer → Type 0) → (V → Class → SourceFault → Type 0) → (V → ℕ) → V → List Position → V → Type 0
   WereTold gives may_fail asked_of old [] new = new ≡ old
   WereTold gives may_fail asked_of old (p ∷ ps) new = (v : Value) × (mid : V) × Answers gives may_fail asked_of old p (Ok v) mid
       × WereTold gives may_fail asked_of mid ps new
 
-  -- these positions were asked in their order, up to the first whose value was not told: its answer was this fault
+  -- these positions were probed in their order, up to the first whose value could not be read: its answer was this fault
   abbrev pub IsFirstFault : (V → Position → ProbeAnswer → Type 0) → (V → Class → SourceFault → Type 0) → (V → ℕ) → V → List Position → ProbeFault → V → Type 0
   IsFirstFault gives may_fail asked_of old [] f new = ⊥
   IsFirstFault gives may_fail asked_of old (p ∷ ps) f new =
       Answers gives may_fail asked_of old p (Err f) new
       ⊎ ((v : Value) × (mid : V) × Answers gives may_fail asked_of old p (Ok v) mid × IsFirstFault gives may_fail asked_of mid ps f new)
 
-  -- a refusal that is of the values tells the fault of the first of these that was not told
+  -- a refusal that is of the values reports the fault of the first of these that could not be read
   abbrev pub TellsFirstFault : {A : Type 0} → (V → Position → ProbeAnswer → Type 0) → (V → Class → SourceFault → Type 0) → (V → ℕ) → V → List Position → V
       → Refusal A → Type 0
   TellsFirstFault gives may_fail asked_of old asked new (NoTable c) = IsFirstFault gives may_fail asked_of old asked (probe.NoTable c) new
@@ -54,7 +54,7 @@ module _ {V : Type 0} where
   TellsFirstFault gives may_fail asked_of old asked new TagText = Unit {0}
   TellsFirstFault gives may_fail asked_of old asked new OutOfMemory = Unit {0}
 
--- a refusal that tells no damaged page
+-- a refusal that reports no damaged page
 abbrev pub IsUndamaged : {A : Type 0} → Refusal A → Type 0
 IsUndamaged (TableRead f) = IsNotDamage f
 IsUndamaged (NoTable c) = Unit {0}

@@ -22,7 +22,7 @@ use Rattle.study_values.specs.Values.{ProbeAnswer}
 use Rattle.study_values.specs.declared.fault.SourceFault.{SourceFault}
 
 module _ {A : Type 0} where
-  -- the positions whose values an edit of this study asks
+  -- the positions whose values an edit of this study probes
   abbrev pub questions_of : Plainly → Edit A → List Position
   questions_of s (edits.Position start) = asked_at start.position
   questions_of s (edits.Shift start) = positions_asked (shifted s start)
@@ -47,7 +47,7 @@ module _ {A : Type 0} where
   IsRefusalOf held s (edits.Promote steps) r = MatchOption (promote_refusal s steps) ⊥ (λ fault. r ≡ fault)
   IsRefusalOf held s (edits.Tag name text) r = MatchOption (tag_refusal text.bytes) ⊥ (λ fault. r ≡ fault)
 
-  -- the edit of this study has no reason to be refused, and a table of each position that it asks is held
+  -- the edit of this study has no reason to be refused, and a table of each position that it probes is held
   pub record IsAccepted (held : Class → Bool) (s : Plainly) (e : Edit A) : Type 0 where
     pub allowed : edit_refusal s e ≡ None
     pub found : AllHeld held (questions_of s e)
@@ -91,7 +91,7 @@ module _ {A : Type 0} where
   IsStopped held s (e ∷ es) zero r = IsRefusalOf held s e r
   IsStopped held s (e ∷ es) (suc n) r = IsStopped held (edited s e) es n r
 
-  -- how many values were asked: all of each accepted edit, and up to one that was not told of the refused one
+  -- how many values were probed: all of each accepted edit, and up to one that could not be read of the refused one
   abbrev pub asked_after_edits : Plainly → List (Edit A) → ℕ → ℕ
   asked_after_edits s [] n = n
   asked_after_edits s (e ∷ es) n = asked_after_edits (edited s e) es (counted_times (length (questions_of s e)) n)
@@ -110,14 +110,14 @@ module _ {A : Type 0} where
   failures_stopped (Ok x) old = old
   failures_stopped (Err s) old = if is_of_device s.refusal then counted old else old
 
-  -- after so many of the edits, the next is refused with the fault of the first value that was not told, of values as they were then
+  -- after so many of the edits, the next is refused with the fault of the first value that could not be read, of values as they were then
   abbrev pub StopsAtFault : {V : Type 0} → (V → Position → ProbeAnswer → Type 0) → (V → Class → SourceFault → Type 0) → (V → ℕ) → V → Plainly → List (Edit A)
       → ℕ → V → Refusal A → Type 0
   StopsAtFault gives may_fail asked_of mid s [] n new r = ⊥
   StopsAtFault gives may_fail asked_of mid s (e ∷ es) zero new r = TellsFirstFault gives may_fail asked_of mid (questions_of s e) new r
   StopsAtFault gives may_fail asked_of mid s (e ∷ es) (suc n) new r = StopsAtFault gives may_fail asked_of mid (edited s e) es n new r
 
-  -- the values were asked what the accepted edits ask, and then what the refused one does, up to the first that was not told
+  -- the values of the accepted edits were probed, and then those of the refused one, up to the first that could not be read
   pub record TellsStop {V : Type 0} (gives : V → Position → ProbeAnswer → Type 0) (may_fail : V → Class → SourceFault → Type 0)
       (asked_of : V → ℕ) (old new : V) (s : Plainly)
       (es : List (Edit A)) (stop : Stopped A) : Type 0 where

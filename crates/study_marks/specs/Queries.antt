@@ -1,4 +1,4 @@
--- Which values an edit asks, and what a refusal tells of them.
+-- The values that an edit probes, and what a refusal says of them.
 use Rattle.std.specs.Prelude.{◌≡◌, ℕ, ◌<◌, Bool, true, false, ◌⊎◌, List, [], ◌∷◌, ◌++◌, map, zero, suc, Result, Ok, Err, if◌then◌else◌}
 use Rattle.study_board.specs.Position.{Position}
 use Rattle.study_moves.specs.Rules.{after}
@@ -52,13 +52,13 @@ IsFaultAt p (probe.NoTable c) = ⊥
 IsFaultAt p (probe.TableRead f) = Unit {0}
 IsFaultAt p (probe.PageDamaged c n) = IsOf c p × (n ≡ page_number p)
 
--- the fault of the first position whose value is not told; its table, and those of all before it, are held
+-- the fault of the first position whose value cannot be read; its table, and those of all before it, are held
 abbrev pub IsFirstUnread : (Class → Bool) → List Position → ProbeFault → Type 0
 IsFirstUnread held [] f = ⊥
 IsFirstUnread held (p ∷ ps) f = IsTableHeld held p × (IsFaultAt p f ⊎ IsFirstUnread held ps f)
 
 module _ {A : Type 0} where
-  -- what is refused after the plain study's own reasons: for want of memory, or of the first of these values that was not told
+  -- what is refused after the plain study's own reasons: for want of memory, or of the first of these values that could not be read
   abbrev pub IsOutside : (Class → Bool) → List Position → Refusal A → Type 0
   IsOutside held asked OutOfMemory = Unit {0}
   IsOutside held asked (NoTable c) = IsFirstMissing held asked c
@@ -73,7 +73,7 @@ module _ {A : Type 0} where
   IsOutside held asked (ShiftBroken steps) = ⊥
   IsOutside held asked TagText = ⊥
 
-  -- a value was asked and not told
+  -- a value was probed and could not be read
   abbrev pub is_of_tables : Refusal A → Bool
   is_of_tables (NoTable c) = true
   is_of_tables (TableRead f) = true
@@ -108,13 +108,13 @@ abbrev pub counted_times : ℕ → ℕ → ℕ
 counted_times zero n = n
 counted_times (suc k) n = counted_times k (counted n)
 
--- values were asked up to one that was not told, after some that were, or none was asked
+-- values were probed up to one that could not be read, after some that were, or none was asked
 abbrev pub HasStopped : Bool → ℕ → ℕ → ℕ → Type 0
 HasStopped true n old new = (k : ℕ) × (k < n) × (new ≡ counted_times (suc k) old)
 HasStopped false n old new = new ≡ old
 
 module _ {T A : Type 0} where
-  -- how many values were asked: as many as there are; at least one and at most these where one was not told; none where the
+  -- how many values were probed: as many as there are; at least one and at most these where one could not be read; none where the
   -- edit was refused before
   abbrev pub HasAsked : ℕ → Result T (Refusal A) → ℕ → ℕ → Type 0
   HasAsked n (Ok x) old new = new ≡ counted_times n old

@@ -1,4 +1,4 @@
--- Not part of any public contract: what is told of all nodes anew, and the faults that are counted anew from it. Nodes are numbered in written order.
+-- Not part of any public contract: the evaluations of all nodes anew, and the faults that are counted anew from it. Nodes are numbered in written order.
 use Rattle.std.specs.Prelude.{ℕ, ◌+◌, ◌-◌, ◌^◌, min, List, [], ◌∷◌, ◌++◌, zero, suc, slice_index_or}
 use Rattle.study_board.specs.Position.{Position}
 use Rattle.study_moves.specs.Rules.{after}
@@ -14,16 +14,16 @@ use Rattle.study_marks.specs.FaultSums.{counted_faults}
 use Rattle.study_marks.specs.Queries.{asked_at}
 use Rattle.study_marks.specs.Told.{IsToldOf}
 
--- what the list tells of node n; where the list is shorter, what is told of the node already
+-- the list's evaluation of node n; where the list is shorter, the node's present one
 abbrev pub told_in : List Told → ℕ → Told → Told
 told_in all n t = slice_index_or all n t
 
--- the same nodes, side by side, with what the list tells of them; the first of them is node n
+-- the same nodes, side by side, with the list's evaluations of them; the first of them is node n
 abbrev pub retold : List Told → ℕ → Forest Told → Forest Told
 retold all n none = none
 retold all n (more m t b r) = more m (told_in all n t) (retold all (n + 1) b) (retold all (n + 1 + nodes_in b) r)
 
--- the tree with what the list tells of its nodes, the root being node 0
+-- the tree with the list's evaluations of its nodes, the root being node 0
 abbrev pub retold_tree : List Told → Plain Told → Plain Told
 retold_tree all t = record { label = told_in all 0 t.label; below = retold all 1 t.below }
 
@@ -58,12 +58,12 @@ abbrev pub positions_in : {L : Type 0} → Position → Forest L → List Positi
 positions_in p none = []
 positions_in p (more m l b r) = after p m ∷ (positions_in (after p m) b ++ positions_in p r)
 
--- what is asked of these positions, one after the other
+-- what is probed for these positions, one after the other
 abbrev pub asked_each : List Position → List Position
 asked_each [] = []
 asked_each (p ∷ ps) = asked_at p ++ asked_each ps
 
--- what is told of each of these positions
+-- the evaluation of each of these positions
 abbrev pub AreToldOf : List Position → List Told → Type 0
 AreToldOf [] [] = Unit {0}
 AreToldOf [] (t ∷ ts) = ⊥

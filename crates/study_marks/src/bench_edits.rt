@@ -303,7 +303,7 @@ impl<'a, A: Allocator> Bench<'a, A> {
         Ok(before)
     }
 
-    /// Another start, from which each move of the tree is legal, and the same tree: asks every value, and then writes
+    /// Another start, from which each move of the tree is legal, and the same tree: probes every value, and then writes
     /// all labels.
     fn annotate<V: Values>(&mut self, start: Start, values: &mut V) -> Result<(), Refusal<'a, A>>
         requires playable { IsPlayable start.position self.old.study.tree.below }

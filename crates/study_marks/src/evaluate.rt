@@ -1,4 +1,4 @@
-//! Values asked.
+//! Values that are probed.
 ghost use Rattle.std.specs.Prelude.{◌≡◌, ◌+◌, ◌≤◌, true, List, length, map, is_ok, OnOk, IfOk, IfErr};
 ghost use Rattle.std.specs.List.{All};
 ghost use Rattle.study_material.specs.declared.class.Class.{Class as AClass};

@@ -1,4 +1,4 @@
-//! What is told of all nodes, asked in written order.
+//! Evaluations of all nodes, in written order.
 ghost use Rattle.std.specs.Prelude.{◌≡◌, ◌+◌, ◌<◌, ◌≤◌, ◌++◌, ◌∷◌, [], List, OnOk, IfOk, IfErr, length, is_ok, vec_len, vec_capacity};
 ghost use Rattle.study_material.specs.declared.class.Class.{Class as AClass};
 ghost use Rattle.study_tree.specs.Tree.{plain_tree};
@@ -72,7 +72,7 @@ fn list_positions<'a, A: Allocator>(
     Ok(all)
 }
 
-/// Asks what is told of a position, and puts it last, where there is room.
+/// Evaluates a position and appends the result; the list must have room.
 fn evaluate_one<'a, A: Allocator, V: Values>(
     p: &Position,
     values: &mut V,
@@ -98,7 +98,7 @@ fn evaluate_one<'a, A: Allocator, V: Values>(
     Ok(())
 }
 
-/// Asks what is told of these positions, one after the other, where there is room for all.
+/// Evaluates these positions, one after the other; the list must have room for all.
 fn evaluate_each<'a, A: Allocator, V: Values>(
     positions: &[Position],
     values: &mut V,
@@ -122,8 +122,8 @@ fn evaluate_each<'a, A: Allocator, V: Values>(
     Ok(())
 }
 
-/// Asks what is told of all nodes of the tree, whose root has this position, in written order. All memory is found
-/// before the first value is asked.
+/// Evaluates all nodes of the tree, whose root has this position, in written order. All memory is found
+/// before the first value is probed.
 pub fn evaluate_all<'a, A: Allocator, V: Values>(
     alloc: &'a A,
     tree: &Tree<'a, Label, A>,

@@ -1,7 +1,7 @@
 //! A study with marks that are always those of annotating it from scratch.
 //!
 //! A `Bench` holds a study: a start, a stipulation, tags, and a tree of moves. Each edit says what it makes of the plain
-//! study, and leaves marks that are those of the new one wherever the values that it asked were the game's. `insert`,
+//! study, and leaves marks that are those of the new one if the values that it probed were the game's. `insert`,
 //! `delete` and `promote` renew what is kept on one path to the root; a refused edit changes nothing.
 #![tactic(auto)]
 

@@ -1,4 +1,4 @@
-//! Nodes that are lent with their marks, and the way from each to its children.
+//! Borrowed nodes with their marks, and the way from each to its children.
 ghost use Rattle.std.specs.Prelude.{◌≡◌, [], MatchOption, Some, None};
 ghost use Rattle.study_tree.specs.Edits.{IsWithin, node_in, width};
 ghost use Rattle.study_marks.specs.BenchState.{shown_tree};
@@ -11,7 +11,7 @@ use std::marker::Model;
 use study_moves::Move;
 use study_tree::Branch;
 
-/// A node that is lent, and all below it, seen as an annotated tree of its own.
+/// A borrowed node, and all below it, seen as an annotated tree of its own.
 #[derive(Drop)]
 pub struct MarkedNode<'t, 'a, A: Allocator> {
     aim: Aim,
@@ -37,7 +37,7 @@ impl<'t, 'a, A: Allocator> Model for MarkedNode<'t, 'a, A> {
     ghost invariant = { λ n. (n.depth ≤ 256) × IsWithin (256 - n.depth) n.branch.below };
 }
 
-/// A child that is lent with its mark, and the move that led to it.
+/// A borrowed child with its mark, and the move that led to it.
 #[derive(Drop)]
 pub struct MarkedChild<'t, 'a, A: Allocator> {
     pub played: Move,

@@ -51,7 +51,7 @@ pub fn find_illegal_move<'t, 'a, A: Allocator>(
     false
 }
 
-/// What is written of all nodes: what the list tells, or what is told already where it is shorter, and the faults anew.
+/// The new labels of all nodes: the evaluations of the list, the present ones where it is shorter, and the faults anew.
 #[derive(Clone, Copy)]
 struct Refreshing<'r> {
     aim: &'r Aim,
@@ -79,7 +79,7 @@ impl<'r> Rewriting<Label> for Refreshing<'r> {
     }
 }
 
-/// Writes what the list tells of the node with this number; where the list is shorter, that stays which is told already.
+/// Writes the list's evaluation of the node with this number; where the list is shorter, the present one stays.
 fn retell(all: &[Told], number: usize, told: &mut Told)
     ensures { told.new ≡ told_in all.now number told.old }
 {
@@ -88,7 +88,7 @@ fn retell(all: &[Told], number: usize, told: &mut Told)
     }
 }
 
-/// Writes all labels: what is told comes from the list, one for each node in written order, or stays where the list is
+/// Writes all labels: evaluations come from the list, one for each node in written order, or stay where the list is
 /// empty; the faults are counted anew.
 pub fn relabel_all<'a, A: Allocator>(aim: &Aim, tree: &mut Tree<'a, Label, A>, all: &[Told])
     ensures told { told_tree (plain_tree tree.new) ≡ retold_tree all.now (told_tree (plain_tree tree.old)) }

@@ -26,7 +26,7 @@ use study_values::{Value, Values};
 impl<'a, A: Allocator> Bench<'a, A> {
     /// The value, the mark and the faults that a new node would show if this legal move were inserted below the node.
     ///
-    /// Nothing is inserted: the tree may have the move already, be full, or be as deep as it can be there. One value is asked.
+    /// Nothing is inserted: the tree may have the move already, be full, or be as deep as it can be there. One value is probed.
     pub fn mark_of<V: Values>(
         &self,
         path: &Path<'a, A>,

@@ -1,4 +1,4 @@
--- What tells the names of classes apart.
+-- What distinguishes the names of classes.
 use Rattle.std.proofs.Common.{◌≡◌, ℕ, Bool, true, false, List, subst, ◌≤◌, take, lit<, refl, sym, ◌∙◌}
 use Rattle.std.specs.List.{All, Contains}
 use Rattle.std.proofs.lemmas.List.{take_all}

@@ -32,7 +32,7 @@ pub fn earlier(q: &Position) -> ArrayVec<Position, 192>
 }
 
 /// Each legal move, neither a capture nor a promotion, that can have led to this position from one without a passed
-/// square, passed squares left out: a double step is listed too where this position does not tell of it.
+/// square, passed squares left out: a double step is listed too if this position has no passed square.
 pub fn unmoves(q: &Position) -> ArrayVec<Move, 192>
     ensures exact { (m : AMove) → Contains result.items m ↔ CanHaveLed q.now m }
     ensures once { AllPairs (λ m n. m ≢ n) result.items }

@@ -101,7 +101,7 @@ placement_fault men =
     else (if not (has_one_king men White && has_one_king men Black) then Some KingCount
     else (if has_end_pawn men then Some PawnOnEndRank else None))
 
--- what is told of a position's fault before the side to move is known
+-- what is known of a position's fault before the side to move is known
 abbrev pub fen_fault_of_men : PositionFault → Option FenFault
 fen_fault_of_men board.TooManyMen = Some TooManyMen
 fen_fault_of_men board.KingCount = Some KingCount

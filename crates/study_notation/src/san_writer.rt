@@ -16,7 +16,7 @@ use study_moves::{Move, in_check, is_legal, played};
 
 /// The text of a legal move, in the form of the PGN Standard.
 ///
-/// Of the origin it gives no more than tells the man from others that can legally go to the square, and the file of a pawn
+/// Of the origin it gives no more than distinguishes the man from others that can legally go to the square, and the file of a pawn
 /// that captures. It ends in `#` for checkmate or `+` for check.
 #[tactic(auto, unfolding(crate::specs::Written::move_text))]
 pub fn write_san(p: &Position, m: Move) -> ArrayString<8>

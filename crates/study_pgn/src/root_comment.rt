@@ -37,7 +37,7 @@ pub fn add_stipulation<A: Allocator>(
     add_goal(text, stipulation.goal)
 }
 
-/// Whether the root's value is what the stipulation asks for; `to_move` tells whether the hero is to move there.
+/// Whether the root's value is what the stipulation demands; `to_move`: the hero is to move there.
 pub fn is_right(goal: Goal, to_move: bool, value: Value) -> bool
     ensures { result ≡ is_right (record { goal = goal; hero_first = to_move }) value }
 {

@@ -61,7 +61,7 @@ fn pgn_text<'a, 'b, A: Allocator, B: Allocator>(
 
 /// Writes the PGN of a study.
 ///
-/// The text is made whole first, so want of memory is told before the first byte. A writer that fails or takes nothing
+/// The text is made whole first, so want of memory is reported before the first byte. A writer that fails or takes nothing
 /// ends the call; it took a prefix of the text then. The time grows with the number of nodes: each is reached from its
 /// parent, and none is looked up along its path.
 pub fn write_pgn<'a, 'b, A: Allocator, B: Allocator, W: Write>(

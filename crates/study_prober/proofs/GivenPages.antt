@@ -60,7 +60,7 @@ module _ {S : Type 0} (gives : S → Question → Result (List ℕ) SourceFault 
   bad_at h k m n e f bad = subst (λ (x : OpenTable S). HasBadPage gives x n) e (subst (λ (l : ℕ). HasBadPage gives h l) f bad)
 
   module _ {V : Type 0} (cells : V → List ℕ) where
-    -- a source was asked, and at most a page of it is kept more
+    -- a source was probed, and at most a page of it is kept more
     pub given_after : (xs : List (Option (OpenTable S))) (kept kept' : List (PageKey × V)) (c : Class)
         (h k : OpenTable S) → AreGiven gives cells xs kept → class_number c < length xs → held_of xs c ≡ Some h
         → h.header.class ≡ c

@@ -103,7 +103,7 @@ module _ {S : Type 0} where
         → AreHonestAlike honest h.source k.source → IsSameSource honest o p
     same_of o p h k e f header alike = rw e (rw f (header, alike))
 
-    -- one source was asked
+    -- one source was probed
     pub same_after : (xs : List (Option (OpenTable S))) (c d : Class) (h k : OpenTable S) → class_number c < length xs
         → held_of xs c ≡ Some h → k.header ≡ h.header → AreHonestAlike honest h.source k.source
         → IsSameSource honest (held_of xs d) (held_of (set xs (class_number c) (Some k)) d)
@@ -172,7 +172,7 @@ module _ {S : Type 0} where
           → IsHeaderOf h.header h.header.class
       header_own xs kept c h was is = let of_class = was.header c h is in subst (λ (x : Class). IsHeaderOf h.header x) (sym of_class.class) of_class
 
-      -- a source was asked, and at most a page of it is kept more
+      -- a source was probed, and at most a page of it is kept more
       module _ (xs : List (Option (OpenTable S))) (kept kept' : List (PageKey × V)) (c : Class)
           (h k : OpenTable S) (was : IsKept honest cells xs kept) (small : class_number c < length xs)
           (is : held_of xs c ≡ Some h)

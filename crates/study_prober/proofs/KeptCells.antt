@@ -1,4 +1,4 @@
--- A cell of a page that is kept is told again without its source.
+-- A cell of a page that is kept is read again without its source.
 use Rattle.std.proofs.Common.{◌≡◌, ℕ, List, map, set, refl, sym, ap, ◌∙◌, subst}
 use Rattle.std.specs.Prelude.{Option, Some, None, is_some, option_map, IfSome, Result, Ok, ◌%◌}
 use Rattle.std.specs.Map.{lookup}

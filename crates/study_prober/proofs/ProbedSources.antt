@@ -1,4 +1,4 @@
--- What a probe tells of the source that it asked.
+-- What a probe says of the source that it called.
 use Rattle.std.proofs.Common.{◌≡◌, ℕ, ◌<◌, List, length, set, get_or, refl, sym, ap, ◌∙◌, subst}
 use Rattle.std.specs.Prelude.{Option, Some, Result, Ok, Err, IfOk, IsErrOf}
 use Rattle.study_board.specs.Position.{Position, IsValid}

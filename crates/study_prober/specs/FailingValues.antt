@@ -8,7 +8,7 @@ use Rattle.study_values.specs.Values.{ProbeAnswer}
 use Rattle.study_prober.specs.declared.failing_values.FailingValues.{FailingValues}
 use Rattle.study_values.specs.declared.values.ProbeFault.TheVariants.{TableRead}
 
--- the question that is asked next is the one that fails, and a table of the position's class is held
+-- the next probe is the one that fails, and a table of the position's class is held
 pub record FailsNext {V : Type 0} (held : V → Class → Bool) (w : FailingValues V) (p : Position) : Type 0 where
   pub next : w.fails_at ≡ Some w.asked
   pub class : Class

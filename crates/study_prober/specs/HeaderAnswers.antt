@@ -14,7 +14,7 @@ use Rattle.study_prober.specs.Sources.{GivesOf, HonestOf}
 use Rattle.study_prober.specs.declared.fault.PagedFault.{PagedFault}
 use Rattle.study_prober.specs.declared.fault.PagedFault.TheVariants.{AlreadyHeld, TableRead, Header as BadHeader, OtherClass, OutOfMemory}
 
--- what a source may tell when it is asked for its header: a fault, or bytes, those of the header of each table for which it
+-- what a source may answer to the request for its header: a fault, or bytes, those of the header of each table for which it
 -- is honest
 abbrev pub MayTell : {S : Type 0} → HonestOf S → S → Result (List ℕ) SourceFault → Type 0
 MayTell honest source (Err fault) = ⊤
@@ -32,7 +32,7 @@ abbrev pub header_fault : Class → Result (List ℕ) SourceFault → Option Pag
 header_fault c (Err fault) = Some (TableRead fault)
 header_fault c (Ok bytes) = class_fault c (class_read bytes)
 
--- the first fault of a source for a class, by whether the class is held already and what the source told
+-- the first fault of a source for a class, by whether the class is held already and what the source answered
 abbrev pub paged_fault : Bool → Class → Result (List ℕ) SourceFault → Option PagedFault
 paged_fault held c told = if held then Some (AlreadyHeld c) else header_fault c told
 
@@ -40,7 +40,7 @@ paged_fault held c told = if held then Some (AlreadyHeld c) else header_fault c 
 abbrev pub IsRefusedBy : Option PagedFault → Result (Unit {0}) PagedFault → Type 0
 IsRefusedBy first answer = MatchOption first (IfErr answer (λ fault. fault ≡ OutOfMemory)) (λ fault. IsErrOf answer fault)
 
--- an answer to the question for a header, by what the source told
+-- an answer to the request for a header, by what the source answered
 abbrev pub IsTold : Result (List ℕ) SourceFault → Result Header PagedFault → Type 0
 IsTold (Err fault) answer = answer ≡ Err (TableRead fault)
 IsTold (Ok bytes) (Ok h) = (class_read bytes ≡ Ok h.class) × (version_of bytes ≡ h.version)

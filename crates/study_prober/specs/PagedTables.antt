@@ -76,6 +76,6 @@ IsPagedAnswer gives sources p answer = (c : Class) → IsOf c p → IsHeldAnswer
 abbrev pub IsPageFor : {S : Type 0} → GivesOf S → Class → OpenTable S → ℕ → PageKey → List ℕ → Type 0
 IsPageFor gives c h n key cells = (key ≡ key_at c n) × IsGivenPage gives h (n / 4096) cells
 
--- a cell that is kept is told without its source
+-- a cell that is kept is read without its source
 abbrev pub IsToldAgain : {X : Type 0} → Option ℕ → ProbeAnswer → X → X → Type 0
 IsToldAgain cell answer old new = IfSome cell (λ x. (answer ≡ Ok (value_of x)) × (new ≡ old))

@@ -10,7 +10,7 @@ use Rattle.study_table.specs.Sound.{IsRight}
 use Rattle.study_values.specs.Values.{ProbeAnswer}
 use Rattle.study_values.specs.declared.values.ProbeFault.TheVariants.{NoTable}
 
--- the tables that are held, and how often a value was asked
+-- the tables that are held, and how often a value was probed
 pub record Whole : Type 0 where
   pub tables : List (Option Table)
   pub asked : ℕ

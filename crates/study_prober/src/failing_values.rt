@@ -16,7 +16,7 @@ use study_values::{ProbeFault, SourceFault, Value, Values, failures_after};
 #[derive(Drop)]
 pub struct FailingValues<V: Values> {
     pub values: V,
-    /// How often a value was asked.
+    /// How often a value was probed.
     pub asked: u64,
     /// Which of the questions fails, counted from 0. A position whose class has no table has the answer of `values` there.
     pub fails_at: Option<u64>,
@@ -25,7 +25,7 @@ pub struct FailingValues<V: Values> {
 }
 
 impl<V: Values> FailingValues<V> {
-    /// Values of which one question fails, counted from 0. Nothing was asked yet.
+    /// Values of which one probe fails, counted from 0. Nothing was probed yet.
     pub fn new(values: V, fails_at: u64) -> Self
         ensures { result ≡ record { values = values; asked = 0; fails_at = Some fails_at; failures = 0 } }
     {
@@ -72,7 +72,7 @@ impl<V: Values> Values for FailingValues<V> {
         ensures not_asked { FailsNext V.held self.old p.now → self.new.values ≡ self.old.values }
         ensures same { self.new.fails_at ≡ self.old.fails_at }
 
-        // Any other question goes to the values, once, and what is told is what they may answer.
+        // Any other probe goes to the values, once, and returns what they may answer.
         ensures passed { (FailsNext V.held self.old p.now → ⊥) → V.gives self.old.values p.now result }
         ensures asked_on { (FailsNext V.held self.old p.now → ⊥) → V.asked_of self.new.values ≡ counted (V.asked_of self.old.values) }
         ensures failures_on { (FailsNext V.held self.old p.now → ⊥)

@@ -5,7 +5,7 @@ use study_material::Class;
 use study_values::{FileFault, SourceFault};
 use thiserror::Error;
 
-/// Why a source of pages is not held. Faults are in the order in which they are told.
+/// Why a source of pages is refused. Faults are checked in this order.
 #[derive(Clone, Copy, Debug, PartialEq, Eq, Error)]
 pub enum PagedFault {
     #[error("a table of {0:?} is held already")]

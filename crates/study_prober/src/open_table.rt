@@ -72,7 +72,7 @@ impl<S: PageSource> OpenTable<S> {
     }
 }
 
-/// The value that a cell of a page tells, which is read now. A page that finds no room is used and forgotten.
+/// The value of a cell of a page, which is read now. A page that finds no room is used and forgotten.
 fn read_value_from_page<'a, S: PageSource, A: Allocator>(
     held: &mut OpenTable<S>,
     pages: &mut Pages<'a, A>,
@@ -109,7 +109,7 @@ fn read_value_from_page<'a, S: PageSource, A: Allocator>(
     Ok(value_at(page[at]))
 }
 
-/// The value that the cell of a number tells, from a page that is kept, or else from its source.
+/// The value of the cell of a number, from a page that is kept, or else from its source.
 pub fn value_of_number<'a, S: PageSource, A: Allocator>(
     held: &mut OpenTable<S>,
     pages: &mut Pages<'a, A>,

@@ -1,4 +1,4 @@
-//! Values from pages of tables, read as they are asked and kept as far as there is room.
+//! Values from pages of tables, read as they are needed and kept as far as there is room.
 ghost use Rattle.std.specs.Prelude.{◌≡◌, ◌≤◌, ◌<◌, ◌↔◌, ℕ, List, Option, Result, [], Some};
 ghost use Rattle.std.specs.Prelude.{None, Ok, Err, true, false, is_some, IfOk, IfErr, OnOk, OnErr};
 ghost use Rattle.std.specs.Prelude.{IsErrOf, length, slice_index, slice_set, replicate};
@@ -37,7 +37,7 @@ use study_material::{CLASS_COUNT, Class, class_of};
 use study_tablefile::PageSource;
 use study_values::{ProbeFault, Value, Values, failures_after};
 
-/// Tables whose pages are read as they are asked, and the pages that were used last.
+/// Tables whose pages are read as they are needed, and the pages that were used last.
 #[derive(Drop)]
 pub struct PagedTables<'a, S: PageSource, A: Allocator> {
     alloc: &'a A,
@@ -85,7 +85,7 @@ impl<'a, S: PageSource, A: Allocator> PagedTables<'a, S, A> {
         })
     }
 
-    /// Holds a source of the table of a class, whose needs are not asked for. A source that is refused is dropped.
+    /// Takes a source of the table of a class; the classes below it need not be there. A source that is refused is dropped.
     pub fn add(&mut self, class: Class, mut source: S) -> Result<(), PagedFault>
         ensures fault { (told : Result (List ℕ) ASourceFault)
             × (is_some (held_of self.old.sources class) ≡ false → MayAnswer S.gives S.honest source told)
@@ -245,7 +245,7 @@ impl<'a, S: PageSource, A: Allocator> Values for PagedTables<'a, S, A> {
         ensures damaged { (c : AClass) (n : ℕ) → IsErrOf result (ProbeFault.PageDamaged c n) → IsOf c p.now × (n ≡ page_number p.now) }
 
         // Of any source, an answer stands in a page that it may give and that passes its check; a page is damaged where it
-        // may give one that does not; and the fault that is told is one that it may answer.
+        // may give one that does not; and the fault that is reported is one that it may answer.
         ensures read { (c : AClass) (h : AHeld S) → IsOf c p.now → held_of self.old.sources c ≡ Some h
             → IfOk result (IsReadFrom S.gives h (index_of p.now)) }
         ensures not_whole { (c : AClass) (h : AHeld S) (n : ℕ) → held_of self.old.sources c ≡ Some h
@@ -253,7 +253,7 @@ impl<'a, S: PageSource, A: Allocator> Values for PagedTables<'a, S, A> {
         ensures unread { (c : AClass) (h : AHeld S) (f : ASourceFault) → IsOf c p.now → held_of self.old.sources c ≡ Some h
             → IsErrOf result (ProbeFault.TableRead f) → S.gives h.source (of_page (page_number p.now)) (Err f) }
 
-        // A page that is put in is the one asked for, as the source may give it; after a refusal none is.
+        // A page that is put in is the one requested, as the source may give it; after a refusal none is.
         ensures put { (c : AClass) (h : AHeld S) → IsOf c p.now → held_of self.old.sources c ≡ Some h
             → PutsOnly (IsPageFor S.gives c h (index_of p.now)) self.old.kept self.new.kept }
         ensures refused { OnErr result (PutsNone self.old.kept self.new.kept) }
@@ -268,7 +268,7 @@ impl<'a, S: PageSource, A: Allocator> Values for PagedTables<'a, S, A> {
         ensures room { self.new.room ≡ self.old.room }
         ensures few { length self.new.kept ≤ self.new.room }
 
-        // A cell of a page that is kept is told without its source; for any other its source is asked once.
+        // A cell of a page that is kept is read without its source; for any other its source is read once.
         ensures again { (c : AClass) → IsOf c p.now
             → IsToldAgain (kept_cell (λ cells. cells) self.old.kept c (index_of p.now)) result self.old.sources self.new.sources }
         ensures once { (c : AClass) (h k : AHeld S) → IsOf c p.now → held_of self.old.sources c ≡ Some h → held_of self.new.sources c ≡ Some k

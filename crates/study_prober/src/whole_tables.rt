@@ -38,7 +38,7 @@ impl<'a, A: Allocator> Model for WholeTables<'a, A> {
 }
 
 impl<'a, A: Allocator> WholeTables<'a, A> {
-    /// Values from these tables. Nothing was asked yet.
+    /// Values from these tables. Nothing was probed yet.
     pub fn new(tables: TableSet<'a, A>) -> Self
         ensures { result ≡ record { tables = tables.entry; asked = 0 } }
     {

@@ -1,4 +1,4 @@
--- The exit status of the program, and what it tells where a run stops.
+-- The exit status of the program, and the message when a run stops.
 use Rattle.std.specs.Prelude.{ℕ, Bool, true, false, ◌==◌, ◌⊎◌, List, [], ◌∷◌, ◌++◌, Option, Result, Ok, Err, if◌then◌else◌}
 use Rattle.std.specs.Prelude.{codes, decimal}
 use Rattle.std.specs.Io.KnownBytes.{Appends, Keeps}
@@ -14,7 +14,7 @@ abbrev pub status_told : Result Summary RunFault → ℕ
 status_told (Ok summary) = if summary.refused == 0 then 0 else 1
 status_told (Err fault) = 3
 
--- help or the version was asked for: 0 where it was printed; elsewhere the words were refused
+-- help or the version was requested: 0 if it was printed; elsewhere the words were refused
 abbrev pub status_shown : Bool → ℕ
 status_shown true = 0
 status_shown false = 3
@@ -33,7 +33,7 @@ stop_text (LineTooLong line) = codes "studybench: LineTooLong " ++ (decimal line
 stop_text TooManyLines = codes "studybench: TooManyLines\n"
 stop_text OutOfMemory = codes "studybench: OutOfMemory\n"
 
--- a run that stopped is told, or a prefix of that where standard error fails; of another nothing is
+-- a run that stopped is reported, or a prefix of that if standard error fails; of another nothing is written
 abbrev pub IsTold : Result Summary RunFault → Option (List ℕ) → Option (List ℕ) → Type 0
 IsTold (Ok summary) old new = Keeps old new
 IsTold (Err fault) old new = Appends old new (stop_text fault) ⊎ TakesPrefix old new (stop_text fault)

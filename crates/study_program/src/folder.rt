@@ -103,11 +103,11 @@ impl<'r, 'a, R: Files, A: Allocator> TableStore for FolderStore<'r, 'a, R, A> {
     }
 }
 
-/// The pages of a file, read as they are asked.
+/// The pages of a file, read as they are needed.
 #[derive(Drop)]
 pub struct FilePages<F: Read + Seek + Drop> {
     pub file: F,
-    /// How many headers and pages it was asked for. The count stays at the last value of its type.
+    /// How many headers and pages were requested. The count stays at the last value of its type.
     pub asked: u64,
     /// How many of them it did not read. The count stays at the last value of its type.
     pub failures: u64,

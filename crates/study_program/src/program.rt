@@ -75,7 +75,7 @@ fn answer_streams(rt: &HostRuntime, options: &Options<'_>) -> u8 {
     answer_script(rt, &alloc, options, &mut script, &mut out, &mut errors)
 }
 
-/// Answers a script over the files of a folder, tells on `errors` why the run stopped, if it did, and answers the exit status.
+/// Answers a script over the files of a folder, reports on `errors` why the run stopped, if it did, and returns the exit status.
 pub fn answer_script<F: Files, R: Read, W: Write, E: Write, A: Allocator>(
     files: &F,
     alloc: &A,
@@ -95,7 +95,7 @@ pub fn answer_script<F: Files, R: Read, W: Write, E: Write, A: Allocator>(
     ended(errors, &answer)
 }
 
-/// Tells why a run stopped, if it did. Nobody can be told that standard error failed.
+/// Reports why a run stopped, if it did. A failure of standard error cannot be reported.
 fn ended<E: Write>(errors: &mut E, answer: &Result<Summary, RunFault>) -> u8
     ensures status { result ≡ status_told answer.now }
     ensures told { IsTold answer.now (E.contents errors.old) (E.contents errors.new) }

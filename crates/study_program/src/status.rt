@@ -1,4 +1,4 @@
-//! The exit status of the program, and what it tells where a run stops.
+//! The exit status of the program, and the message when a run stops.
 ghost use Rattle.std.specs.Prelude.{◌≡◌, ◌++◌, ◌∷◌, [], codes, decimal, OnOk, OnErr};
 ghost use Rattle.std.specs.Io.KnownBytes.{Appends};
 ghost use Rattle.clap.specs.Values.{kind_of};

@@ -7,7 +7,7 @@ use study_material::Class;
 use study_notation::{FenFault, SanFault};
 use study_values::{FileFault, SourceFault};
 
-/// Why a line is refused. The path of a broken shift is told apart.
+/// Why a line is refused. The path of a broken shift stands apart.
 #[derive(Clone, Copy, Debug, PartialEq, Eq)]
 pub enum Refusal {
     Form(SyntaxFault),

@@ -52,7 +52,7 @@ pub enum Refused<'a, A: Allocator> {
 /// What a command comes to, before it is written.
 pub type Answer<'a, A> = Result<Reply<'a, A>, Refused<'a, A>>;
 
-/// Writes the reply to a line, and tells whether the line was refused.
+/// Writes the reply to a line, and returns whether the line was refused.
 pub fn write_reply<'a, W: Write, A: Allocator>(
     out: &mut W,
     answer: Answer<'a, A>,

@@ -224,7 +224,7 @@ fn put_goal<W: Write>(out: &mut W, goal: Goal) -> Result<(), DeviceFailed>
     }
 }
 
-/// Writes what is told of a node.
+/// Writes the label of a node.
 pub fn put_mark<W: Write>(out: &mut W, steps: &[u16], mark: &Mark) -> Result<(), DeviceFailed>
     ensures ok { OnOk result (Appends (W.contents out.old) (W.contents out.new) (mark_text steps.now mark.now)) }
     ensures err { OnErr result (TakesPrefix (W.contents out.old) (W.contents out.new) (mark_text steps.now mark.now)) }

@@ -71,7 +71,7 @@ studies-more (x ∷ added) a =
     ap (λ (t : List (Plainly × ℕ)). listed_in x.told x.after.state.document x.after.studies ++ t) (studies-more added a)
     ∙ sym (append_assoc (listed_in x.told x.after.state.document x.after.studies) (studies_in added) (listed_in a.told a.after.state.document a.after.studies))
 
--- the study that a line told is the one in the document, and has the number after the others
+-- the study that a line reported is the one in the document, and has the number after the others
 listed-same : (t u : Told) (b c : Document) (i j : ℕ) → t ≡ u → b ≡ c → (study_count u ≡ 1 → i ≡ j) → listed_in t b i ≡ listed_in u c j
 listed-same t Nothing b c i j e f n = ap (λ (x : Told). listed_in x b i) e
 listed-same t ARefusal b c i j e f n = ap (λ (x : Told). listed_in x b i) e

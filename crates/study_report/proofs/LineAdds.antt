@@ -38,7 +38,7 @@ none-in ARefusal document number e = refl
 pub nothing-listed : (Lists : List (Plainly × ℕ) → Type 0) (told : List (Plainly × ℕ)) → Lists told → Lists (told ++ [])
 nothing-listed Lists told kept = subst Lists (sym (append-nil told)) kept
 
--- where no study was told, the list stays
+-- where no study was reported, the list stays
 pub none-listed : (Lists : List (Plainly × ℕ) → Type 0) (r : Result Told RunFault) (told : List (Plainly × ℕ)) (document : Document) (number : ℕ)
     → IfOk r (λ t. study_count t ≡ 0) → Lists told → IfOk r (λ t. Lists (told ++ listed_in t document number))
 none-listed Lists r told document number h kept =

@@ -43,7 +43,7 @@ trusted-checked line k = trusted-ask (command_of line) (λ e. let bad : Checked 
 pub trusted-study : (line : List ℕ) → kind_in (command_of line) ≡ Study → IsTrusted none_trusted line
 trusted-study line k = trusted-ask (command_of line) (λ e. let bad : Study ≡ PassedOver = sym k ∙ e in absurd cc)
 
--- ---- a line that tells a study
+-- ---- a line that reports a study
 
 class-no-study : (o : Option Class) → class_kind o ≡ Study → ⊥
 class-no-study None k = absurd cc

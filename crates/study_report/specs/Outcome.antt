@@ -23,7 +23,7 @@ over_tables classes paged = record {
   shelf = record { files = λ c. None; headers = λ c. None; faults = λ c f. true };
 }
 
--- before the first line: no line was read, and no study was told
+-- before the first line: no line was read, and no study was reported
 abbrev pub begun : State → Point
 begun s = record { state = s; lines = 0; studies = 0 }
 
@@ -64,7 +64,7 @@ module _ (tells : Plainly → ℕ → List ℕ → Type 0) (refusal : ℕ → Li
   IsFollowed first script old new HoldsIt = (added : List Added) × AreAdded (begun first) (script_lines script) added
       × Appends old new (report_text added) × HoldsIt (point_after (begun first) added).state
 
-  -- what all lines of a script add is written, and this is true of the studies that they told
+  -- what all lines of a script add is written, and this is true of the studies that they reported
   abbrev pub AreListed : State → List ℕ → Option (List ℕ) → Option (List ℕ) → (List (Plainly × ℕ) → Type 0) → Type 0
   AreListed first script old new Lists = (added : List Added) × AreAdded (begun first) (script_lines script) added
       × Appends old new (report_text added) × Lists (studies_in added)
@@ -79,7 +79,7 @@ module _ (tells : Plainly → ℕ → List ℕ → Type 0) (refusal : ℕ → Li
   StoppedAfter p lines n added old new TooManyLines = (n ≡ 100000) × Appends old new (report_text added)
   StoppedAfter p lines n added old new fault = Appends old new (report_text added)
 
-  -- after a run that stopped for this fault: this is true of the studies that the lines before the stop told
+  -- after a run that stopped for this fault: this is true of the studies that the lines before the stop reported
   abbrev pub AreListedBefore : State → List ℕ → Option (List ℕ) → Option (List ℕ) → (List (Plainly × ℕ) → Type 0) → RunFault → Type 0
   AreListedBefore first script old new Lists fault = (n : ℕ) × (n ≤ length (script_lines script)) × (added : List Added)
       × AreAdded (begun first) (take n (script_lines script)) added

@@ -17,7 +17,7 @@ use Rattle.study_report.specs.declared.told.Told.{Told}
 use Rattle.study_report.specs.declared.told.Told.TheVariants.{Nothing, Study as AStudy, Refusal as ARefusal}
 use Rattle.study_report.specs.Told.{kind_in, study_count, refusal_count}
 
--- what is written for a line, and what that tells
+-- what is written for a line, and what that reports
 pub record Part : Type 0 where
   pub text : List ℕ
   pub told : Told
@@ -31,14 +31,14 @@ study_part text = record { text = text; told = AStudy }
 abbrev pub parts_text : List Part → List ℕ
 parts_text parts = flat_map (λ part. part.text) parts
 
--- how many studies are told, and how many lines are refused
+-- how many studies are reported, and how many lines are refused
 abbrev pub part_studies : List Part → ℕ
 part_studies parts = sum_by (λ part. study_count part.told) parts
 
 abbrev pub part_refusals : List Part → ℕ
 part_refusals parts = sum_by (λ part. refusal_count part.told) parts
 
--- a part with the property is written, and this was told
+-- a part with the property is written, and this was reported
 abbrev pub WritesPart : (Part → Type 0) → Option (List ℕ) → Option (List ℕ) → Told → Type 0
 WritesPart IsIt old new told = (part : Part) × IsIt part × Appends old new part.text × (told ≡ part.told)
 
@@ -54,8 +54,8 @@ module _ (form : ℕ → List ℕ → Type 0) (refusal : ℕ → List ℕ → Li
   abbrev pub checked_part : ℕ → List ℕ → Piece → Part
   checked_part number line piece = if piece.refused then refused_part number line piece.text else nothing_part
 
-  -- What is written for a line of this number, where the study that is told next has that number: a `pgn` line tells a study, in the report's
-  -- form, or it is refused; another one tells nothing, or it is refused.
+  -- What is written for a line of this number, where the study that is reported next has that number: a `pgn` line reports a study, in the report's
+  -- form, or it is refused; another one reports nothing, or it is refused.
   abbrev pub IsPartAs : Kind → ℕ → ℕ → List ℕ → Part → Type 0
   IsPartAs PassedOver number next line part = part ≡ nothing_part
   IsPartAs NoClass number next line part = part ≡ refused_part number line (error_of (words_of NotAClass)).text

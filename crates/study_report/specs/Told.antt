@@ -1,4 +1,4 @@
--- What a report tells of the lines of a script.
+-- The report of the lines of a script.
 use Rattle.std.specs.Prelude.{◌≡◌, ◌⊎◌, ℕ, suc, Bool, true, false, List, [], ◌∷◌, ◌++◌, Option, Some, None, Ok}
 use Rattle.study_board.specs.Position.{Position}
 use Rattle.study_material.specs.declared.class.Class.{Class}
@@ -25,7 +25,7 @@ abbrev pub class_kind : Option Class → Kind
 class_kind None = NoClass
 class_kind (Some c) = PassedOver
 
--- a line of a table is passed over, or has no class; a `pgn` line tells a study
+-- a line of a table is passed over, or has no class; a `pgn` line reports a study
 abbrev pub kind_in : Asks → Kind
 kind_in (Ok (Some (table_command word name))) = class_kind (class_told name)
 kind_in (Ok (Some pgn)) = Study
@@ -33,7 +33,7 @@ kind_in _ = Checked
 
 -- ---- what a line adds
 
--- between two lines: what the script holds, how many lines were read, and how many studies were told
+-- between two lines: what the script holds, how many lines were read, and how many studies were reported
 pub record Point : Type 0 where
   pub state : State
   pub lines : ℕ
@@ -63,7 +63,7 @@ refusal_count ARefusal = 1
 abbrev pub nothing_added : Point → State → Added
 nothing_added p s = record { text = []; after = record { state = s; lines = suc p.lines; studies = p.studies }; told = Nothing }
 
--- the study is told, with the next number
+-- the study is reported, with the next number
 abbrev pub study_added : Point → State → List ℕ → Added
 study_added p s text = record { text = text; after = record { state = s; lines = suc p.lines; studies = suc p.studies }; told = AStudy }
 
@@ -94,13 +94,13 @@ studies_on empty number = []
 studies_on (start s) number = []
 studies_on (study plain) number = (plain, number) ∷ []
 
--- the study that a line told, which is in this document
+-- the study that a line reported, which is in this document
 abbrev pub listed_in : Told → Document → ℕ → List (Plainly × ℕ)
 listed_in Nothing document number = []
 listed_in AStudy document number = studies_on document number
 listed_in ARefusal document number = []
 
--- the studies that lines told, each with its number
+-- the studies that lines reported, each with its number
 abbrev pub studies_in : List Added → List (Plainly × ℕ)
 studies_in [] = []
 studies_in (a ∷ more) = listed_in a.told a.after.state.document a.after.studies ++ studies_in more

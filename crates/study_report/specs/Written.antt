@@ -15,7 +15,7 @@ use Rattle.study_report.specs.Told.{Added}
 abbrev pub none_trusted : Class → Bool
 none_trusted c = false
 
--- a line with the property added its text, what is held after it is its state, and this was told
+-- a line with the property added its text, what is held after it is its state, and this was reported
 abbrev pub Adds : (Added → Type 0) → (State → Type 0) → Option (List ℕ) → Option (List ℕ) → Told → Type 0
 Adds IsIt HoldsIt old new told = (added : Added) × IsIt added × Appends old new added.text × HoldsIt added.after.state × (told ≡ added.told)
 

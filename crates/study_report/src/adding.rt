@@ -100,7 +100,7 @@ fn refuse_line<'a, A: Allocator, W: Write, T: Report>(
     add_refusal(alloc, report, number, line, reply.taken.as_slice(), out)
 }
 
-/// Answers a line that tells nothing where it is accepted.
+/// Answers a line that reports nothing if it is accepted.
 fn add_checked<'a, 's, S: TableStore, A: Allocator, W: Write, T: Report>(
     session: &mut Session<'a, 's, S, A>,
     report: &mut T,
@@ -175,7 +175,7 @@ fn tell_study<'a, P: PageSource, A: Allocator, W: Write, T: Report>(
     }
 }
 
-/// Answers a line that tells the study where it is accepted, after so many studies.
+/// Answers a line that reports the study if it is accepted, after so many studies.
 fn add_pgn<'a, 's, S: TableStore, A: Allocator, W: Write, T: Report>(
     session: &mut Session<'a, 's, S, A>,
     report: &mut T,

@@ -20,7 +20,7 @@ use study_command::{Line, LineFault, read_byte};
 use study_script::{Document, RunFault, Session, Summary, TableStore, Tables};
 use study_tablefile::PageSource;
 
-/// Follows a script from what a session holds, and has its studies and its refused lines told. The session holds what the script leaves.
+/// Follows a script from a session's state, and reports its studies and its refused lines. The session keeps what the script leaves.
 /// Studies are kept apart, whatever the session's setting: a refused `position` leaves none that the lines behind it could edit.
 pub fn follow<'a, 's, R: Read, W: Write, S: TableStore, A: Allocator, T: Report>(
     line: &mut Line<'_, A>,
@@ -113,7 +113,7 @@ pub fn follow_script<'a, R: Read, W: Write, P: PageSource, A: Allocator, T: Repo
     follow_over(alloc, script, out, report, tables, &mut store)
 }
 
-/// The same over a store, of which no file is opened: what is known of its files tells for which faults these tables may not be read.
+/// The same over a store, of which no file is opened: what is known of its files says for which faults these tables may not be read.
 pub fn follow_over<'a, R: Read, W: Write, S: TableStore, A: Allocator, T: Report>(
     alloc: &'a A,
     script: &mut R,

@@ -14,9 +14,9 @@ pub enum Kind {
     PassedOver,
     /// It is of a table of no class, and is refused.
     NoClass,
-    /// It is answered, and tells the study where it is accepted.
+    /// It is answered, and reports the study if it is accepted.
     Study,
-    /// It is answered, and tells nothing where it is accepted.
+    /// It is answered, and reports nothing if it is accepted.
     Checked,
 }
 

@@ -1,7 +1,7 @@
 //! A report of the studies of a script.
 //!
-//! `follow` goes through a script as studybench does and has each accepted `pgn` line told by a `Report`, and each refused line
-//! in its place. Lines of tables are skipped: the tables are those that are held before the first line. `Lines` tells facts as
+//! `follow` goes through a script as studybench does and hands the study of each accepted `pgn` line to a `Report`, and each refused line
+//! in its place. Lines of tables are skipped: the tables are those that are loaded before the first line. `Lines` writes facts as
 //! lines of plain text. `follow_script` takes the tables, and needs no files;
 //! `follow_over` takes a store beside them, of which it opens none.
 #![tactic(auto)]

@@ -17,7 +17,7 @@ use study_text::DeviceFailed;
 use study_values::Values;
 use thiserror::Error;
 
-/// Why a refused line is not told, or not whole.
+/// Why a refused line is not reported, or not whole.
 #[derive(Clone, Copy, Debug, PartialEq, Eq, Error)]
 pub enum NotTold {
     #[error("no memory is left for the text")]
@@ -39,19 +39,19 @@ impl From<DeviceFailed> for NotTold {
 
 /// What a report writes of a study, and of a line that is refused.
 pub trait Report {
-    /// The text tells of the study, as the one of this number.
+    /// The text reports the study, as the one of this number.
     ghost tells: { Plainly → ℕ → List ℕ → Type 0 };
 
     /// Of what form each text of a study is, the one of this number, whatever its values are.
     ghost form: { ℕ → List ℕ → Type 0 };
 
-    /// What is told of a refused line: of its number among all lines, its bytes, and the script's reply to it.
+    /// The report of a refused line: its number among all lines, its bytes, and the script's reply to it.
     ghost refusal: { ℕ → List ℕ → List ℕ → List ℕ };
 
-    /// What the report keeps for its end is of these studies, each with its number, in the order in which they were told.
+    /// What the report keeps for its end is of these studies, each with its number, in the order in which they were reported.
     ghost lists: { Self → List (Plainly × ℕ) → Type 0 };
 
-    /// Tells of a study, the one of this number. Nothing is written before its last value was asked.
+    /// Reports a study, the one of this number. Nothing is written before its last value was probed.
     fn add_study<'a, 'b, A: Allocator, B: Allocator, V: Values, W: Write>(
         &mut self,
         alloc: &'a A,

@@ -2,7 +2,7 @@
 ghost use Rattle.std.specs.Prelude.{◌≡◌};
 ghost use Rattle.study_report.specs.Told.{study_count, refusal_count};
 
-/// The number of a line, and how many studies were told before it.
+/// The number of a line, and how many studies were reported before it.
 #[derive(Clone, Copy, Debug, PartialEq, Eq)]
 pub struct Place {
     pub line: u32,
@@ -18,7 +18,7 @@ pub enum Told {
 }
 
 impl Told {
-    /// How many studies were told: one, or none.
+    /// How many studies were reported: one, or none.
     pub fn studies(self) -> u32
         ensures { result ≡ study_count self }
     {

@@ -15,7 +15,7 @@ the folder is opened before the first line. A line that is refused is told where
 
 Exit status: 0 no line was refused; 1 some line was; 2 the command line was; 3 the run stopped at a fault.";
 
-/// How studies are told.
+/// The form of the report.
 #[derive(Clone, Copy, Debug, PartialEq, Eq)]
 pub enum Form {
     /// As printed pages, in HTML.
@@ -24,16 +24,16 @@ pub enum Form {
     Lines,
 }
 
-/// What the command line asks for.
+/// The options of the command line.
 #[derive(Clone, Copy, Debug)]
 pub struct Options<'a> {
     /// The folder of the files of tables: never an empty text, of which the files would stand in the root folder.
     pub tables: &'a str,
     /// How many pages of tables are kept: 1 to 4,096.
     pub pages: u16,
-    /// How studies are told.
+    /// The form of the report.
     pub form: Form,
-    /// Whether standard error is told how many studies were printed, after every ten.
+    /// Whether the number of studies printed is written to standard error, after every ten.
     pub progress: bool,
     ghost named: { 0 < length tables.now },
     ghost some: { 1 ≤ pages },
@@ -100,7 +100,7 @@ fn pages_of(given: Option<u16>) -> u16
     }
 }
 
-/// The form that is asked for.
+/// The form that the options name.
 fn form_of(lines: bool) -> Form {
     if lines { Form::Lines } else { Form::Pages }
 }

@@ -20,7 +20,7 @@ use study_program::{FolderStore, status_of, status_without_options, words_of};
 use study_report::{Lines, follow_script};
 use study_script::{RunFault, Summary, Tables};
 
-/// Reads the script from standard input and writes what is told of each study to standard output as soon as its line is answered.
+/// Reads the script from standard input and writes the report of each study to standard output as soon as its line is answered.
 ///
 /// The exit status is 0 where no line was refused, 1 where some line was, 2 where the command line was refused, and 3
 /// where the run stopped at a fault, whose name then goes to standard error.
@@ -73,7 +73,7 @@ fn report_streams(rt: &HostRuntime, options: &Options<'_>) -> u8 {
     report_script(rt, &alloc, options, &mut script, &mut out, &mut errors)
 }
 
-/// Reports a script over the tables of a folder, tells on `errors` which files give no table and why the run stopped, if it did, and
+/// Reports a script over the tables of a folder, reports on `errors` which files give no table and why the run stopped, if it did, and
 /// answers the exit status.
 pub fn report_script<F: Files, A: Allocator, R: Read, W: Write, E: Write>(
     files: &F,
@@ -86,14 +86,14 @@ pub fn report_script<F: Files, A: Allocator, R: Read, W: Write, E: Write>(
     ensures { EndsBy (IsReported options.now.form (R.remaining script.old) (R.remaining script.new) (W.contents out.old) (W.contents out.new)) result }
 {
     let mut answer = report_over_files(files, alloc, options, script, out, errors);
-    // What is left in a buffer of the writer is told too.
+    // A failure to write what is left in the writer's buffer is reported too.
     if out.flush().is_err() {
         answer = Err(RunFault::WriteDevice);
     }
     ended(errors, &answer)
 }
 
-/// Tells why a run stopped, if it did. Nobody can be told that standard error failed.
+/// Reports why a run stopped, if it did. A failure of standard error cannot be reported.
 fn ended<E: Write>(errors: &mut E, answer: &Result<Summary, RunFault>) -> u8
     ensures { result ≡ status_told answer.now }
 {
@@ -103,7 +103,7 @@ fn ended<E: Write>(errors: &mut E, answer: &Result<Summary, RunFault>) -> u8
     status_of(answer)
 }
 
-/// Reports a script over the tables of a folder, and tells on `errors` which files give no table.
+/// Reports a script over the tables of a folder, and reports on `errors` which files give no table.
 fn report_over_files<F: Files, A: Allocator, R: Read, W: Write, E: Write>(
     files: &F,
     alloc: &A,

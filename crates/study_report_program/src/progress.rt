@@ -4,7 +4,7 @@ use crate::status::put_studies;
 use std::io::Write;
 use study_print::Watch;
 
-/// Tells after every ten studies how many were printed, where that is asked for.
+/// Reports after every ten studies how many were printed, if the option is set.
 #[derive(Drop)]
 pub struct Progress<'e, E: Write> {
     pub errors: &'e mut E,
@@ -14,7 +14,7 @@ pub struct Progress<'e, E: Write> {
 impl<'e, E: Write> Watch for Progress<'e, E> {
     fn told(&mut self, count: u32) {
         if self.asked && count % 10 == 0 {
-            // Nobody can be told that standard error failed.
+            // A failure of standard error cannot be reported.
             let _ = put_studies(self.errors, count);
         }
     }

@@ -1,4 +1,4 @@
-//! What the program tells on standard error.
+//! The messages of the program on standard error.
 ghost use Rattle.std.specs.Prelude.{◌++◌, codes, decimal, OnOk, OnErr};
 ghost use Rattle.std.specs.Io.KnownBytes.{Appends};
 ghost use Rattle.study_text.specs.Taken.{TakesPrefix};
@@ -11,7 +11,7 @@ use study_text::{DeviceFailed, write_text};
 
 /// Tells why a run stopped, in a line of its own: `studyreport: LineTooLong 3`.
 ///
-/// No contract: `tools/report_faults.py` tells it.
+/// No contract: `tools/report_faults.py` tests it.
 pub fn put_stop<W: Write>(out: &mut W, fault: RunFault) -> Result<(), DeviceFailed> {
     match fault {
         RunFault::ReadDevice => write_text(out, b"studyreport: ReadDevice\n"),

@@ -19,7 +19,7 @@ enum NoTable {
     Fault(Refusal),
 }
 
-/// A fault of a source of pages, as a script tells it.
+/// A fault of a source of pages, in the words of a script's reply.
 fn refusal_of(fault: PagedFault) -> Refusal
     ensures { result ≡ refusal_of_paged fault }
 {
@@ -50,7 +50,7 @@ fn open_table<'a, S: TableStore, A: Allocator>(
     }
 }
 
-/// Tells the fault of a file. Nobody can be told that standard error failed.
+/// Reports the fault of a file. A failure of standard error cannot be reported.
 fn tell_fault<A: Allocator, E: Write>(alloc: &A, errors: &mut E, class: Class, refusal: Refusal) {
     let mut reply = MemoryWriter::new(alloc);
     if refuse(&mut reply, refusal).is_ok() {
@@ -58,9 +58,9 @@ fn tell_fault<A: Allocator, E: Write>(alloc: &A, errors: &mut E, class: Class, r
     }
 }
 
-/// Opens each table whose file is there, in the order of the class list, and tells the fault of each file that gives no table.
+/// Opens each table whose file is there, in the order of the class list, and reports the fault of each file that gives no table.
 ///
-/// No contract: `tools/report_faults.py` tells it.
+/// No contract: `tools/report_faults.py` tests it.
 pub fn open_tables<'a, S: TableStore, A: Allocator, E: Write>(
     alloc: &'a A,
     tables: &mut PagedTables<'a, S::Pages, A>,

@@ -1,4 +1,4 @@
--- The positions before quiet moves, by the men that a number tells.
+-- The positions before quiet moves, by the men that a number encodes.
 use Rattle.std.proofs.Common.{◌≡◌, ℕ, ◌+◌, ◌<◌, ◌≤◌, ◌⊎◌, inl, inr, arith, Bool, true, false, List, slice_index, Contains, Option, Some, None, refl, sym, ◌∙◌, ap, subst}
 use Rattle.std.proofs.lemmas.Bool.{and_parts, false≢true}
 use Rattle.std.specs.List.Sorted.{IsPermutation}

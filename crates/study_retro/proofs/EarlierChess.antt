@@ -181,7 +181,7 @@ pub record IsLed (c : Class) (r : Position) (n : ℕ) : Type 0 where
   pub lands : index_of to ≡ n
 
 module _ (c : Class) where
-  -- numbers that differ in the bit alone tell the same men and side to move
+  -- numbers that differ in the bit alone encode the same men and side to move
   same_plain : (k : ℕ) (o p : Position) → position_numbered c k ≡ Some o → position_numbered c (k + 16777216) ≡ Some p → without_passed p ≡ without_passed o
   same_plain k o p e f =
       let plain : ℕ → Position = λ j. record { men = in_order (told_men (slots_of c) j); to_move = told_side (slots_of c) j; passed = None } in

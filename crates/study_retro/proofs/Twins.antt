@@ -129,7 +129,7 @@ AreAbreast-live p v live =
     let t = taker p r.0 v (sym (ap (λ (o : Option ℕ). is_taken p o) r.1) ∙ live) in
     abreast_by p p.to_move r.0 t.at r.2 t.there t.takes
 
--- the squares of the pawns that a number tells
+-- the squares of the pawns that a number encodes
 told_white : (n a : ℕ) → list_any (λ m. is_man White Pawn m && (m.at == a)) (told_men (slots_of KPKP) n) ≡ true → n / 64 % 64 ≡ a
 told_white n a e = elim (or_cases (n / 64 % 64 == a) false e) [ inl t ↦ eqb-true (n / 64 % 64) a t | inr f ↦ absurd (false≢true f) ]
 
@@ -158,7 +158,7 @@ HasTwin-from c n p at =
     by_live true e l = (refl, omega (arith, e))
     by_live false e l = absurd (omega (arith, e, l))
 
--- where a class has pawns of one side alone, or the pawns that the number tells are not beside one another, there is none
+-- where a class has pawns of one side alone, or the pawns that the number encodes are not beside one another, there is none
 pub single_twinless : (c : Class) (n : ℕ) → has_both_pawns (lists_of c) ≡ false → IsTwinless c n
 single_twinless c n single p at =
     let t = HasTwin-from c n p at in

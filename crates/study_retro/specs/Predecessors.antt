@@ -46,7 +46,7 @@ IsTwinless c n = (p : Position) → position_numbered c (n + 16777216) ≡ Some 
 abbrev pub LeavesNone : Class → ℕ → ℕ → ℕ → Type 0
 LeavesNone c a x n = PassesNone c a x ⊎ IsTwinless c n
 
--- the men and the side to move are those that the number tells
+-- the men and the side to move are those that the number encodes
 abbrev pub AreTold : Class → ℕ → List Man → Side → Type 0
 AreTold c number men side = (men ≡ told_men (slots_of c) (without_bit number)) × (side ≡ told_side (slots_of c) (without_bit number))
 

@@ -1,4 +1,4 @@
--- What a report tells of a table's cells.
+-- The report of a table's cells.
 use Rattle.std.specs.Prelude.{◌≡◌, ℕ, ◌<◌, ◌≤◌, max, List, length, slice_index, Option, Some, None}
 use Rattle.study_values.specs.declared.value.Value.{Value}
 use Rattle.study_values.specs.declared.value.Value.TheVariants.{Win, Loss, Draw}
@@ -14,13 +14,13 @@ loss_of (Win n) = None
 loss_of (Loss n) = Some n
 loss_of Draw = None
 
--- some cell tells a distance, by a way to read distances off values
+-- some cell has a distance, by a way to read distances off values
 pub record Tells (distance : Value → Option ℕ) (cells : List ℕ) (n : ℕ) : Type 0 where
   pub cell : ℕ
   pub inside : cell < length cells
   pub is : distance (value_of (slice_index cells cell)) ≡ Some n
 
--- the greatest distance that some cell tells, None where no cell tells one
+-- the greatest distance of the cells, None where no cell has one
 abbrev pub IsGreatest : (Value → Option ℕ) → List ℕ → Option ℕ → Type 0
 IsGreatest distance cells None = (n : ℕ) → Tells distance cells n → ⊥
 IsGreatest distance cells (Some n) = Tells distance cells n × ((m : ℕ) → Tells distance cells m → m ≤ n)

@@ -17,7 +17,7 @@ use Rattle.study_retro.specs.Still.{HasMove, IsWonAfter, QuietMovesLose, QuietMo
 abbrev pub AreAmong : ℕ → ℕ → Type 0
 AreAmong few all = (y : ℕ) → y < 64 → has few y ≡ true → has all y ≡ true
 
--- by the men that the number tells, the man is one of the side to move, and goes to the square, on which none stands
+-- by the men that the number encodes, the man is one of the side to move, and goes to the square, on which none stands
 pub record CanGo (c : Class) (number : ℕ) (man : Man) (x : ℕ) : Type 0 where
   pub among : Contains (told_men (slots_of c) (without_bit number)) man
   pub own : same_side man.side (told_side (slots_of c) (without_bit number)) ≡ true

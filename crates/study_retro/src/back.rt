@@ -1,4 +1,4 @@
-//! Steps back from a decided position by the squares that its number tells, where no capture in passing is legal.
+//! Steps back from a decided position by the squares that its number encodes, where no capture in passing is legal.
 ghost use Rattle.std.specs.Prelude.{◌≡◌, ◌<◌, ℕ, length, Some, Contains};
 ghost use Rattle.study_board.specs.Position.{Position as Seen};
 ghost use Rattle.study_moves.specs.Unmoves.{CanHaveLed, move_from};
@@ -22,7 +22,7 @@ pub struct Change {
     pub over: bool,
 }
 
-/// Sets a cell, where it tells of no mate, or of none so near.
+/// Sets a cell, unless it has a mate, or one as near.
 #[inline]
 pub fn write_cell(cells: &mut [u8], number: u32, change: Change)
     requires number { number < length cells.old }
@@ -68,7 +68,7 @@ pub fn write_from(
     }
 }
 
-/// Sets the cells of the positions from which a quiet move of the man leads to the position of this number, and tells how
+/// Sets the cells of the positions from which a quiet move of the man leads to the position of this number, and returns how
 /// many they are.
 #[inline]
 pub fn write_before_man(
@@ -105,7 +105,7 @@ pub fn write_before_man(
     u64::from(all.len())
 }
 
-/// Sets the cells of the positions from which a quiet move leads to the position of this number, and tells how many they
+/// Sets the cells of the positions from which a quiet move leads to the position of this number, and returns how many they
 /// are.
 pub fn write_before(class: Class, cells: &mut [u8], number: u32, change: Change) -> u64
     requires numbered { (q : Seen) × (position_numbered class number ≡ Some q) }

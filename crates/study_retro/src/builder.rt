@@ -119,7 +119,7 @@ fn at_least(known: Option<u8>, n: u8) -> u8
     }
 }
 
-/// The greatest distances that the cells tell.
+/// The greatest distances that the cells encode.
 fn greatest_distances(cells: &[u8]) -> DeepestMates
     ensures win { IsGreatest win_of cells.now result.win }
     ensures loss { IsGreatest loss_of cells.now result.loss }

@@ -128,7 +128,7 @@ fn leads_to(at: &Position, from: &Position, by: Move, number: u32) -> bool
     index(&played(from, by)) == number
 }
 
-/// Whether a square is passed after a legal move. Most moves tell it by the ranks they go over.
+/// Whether a square is passed after a legal move. The ranks that a move goes over decide it for most moves.
 #[inline]
 fn passes(from: &Position, by: &Move) -> bool
     requires { is_legal from.now by.now ≡ true }

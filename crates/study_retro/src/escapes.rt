@@ -1,4 +1,4 @@
-//! Whether quiet moves lose, by the squares that a number tells, where no capture in passing is legal.
+//! Whether quiet moves lose, by the squares that a number encodes, where no capture in passing is legal.
 ghost use Rattle.std.specs.Prelude.{◌≡◌, ◌<◌, ℕ, true, false, length, IsTrue, Some, Contains};
 ghost use Rattle.study_board.specs.Men.{same_side};
 ghost use Rattle.study_board.specs.Sets.{has};

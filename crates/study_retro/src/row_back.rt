@@ -26,7 +26,7 @@ use study_material::Class;
 use study_values::EN_PASSANT_BIT;
 
 /// Sets the cell of a number without the bit of a capture in passing, and that of the number with it, if it has a position:
-/// each where it tells of no mate, or of none so near.
+/// each unless it has a mate, or one as near.
 #[inline(always)]
 fn write_with_twin(class: Class, cells: &mut [u8], number: u32, change: Change)
     requires number { number < cells_of class }
@@ -161,7 +161,7 @@ fn write_led(
 }
 
 /// Sets the cells of the positions from which a quiet move of one of the other men leads to some positions of a row, and
-/// tells how many they are: number by number.
+/// returns how many they are: number by number.
 fn write_before_man_each(
     row: &Row,
     cells: &mut [u8],
@@ -450,7 +450,7 @@ fn write_before_men(row: &Row, cells: &mut [u8], decided: SquareSet, change: Cha
 }
 
 /// Sets the cells of the positions from which a quiet move leads to the position of a number of the row whose square is in
-/// the set, and tells how many they are.
+/// the set, and returns how many they are.
 pub fn write_before_row(
     class: Class,
     cells: &mut [u8],

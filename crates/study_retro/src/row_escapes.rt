@@ -31,7 +31,7 @@ use study_board::{Kind, Man, Side, Square, SquareSet, between};
 use study_index::{Departure, RowDeparture, row_of_last, told};
 use study_levels::{is_lost_by_moves, tells_win};
 
-/// Of some squares of a row, those whose cell tells of a win within `level` plies.
+/// Of some squares of a row, those whose cell has a win within `level` plies.
 #[inline]
 fn squares_won(cells: &[u8], row: u32, set: SquareSet, level: u8) -> SquareSet
     requires row { row < 1048576 }

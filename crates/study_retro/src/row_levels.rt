@@ -51,7 +51,7 @@ pub fn lower_each<G: Game>(
 }
 
 /// Positions of a row that are won in `level` plies, each gone back from by its moves: what leads to one of them is marked,
-/// where it tells of no mate.
+/// where it has no mate yet.
 pub fn mark_each<G: Game>(
     game: &G,
     cells: &mut [u8],
@@ -114,7 +114,7 @@ pub fn lost_of_each<G: LabelledGame>(
 }
 
 /// Sets the cells of the positions from which a quiet move leads to the position of a number of the row whose square is in
-/// the set, and tells how many they are.
+/// the set, and returns how many they are.
 pub fn write_before_each(
     class: Class,
     cells: &mut [u8],

@@ -97,7 +97,7 @@ fn are_restless(
         || has_king_in(others, to_move, theirs)
 }
 
-/// Squares of the man of the last slot with which the other king could be taken; none are told of a king.
+/// Squares of the man of the last slot with which the other king could be taken; none if that man is a king.
 #[inline]
 fn squares_without_position(others: &[Man], last: &Man, to_move: Side) -> SquareSet
     ensures { (y : ℕ) → y < 64 → has result y ≡ true → in_check (others.now ++ on_square last.now y ∷ []) (other_side to_move) ≡ true }

@@ -153,7 +153,7 @@ fn is_no_mate(class: Class, number: u32, setup: &Setup) -> bool
 }
 
 /// Whether nothing is known of a number without the bit before the levels: it has no position, or one in which the side to
-/// move is not mated and has quiet moves alone. Some numbers without a position are not told.
+/// move is not mated and has quiet moves alone. Some numbers without a position are left out.
 #[inline]
 fn begins_still(class: Class, number: u32) -> bool
     requires { number < 16777216 }
@@ -167,7 +167,7 @@ fn begins_still(class: Class, number: u32) -> bool
     could_take_king(class, number, &setup, attacked)
 }
 
-/// Whether nothing is known of the number before the levels. Of numbers with the bit only such are told as have no position
+/// Whether nothing is known of the number before the levels. Of numbers with the bit only such are counted as have no position
 /// by the squares of their pawns.
 pub fn begins_unknown(class: Class, number: u32) -> bool
     ensures { IsTrue result → (q : Seen) → position_numbered class number ≡ Some q → (number < 16777216) × IsStill q }

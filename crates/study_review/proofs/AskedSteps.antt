@@ -13,7 +13,7 @@ use Rattle.study_marks.proofs.FaultsTold.{told-append}
 use Rattle.study_review.specs.Asked.{HasTold}
 
 module _ {V : Type 0} (gives : V → Position → ProbeAnswer → Type 0) (may_fail : V → Class → SourceFault → Type 0) (asked_of : V → ℕ) where
-  -- some positions were asked, and the value of each was told; or of each but the last
+  -- some positions were probed, and the value of each was read; or of each but the last
   abbrev pub SomeTold : V → V → Type 0
   SomeTold old new = (asked : List Position) × WereTold gives may_fail asked_of old asked new
 
@@ -39,7 +39,7 @@ module _ {V : Type 0} (gives : V → Position → ProbeAnswer → Type 0) (may_f
   asked-then old mid new (Ok y) h k = told-then old mid new h k
   asked-then old mid new (Err f) h k = fault-then old mid new f h k
 
-  -- one position was asked
+  -- one position was probed
   pub asked-one : (old new : V) (p : Position) (r : ProbeAnswer) → IsValid p → gives old p r → asked_of new ≡ counted (asked_of old)
       → ((c : Class) (f : SourceFault) → IsOf c p → IsErrOf r (probe.TableRead f) → may_fail old c f)
       → ((c : Class) (f : SourceFault) → may_fail new c f → may_fail old c f)

@@ -1,4 +1,4 @@
--- Calls that ask values, one after the other.
+-- Calls that probe values, one after the other.
 use Rattle.std.proofs.Common.{◌≡◌, ℕ, Bool, false, List, Result, Ok, Err, IsErrAnd, IsErrOf, IfErr, refl, sym, ap, subst, ◌∙◌}
 use Rattle.study_board.specs.Position.{Position, IsValid}
 use Rattle.study_material.specs.declared.class.Class.{Class}

@@ -16,7 +16,7 @@ use Rattle.study_review.specs.Continuations.{chosen, is_among, is_draw, AreChose
 use Rattle.study_review.specs.Told.{AreTold, failing, drawing, apart, besides}
 use Rattle.study_review.proofs.Chosen.{one-added}
 
--- one more move is told
+-- one more move is written
 pub told-one : {T E : Type 0} (p : Position) (m : Move) (ms rest : List Move) (old mid new : List Continuation) (r : Result T E) → ms ≡ m ∷ rest
     → ((v : Value) × IsValueOf (after p m) v × (mid ≡ old ++ (record { played = m; value = v }) ∷ []))
     → OnOk r (AreTold p rest mid new) → OnOk r (AreTold p ms old new)

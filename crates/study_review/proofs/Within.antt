@@ -171,7 +171,7 @@ module _ {V : Type 0} (may_fail : V → Class → SourceFault → Type 0) (asked
     fault-each old new (q ∷ qs) e r n (inr (v, mid, a, h)) =
         inr (v, mid, answers-more gives (within p gives) old q (Ok v) mid (λ g. (g, r.0, value-within p v)) a, fault-each mid new qs e r.1 n h)
 
-    -- these were asked, to each of which the position leads
+    -- these were probed, to each of which the position leads
     pub some-told : (old new : V) (qs : List Position) → EachReached p qs → WereTold gives may_fail asked_of old qs new
         → (asked : List Position) × WereTold (within p gives) may_fail asked_of old asked new
     some-told old new qs r h = (qs, told-each old new qs r h)

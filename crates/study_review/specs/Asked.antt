@@ -23,7 +23,7 @@ IsWithinNeeds p answer = IsValid p → (c : Class) → answer ≡ Err (NoTable c
 abbrev pub within : {V : Type 0} → Position → (V → Position → ProbeAnswer → Type 0) → V → Position → ProbeAnswer → Type 0
 within p gives v q answer = gives v q answer × IsReached p q × IsWithinNeeds p answer
 
--- Positions were asked one after the other, and the value of each was told; or of each but the last, whose answer was the fault.
+-- Positions were probed one after the other, and the value of each was read; or of each but the last, whose answer was the fault.
 abbrev pub HasTold : {V T : Type 0} → (V → Position → ProbeAnswer → Type 0) → (V → Class → SourceFault → Type 0)
     → (V → ℕ) → V → Result T ProbeFault → V → Type 0
 HasTold gives may_fail asked_of old (Ok x) new = (asked : List Position) × WereTold gives may_fail asked_of old asked new
@@ -31,14 +31,14 @@ HasTold gives may_fail asked_of old (Err f) new = (asked : List Position) × IsF
 
 module _ {V : Type 0} (held : V → Class → Bool) (gives : V → Position → ProbeAnswer → Type 0)
     (may_fail : V → Class → SourceFault → Type 0) (asked_of failed_of : V → ℕ) (is_honest : V → Type 0) where
-  -- some positions were asked, and each value was told
+  -- some positions were probed, and each value was read
   pub record AllTold (old new : V) : Type 0 where
     pub told : (asked : List Position) × WereTold gives may_fail asked_of old asked new
     pub failures : failed_of new ≡ failed_of old
     pub honest : is_honest old → is_honest new
     pub tables : (c : Class) → held new c ≡ held old c
 
-  -- some positions were asked, and each value was told but the last, for this fault
+  -- some positions were probed, and each value was read but the last, for this fault
   pub record Stopped (old : V) (f : ProbeFault) (new : V) : Type 0 where
     pub told : (asked : List Position) × IsFirstFault gives may_fail asked_of old asked f new
     pub untold : (c : Class) → f ≡ NoTable c → held old c ≡ false

@@ -100,7 +100,7 @@ PlainStudiesHaveOneReview =
 
 module _ {V : Type 0} (held : V → Class → Bool) (gives : V → Position → ProbeAnswer → Type 0)
     (may_fail : V → Class → SourceFault → Type 0) (asked_of failed_of : V → ℕ) (is_honest : V → Type 0) where
-  -- each value was told, unless the call was refused for the first that was not
+  -- each value was read, unless the call was refused for the first that was not
   abbrev pub HasReviewed : {T : Type 0} → V → Result T ReviewFault → V → Type 0
   HasReviewed old (Ok x) new = AllTold held gives may_fail asked_of failed_of is_honest old new
   HasReviewed old (Err OutOfMemory) new = AllTold held gives may_fail asked_of failed_of is_honest old new

@@ -1,4 +1,4 @@
--- Not part of any public contract: what is written of moves whose values were told.
+-- Not part of any public contract: what is written of moves whose values were read.
 use Rattle.std.specs.Prelude.{◌≡◌, ℕ, ◌+◌, true, not, ◌&&◌, List, [], ◌∷◌, ◌++◌, length}
 use Rattle.std.specs.List.{flat_map, filter}
 use Rattle.study_board.specs.Position.{Position}

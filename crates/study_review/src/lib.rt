@@ -1,11 +1,11 @@
-//! What a review of a study tells of its nodes, by the game's values.
+//! The review of a study: facts of its nodes, by the game's values.
 //!
 //! `place_in` finds a node of a study, with its line, `made_in` a move and the node before it, `children_in` the moves that
 //! the tree has there. `holding_moves`, `alternatives`, `refutations` and `missing_moves`
 //! list legal moves of a position with the values after them, `timed_alternatives` also with the time that they lose:
-//! `time_lost` tells whether a move only loses time. `best_move` and `best_play` tell how it goes on with best play.
-//! `is_in_solution` tells the nodes of the solution. `write_review` writes all of it, a fact a line, in one
-//! walk. Values are asked where they are needed, and kept for the lines of one node.
+//! `time_lost` says whether a move only loses time. `best_move` and `best_play` give the best play from a position.
+//! `is_in_solution` is true of the nodes of the solution. `write_review` writes all of it, a fact a line, in one
+//! walk. Values are probed where they are needed, and kept for the lines of one node.
 #![tactic(auto)]
 
 mod answers;

@@ -97,7 +97,7 @@ pub fn place_in<'b, B: Allocator>(bench: &Bench<'b, B>, steps: &[u16]) -> Option
     }
 }
 
-/// The move that led to the node at the path, and where the node before it stands, if there is such a node and it is not
+/// The move that led to the node at the path, and the path of the node before it, if there is such a node and it is not
 /// the root.
 pub fn made_in<'b, B: Allocator>(bench: &Bench<'b, B>, steps: &[u16]) -> Option<Made>
     ensures none { IfNone result (played_by (spot_at (marked bench.now).tree steps.now) ≡ None) }

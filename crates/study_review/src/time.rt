@@ -51,7 +51,7 @@ pub fn all_lose_time(list: &[Alternative]) -> bool
     list.iter().all(|x| x.time.is_some())
 }
 
-/// The time that is lost by a move to this position, told where the hero is to win.
+/// The time that is lost by a move to this position, if the hero is to win.
 pub fn time_told<V: Values>(
     goal: Goal,
     line: &[Position],

@@ -1,4 +1,4 @@
-//! The legal moves of a position with the values after them, asked once and read by all that is written of the position.
+//! The legal moves of a position with the values after them, probed once and read by all that is written of the position.
 ghost use Rattle.std.specs.Prelude.{◌≡◌, ◌+◌, ◌≤◌, ◌++◌, ◌∷◌, [], true, length, vec_len, OnOk, IfOk};
 ghost use Rattle.std.specs.List.{All};
 ghost use Rattle.study_moves.specs.Rules.{is_legal, after};
@@ -73,7 +73,7 @@ fn ask_each<'a, A: Allocator, V: Values>(
     }
 }
 
-/// The legal moves of the position with the values after them, in the place of what was told before.
+/// The legal moves of the position with the values after them, in the place of those of the position before.
 pub fn ask_moves<'a, A: Allocator, V: Values>(
     p: &Position,
     values: &mut V,

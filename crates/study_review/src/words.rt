@@ -34,7 +34,7 @@ pub fn add_counted<A: Allocator>(
     text.add_number(number as u32)
 }
 
-/// A value as the script tells it: `win 3`, in plies.
+/// A value in the words of a script's reply: `win 3`, in plies.
 pub fn add_value<A: Allocator>(text: &mut Text<'_, A>, value: Value) -> Result<(), AllocError>
     ensures { OnOk result (text.new ≡ text.old ++ value_words value) }
 {

@@ -203,7 +203,7 @@ fn text_of<'a, 'b, A: Allocator, B: Allocator, V: Values>(
 
 /// Writes the review of a study, the one of this number.
 ///
-/// The text is made whole first, so want of memory, and a value that is not told, is told before the first byte. A writer
+/// The text is made whole first, so want of memory, and a value that cannot be read, is reported before the first byte. A writer
 /// that fails or takes nothing ends the call; it took a front of the text then. The study is walked once. The time grows
 /// with the number of nodes, and with the depth of each, since a node is looked up along its path.
 pub fn write_review<'a, 'b, A: Allocator, B: Allocator, V: Values, W: Write>(

@@ -1,4 +1,4 @@
--- The replies to edits that ask the tables.
+-- The replies to edits that probe the tables.
 use Rattle.std.proofs.Common.{◌≡◌, ℕ, Bool, true, List, [], ◌∷◌, refl, sym, ◌∙◌, inl, inr}
 use Rattle.study_board.specs.Position.{Position}
 use Rattle.study_material.specs.declared.class.Class.{Class}
@@ -86,7 +86,7 @@ refused_asking A s held paged asked new text edit.TreeFull e m out told clean of
 refused_asking A s held paged asked new text (edit.ShiftBroken steps) e m out told clean of_tables failing = absurd out
 refused_asking A s held paged asked new text edit.TagText e m out told clean of_tables failing = absurd out
 
--- an edit that is accepted found all that it asked
+-- an edit that is accepted found all that it probed
 pub accepted_outside : (s : State) (held : Class → Bool) (asked : List Position) (new : Plainly) (text : List ℕ)
     → ((c : Class) → held c ≡ is_among s.classes c) → AllHeld held asked
     → IsAskedReply s quiet asked new text (accepted (holding s new) text)

@@ -65,7 +65,7 @@ module _ {P A : Type 0} where
         faults = λ c f m. h.faults c f (fails c f m);
       }
 
-  -- the document stays, and tables were asked
+  -- the document stays, and tables were probed
   pub document_same : (honest : P → Table → ℕ → Type 0) (gives : GivesOf P) (b : HeldDocument A) (t u : Tables P A) (s : State)
       → Holds honest gives b t s → tables_honest honest u → ((c : Class) → tables_held u c ≡ tables_held t c)
       → are_paged u ≡ are_paged t

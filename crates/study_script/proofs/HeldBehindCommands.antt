@@ -178,7 +178,7 @@ module _ {S : Type 0} (stores : S → Bool → Type 0) (files headers : S → Cl
 
 module _ {S P A : Type 0} (sources : P → Table → ℕ → Type 0) (gives : GivesOf P) (stores : S → Bool → Type 0)
     (files headers : S → Class → Option (Result (List ℕ) StoreFault)) (faults : S → Class → SourceFault → Bool) where
-  -- after an edit that asks the tables
+  -- after an edit that probes the tables
   pub session_edited : (b c : HeldDocument A) (t u : Tables P A) (store : S) (s new : State)
       → SessionHolds sources gives stores files headers faults b t store s → IsBeside s new → Holds sources gives c u new
       → SessionHolds sources gives stores files headers faults c u store new

@@ -65,7 +65,7 @@ use Rattle.study_script.specs.Laws.{AreUnique}
 one : (r a b : Reply) → a ≡ r → b ≡ r → a ≡ b
 one r a b e f = e ∙ sym f
 
--- ---- values that are asked
+-- ---- values that are probed
 
 missing_held : (held : Class → Bool) (ps : List Position) (c : Class) → IsFirstMissing held ps c → AreTablesHeld held ps → ⊥
 missing_held held [] c m all = absurd m

@@ -26,9 +26,9 @@ use Rattle.study_script.specs.Stores.{IsRightSource}
 use Rattle.study_script.specs.Decided.{Decided, HoldsPaged}
 use Rattle.study_script.proofs.HeldTables.{place_below, among_with, among_head}
 
--- ---- what a source told
+-- ---- what a source answered
 
--- a header is told as the store is known to give it
+-- a header is read as the store is known to give it
 pub told_is : (May : Result (List ℕ) SourceFault → Type 0) (known : Option (Result (List ℕ) StoreFault)) (faults : SourceFault → Bool)
     (told : Result (List ℕ) SourceFault) → May told → IsOpened known
     → ((bytes : List ℕ) → May (Ok bytes) → IsGiven known (Ok bytes)) → ((f : SourceFault) → May (Err f) → faults f ≡ true)

@@ -35,7 +35,7 @@ pub unbroken : {L : Type 0} (A : Type 0) (s : Study L) (new : Start) → broken_
     ≡ None → shift_refusal {A = A} (plain_study s) new ≡ None
 unbroken A s new e = ap (broken {A = A}) (broken_mapped (λ _. tt) 0 new.position s.tree.below ∙ e)
 
--- a shift that is legal is an edit that asks tables
+-- a shift that is legal is an edit that probes tables
 pub unbroken_reply : (s : State) (o : Outside) (old : Plainly) (new : Start) (reply : Reply)
     → IsAskedReply s o (positions_asked (shifted old new)) (shifted old new) (reply_line (codes "shift ") (fen_text new))
     reply → IsShiftReply s o old new None reply

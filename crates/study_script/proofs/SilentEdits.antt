@@ -1,4 +1,4 @@
--- The replies to edits that ask no table.
+-- The replies to edits that probe no table.
 use Rattle.std.proofs.Common.{◌≡◌, ℕ, Bool, true, false, List, [], ◌∷◌, Option, Some, None, Result, Ok, Err, refl, sym, ap, ◌∙◌, subst}
 use Rattle.std.specs.Prelude.{MatchOption, IsOk, not, nat_eq, if◌then◌else◌}
 use mathlib.Core.Bool.{true≢false}

@@ -16,7 +16,7 @@ use Rattle.study_command.specs.Lines.{script_lines}
 use Rattle.study_command.specs.Parser.{Asked, table_command, Asks, command_of}
 use Rattle.study_script.specs.Replies.{class_told}
 
--- a reader tells its bytes, and what they read as, if a table, is right
+-- a reader knows its bytes, and what they read as, if a table, is right
 abbrev pub IsRightFile : Option (List ℕ) → Type 0
 IsRightFile None = ⊥
 IsRightFile (Some bytes) = (t : Table) → table_read bytes ≡ Ok t → IsRight t
@@ -30,7 +30,7 @@ pub record IsRightSource {S : Type 0} (honest : S → Table → ℕ → Type 0) 
   pub right : IsRight table
   pub is_honest : honest source table version
 
--- a reader tells the bytes that its store is known to give
+-- a reader knows the bytes that its store is known to give
 abbrev pub GivesBytes : Option (Result (List ℕ) StoreFault) → Option (List ℕ) → Type 0
 GivesBytes None told = Unit {0}
 GivesBytes (Some known) None = ⊥

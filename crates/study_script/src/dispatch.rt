@@ -24,7 +24,7 @@ use study_command::{Command, read_command};
 use study_reply::{Answer, Refusal, refuse, write_reply};
 use study_text::{DeviceFailed, next_word};
 
-/// Writes the reply to a line, keeps what is held after it, and tells whether the line was refused.
+/// Writes the reply to a line, keeps the state after it, and returns whether the line was refused.
 pub fn answer<'a, W: Write, S: TableStore, A: Allocator>(
     alloc: &'a A,
     document: &mut Document<'a, A>,
@@ -102,7 +102,7 @@ fn begins_position(line: &[u8]) -> bool
     }
 }
 
-/// Does what a command asks for, and says what it came to. Nothing is written.
+/// Carries out a command, and returns the outcome. Nothing is written.
 fn execute<'a, S: TableStore, A: Allocator>(
     alloc: &'a A,
     document: &mut Document<'a, A>,

@@ -1,4 +1,4 @@
-//! What is told of a node or of the study, which stays as it is: `moves`, `fen`, `solve`, `mark` and `pgn`.
+//! Queries of a node or of the study, which stays as it is: `moves`, `fen`, `solve`, `mark` and `pgn`.
 ghost use Rattle.std.specs.Prelude.{◌≡◌, true};
 ghost use Rattle.study_marks.specs.Study.{plain_study};
 ghost use Rattle.study_marks.specs.BenchState.{marked};

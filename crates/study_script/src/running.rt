@@ -56,7 +56,7 @@ pub enum RunFault {
 /// Answers each line of a script over a store of tables. All memory but that of the commands is taken before the first line.
 ///
 /// The premise is on what the script loads alone: each file that a `load` line names gives a right table, by pages or whole as the
-/// settings say. Of a script that loads nothing it asks nothing, whatever its store.
+/// settings say. For a script that loads nothing the store does not matter.
 pub fn run<'a, R: Read, W: Write, S: TableStore, A: Allocator>(
     alloc: &'a A,
     script: &mut R,

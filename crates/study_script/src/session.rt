@@ -22,7 +22,7 @@ pub trait Interpreter {
     /// Studies are kept apart or not, as the second `Bool` says.
     ghost holds: { Self → (AClass → Bool) → Bool → AState → Type 0 };
 
-    /// Writes the reply to a line, keeps what is held after it, and tells whether the line was refused.
+    /// Writes the reply to a line, keeps the state after it, and returns whether the line was refused.
     fn answer<W: Write>(&mut self, line: &[u8], out: &mut W) -> Result<bool, DeviceFailed>
         ensures ok { (trusted : AClass → Bool) (separate : Bool) (s : AState) → IsTrusted trusted line.now → holds self.old trusted separate s
             → IfOk result (Answered (IsReplyIn separate s line.now) (holds self.new trusted separate) (W.contents out.old) (W.contents out.new)) }

@@ -35,7 +35,7 @@ pub trait TableStore {
     /// What is known of each class's file: its bytes from front to back, or the fault of opening it.
     ghost files: { Self → AClass → Option (Result (List ℕ) AStoreFault) };
 
-    /// What is known of each class's source of pages: the header that it tells, or the fault of opening it.
+    /// What is known of each class's source of pages: its header, or the fault of opening it.
     ghost headers: { Self → AClass → Option (Result (List ℕ) AStoreFault) };
 
     /// For which faults each class's source of pages may not be read.

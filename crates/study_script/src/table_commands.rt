@@ -192,7 +192,7 @@ fn load_class<'a, S: TableStore, A: Allocator>(
     Ok(TableReply::Loaded(class))
 }
 
-/// Reads the file of a class, and tells why it gives no table.
+/// Reads the file of a class, or says why it gives no table.
 fn read_table_file<'a, S: TableStore, A: Allocator>(
     alloc: &'a A,
     store: &mut S,

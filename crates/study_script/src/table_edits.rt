@@ -1,4 +1,4 @@
-//! Edits of the study that ask the tables, whichever they are.
+//! Edits of the study that probe the tables, of either kind.
 ghost use Rattle.std.specs.Prelude.{◌≡◌, Err, None, true, MatchOption, IfErr, IfOk, OnOk, OnErr};
 ghost use Rattle.study_material.specs.declared.class.Class.{Class as AClass};
 ghost use Rattle.study_values.specs.declared.fault.SourceFault.{SourceFault as ASourceFault};

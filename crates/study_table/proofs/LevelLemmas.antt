@@ -69,7 +69,7 @@ module _ {P : Type 0} {leads : P → P → Type 0} {mate : P → Type 0} {known 
       → home p ≡ true → Gives leads mate Labels p v → IsRightBelow leads mate (suc k) p v
   given-below k right p v kn e g = Gives-below leads mate laws.stuck Labels k p (λ q l. labels-below k right q (laws.closed p q kn e l)) v g
 
-  -- a cell that tells of a mate in fewer than k plies is right
+  -- a cell that has a mate in fewer than k plies is right
   pub cell-decided : (k n c : ℕ) → c ≢ 0 → c ≤ k → IsRightBelowCell leads mate k (position n) c → IsRightCell leads mate (position n) c
   cell-decided k n c nonzero small h = by_position (position n) h
     where
@@ -101,7 +101,7 @@ module _ {P : Type 0} {leads : P → P → Type 0} {mate : P → Type 0} {known 
         omega arith
   ]
 
-  -- after the last level, a cell that tells something else than is given stands for a position of a greater distance
+  -- after the last level, a cell that has something else than is given stands for a position of a greater distance
   pub other-far : AreNear 255 size cells → AreRightBelow leads mate 255 position size cells → (n : ℕ) → n < size
       → IsOtherCell leads mate Labels (position n) (slice_index cells n) → HasFar leads mate known home
   other-far bytes right n b h = elim (some_or_none (position n)) [

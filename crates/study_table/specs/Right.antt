@@ -32,7 +32,7 @@ abbrev pub IsRightBelowCell : {P : Type 0} → (P → P → Type 0) → (P → T
 IsRightBelowCell leads mate k None cell = cell ≡ 0
 IsRightBelowCell leads mate k (Some p) cell = IsRightBelow leads mate k p (value_of cell)
 
--- no cell tells anything wrong about mates in fewer than k plies
+-- no cell is wrong about mates in fewer than k plies
 abbrev pub AreRightBelow : {P : Type 0} → (P → P → Type 0) → (P → Type 0) → ℕ → (ℕ → Option P) → ℕ → List ℕ → Type 0
 AreRightBelow leads mate k position size cells = (n : ℕ) → n < size → IsRightBelowCell leads mate k (position n) (slice_index cells n)
 

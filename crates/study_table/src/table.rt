@@ -58,7 +58,7 @@ impl<'a, A: Allocator> Table<'a, A> {
         self.cells.as_slice()
     }
 
-    /// The value that the table tells of a position of its class, a passed square included.
+    /// The table's value of a position of its class, a passed square included.
     pub fn at(&self, p: &Position) -> Value
         requires { IsOf self.now.class p.now }
         ensures told { result ≡ value_of (slice_index self.now.cells (index_of p.now)) }

@@ -1,4 +1,4 @@
--- What a reader that tells its bytes has given.
+-- What a reader that knows its bytes has given.
 use Rattle.std.proofs.Common.{◌≡◌, ℕ, suc, ◌+◌, ◌<◌, Bool, true, false, ◌&&◌, nat_lt, List, [], ◌∷◌, ◌++◌, length}
 use Rattle.std.proofs.Common.{take, drop, find, slice_index_or, slice_set, Option, Some, None, Result, Err, IfErr}
 use Rattle.std.proofs.Common.{if◌then◌else◌, refl, sym, ap, subst, ◌∙◌, arith, length-append, length-drop}

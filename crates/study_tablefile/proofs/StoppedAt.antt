@@ -1,4 +1,4 @@
--- What is left of a file's bytes when a fault is told.
+-- What is left of a file's bytes when a fault is reported.
 use Rattle.std.proofs.Common.{◌≡◌, ℕ, ◌+◌, ◌*◌, ◌≤◌, List, length, drop, Option, Some, refl, sym, ap, ◌∙◌, arith}
 use Rattle.std.specs.Io.KnownBytes.{Consumes, Keeps, IsAtEnd}
 use Rattle.std.proofs.lemmas.List.{drop_all, drop-drop}

@@ -84,7 +84,7 @@ abbrev pub pages_after : Result Class FileFault → ℕ
 pages_after (Err fault) = 0
 pages_after (Ok c) = pages_of c
 
--- so many bytes of a file of so many pages are read when a fault is told: a file that is cut off is read to its end, any other up to
+-- so many bytes of a file of so many pages are read when a fault is reported: a file that is cut off is read to its end, any other up to
 -- the end of the part that is wrong; a device fails within the header and the pages, or where they end
 abbrev pub IsReadBefore : List ℕ → ℕ → FileFault → ℕ → Type 0
 IsReadBefore bytes pages Cut n = length bytes ≤ n
@@ -98,6 +98,6 @@ IsReadBefore bytes pages Padding n = n ≡ 64 + 4128 * pages
 IsReadBefore bytes pages TrailingBytes n = n ≡ 64 + 4128 * pages + 1
 IsReadBefore bytes pages Device n = n ≤ 64 + 4128 * pages
 
--- what is left of the bytes of a file of so many pages when a fault is told
+-- what is left of the bytes of a file of so many pages when a fault is reported
 abbrev pub IsToldAt : List ℕ → ℕ → Option (List ℕ) → FileFault → Type 0
 IsToldAt bytes pages left fault = (n : ℕ) × IsReadBefore bytes pages fault n × (left ≡ Some (drop n bytes))

@@ -18,7 +18,7 @@ pub fn only_texts_are_read()
     ensures complete { (bytes : List ℕ) (t : Seen) → All (λ b. b < 256) bytes → table_read bytes ≡ Ok t → IsComplete t }
 {}
 
-/// Of the pages of a table each has the digest of its cells and zero bytes after the last cell, as `page_cells` asks.
+/// Of the pages of a table each has the digest of its cells and zero bytes after the last cell, as `page_cells` demands.
 pub fn pages_are_whole()
     ensures { (t : Seen) (v n : ℕ) → IsComplete t → is_whole_page (fields_text t.class v) (cells_of t.class) n (page_of t v n) ≡ true }
 {}

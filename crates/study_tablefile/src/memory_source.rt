@@ -15,7 +15,7 @@ use study_values::{HEADER_BYTES, PAGE_BYTES, SourceFault};
 #[derive(Drop)]
 pub struct MemorySource<'a> {
     pub text: &'a [u8],
-    /// How many headers and pages were asked.
+    /// How many headers and pages were requested.
     pub asked: u64,
     /// Which of the questions fails, counted from 0.
     pub fails_at: Option<u64>,

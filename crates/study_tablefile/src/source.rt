@@ -62,13 +62,13 @@ pub trait PageSource: Drop {
     /// Each answer, now and after any calls, gives the bytes of the file of this table in this version.
     ghost honest: { Self → Seen → ℕ → Type 0 };
 
-    /// What it may answer to a question, now and after any calls: bytes, or its fault. A source that does not tell its
+    /// What it may answer to a request, now and after any calls: bytes, or its fault. A source that does not say its
     /// bytes may answer anything.
     ghost gives: { Self → Question → Result (List ℕ) ASourceFault → Type 0 };
 
     ghost failed: { Self → ℕ };
 
-    /// How many headers and pages it was asked for, whatever it answered. The count stays at the last value of its type.
+    /// How many headers and pages were requested, whatever it answered. The count stays at the last value of its type.
     ghost asked: { Self → ℕ };
 
     /// The header of the file.

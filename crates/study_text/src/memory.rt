@@ -53,7 +53,7 @@ impl<'a> MemoryReader<'a> {
         }
     }
 
-    /// A reader that gives so many bytes of the text and then fails, however often it is asked.
+    /// A reader that gives so many bytes of the text and then fails, however often it is called.
     pub fn failing_after(text: &'a [u8], count: usize) -> Self
         ensures text { result.text.now ≡ text.now }
         ensures given { result.given ≡ 0 }
@@ -70,7 +70,7 @@ impl<'a> MemoryReader<'a> {
         }
     }
 
-    /// A reader that gives so many bytes of the text, then fails once, and gives the rest when it is asked again.
+    /// A reader that gives so many bytes of the text, then fails once, and gives the rest when it is called again.
     pub fn failing_once(text: &'a [u8], count: usize) -> Self
         ensures text { result.text.now ≡ text.now }
         ensures given { result.given ≡ 0 }
@@ -150,7 +150,7 @@ impl<'a, A: Allocator> MemoryWriter<'a, A> {
         MemoryWriter::with_room(alloc, usize::MAX, WhenFull::Fail)
     }
 
-    /// A writer that takes so many bytes, and then fails or takes nothing, however often it is asked.
+    /// A writer that takes so many bytes, and then fails or takes nothing, however often it is called.
     pub fn with_room(alloc: &'a A, room: usize, when_full: WhenFull) -> Self
         ensures taken { result.taken.items ≡ [] }
         ensures room { result.room ≡ room }
@@ -167,7 +167,7 @@ impl<'a, A: Allocator> MemoryWriter<'a, A> {
         }
     }
 
-    /// A writer that takes so many bytes, then fails or takes nothing once, and takes the rest when it is asked again.
+    /// A writer that takes so many bytes, then fails or takes nothing once, and takes the rest when it is called again.
     pub fn full_once(alloc: &'a A, room: usize, when_full: WhenFull) -> Self
         ensures taken { result.taken.items ≡ [] }
         ensures room { result.room ≡ room }

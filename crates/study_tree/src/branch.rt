@@ -1,4 +1,4 @@
-//! Nodes that are lent, and the way from each to its children.
+//! Borrowed nodes, and the way from each to its children.
 ghost use Rattle.std.specs.Prelude.{◌≡◌, [], MatchOption, Some, None};
 ghost use Rattle.study_tree.specs.Edits.{node_in, width};
 
@@ -7,7 +7,7 @@ use std::alloc::Allocator;
 use std::marker::Model;
 use study_moves::Move;
 
-/// A node that is lent, and all below it, seen as a tree of its own.
+/// A borrowed node, and all below it, seen as a tree of its own.
 #[derive(Drop)]
 pub struct Branch<'t, 'a, L, A: Allocator> {
     pub(crate) label: &'t L,
@@ -30,7 +30,7 @@ impl<'t, 'a, L, A: Allocator> Model for Branch<'t, 'a, L, A> {
     ghost invariant = { λ b. nodes_in (forest_of b.children.now) < 4096 };
 }
 
-/// A child that is lent, and the move that led to it.
+/// A borrowed child, and the move that led to it.
 #[derive(Drop)]
 pub struct Child<'t, 'a, L, A: Allocator> {
     pub played: Move,

@@ -13,7 +13,7 @@ pub enum SourceFault {
 }
 
 /// Why bytes are no table file, or why a file is neither read nor written. A file is read from front to back, and the first
-/// fault is told: those of the header in this order, then page by page that it is cut off, damaged, or not zero after the
+/// fault is reported: those of the header in this order, then page by page that it is cut off, damaged, or not zero after the
 /// last cell, then what follows the last page.
 #[derive(Clone, Copy, Debug, PartialEq, Eq, Error)]
 pub enum FileFault {

@@ -1,8 +1,8 @@
-//! Values of positions, and what tells them.
+//! Values of positions, and where they come from.
 //!
-//! `Values` is what the marks of a study ask: a value, and how often it was asked. Its clauses say when an answer is the
+//! `Values` is what the marks of a study are made from: a value, and how often one was probed. Its clauses say when an answer is the
 //! game's value, when a class has no table, and that a device's fault is counted. Tables in memory (`WholeTables`) and table
-//! files (`PagedTables` of `study_prober`) tell values.
+//! files (`PagedTables` of `study_prober`) give values.
 #![tactic(auto)]
 
 mod fault;

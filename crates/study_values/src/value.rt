@@ -2,7 +2,7 @@
 ghost use Rattle.std.specs.Prelude.{◌≡◌, ◌≢◌, MatchOption};
 ghost use Rattle.study_values.specs.Cells.{distance_of, value_of};
 
-/// The greatest distance that a cell tells, in plies: a cell is a byte, one more than the distance, and 0 is a draw.
+/// The greatest distance that a cell encodes, in plies: a cell is a byte, one more than the distance, and 0 is a draw.
 pub const MAX_DISTANCE: u8 = 254;
 
 /// A value, seen from the side to move.
@@ -13,7 +13,7 @@ pub enum Value {
     Draw,
 }
 
-/// The value that a cell of a table tells: 0 a draw, an odd cell c a loss in c - 1 plies, an even one a win in c - 1.
+/// The value of a cell of a table: 0 a draw, an odd cell c a loss in c - 1 plies, an even one a win in c - 1.
 pub fn value_at(cell: u8) -> Value
     ensures { result ≡ value_of cell }
 {

@@ -14,7 +14,7 @@ use study_board::Position;
 use study_material::Class;
 use thiserror::Error;
 
-/// Why a value is not told.
+/// Why a value cannot be probed.
 #[derive(Clone, Copy, Debug, PartialEq, Eq, Error)]
 pub enum ProbeFault {
     #[error("no table of {0:?} is held")]
@@ -46,15 +46,15 @@ pub fn failures_after(count: u64, answer: &Result<Value, ProbeFault>) -> u64
     }
 }
 
-/// Tells the values of positions, and counts how often it is asked and how often a device or a page failed. Both counts
+/// Gives the values of positions, and counts how often one was probed and how often a device or a page failed. Both counts
 /// stay at the last value of their type.
 pub trait Values: Drop {
-    /// Each value that is told, now and after any calls, is the game's.
+    /// Each value that is answered, now and after any calls, is the game's.
     ghost is_honest: { Self → Type 0 };
     /// A table of the class is held.
     ghost held: { Self → AClass → Bool };
 
-    /// What may be answered to the question for a position that is asked next. Values that do not tell their answers may
+    /// What may be answered to the next probe, of this position. Values that do not say their answers may
     /// answer anything.
     ghost gives: { Self → APosition → ProbeAnswer → Type 0 };
 
@@ -84,7 +84,7 @@ pub trait Values: Drop {
     fn holds(&self, class: Class) -> bool
         ensures { result ≡ held self.now class };
 
-    /// How often a value was asked.
+    /// How often a value was probed.
     fn asked(&self) -> u64
         ensures { result ≡ asked_of self.now };
 

@@ -175,7 +175,7 @@ module _ {V : Type 0} (held : V → Class → Bool) (gives : V → Position → 
       walks-as A B old new Device h = h
       walks-as A B old new (Values f) h = h
 
-  -- a refusal of a view, where each value was told
+  -- a refusal of a view, where each value was read
   pub refused-after : {T : Type 0} (p : Position) (asked : List Position) (old new : V) (r : Result T ViewFault) (e : ViewFault) → IsErrAnd r (λ x. x ≡ e)
       → HasViewed held gives may_fail asked_of failed_of is_honest {T = T} p asked old (Err e) new
       → HasViewed held gives may_fail asked_of failed_of is_honest {T = T} p asked old r new
@@ -197,7 +197,7 @@ module _ {V : Type 0} (held : V → Class → Bool) (gives : V → Position → 
   some-then old mid new (Ok x) h j = all-then held gives may_fail asked_of failed_of is_honest old mid new h j
   some-then old mid new (Err f) h j = stops-then held gives may_fail asked_of failed_of is_honest old mid new f h j
 
-  -- one position was asked
+  -- one position was probed
   pub value-told : (old new : V) (p : Position) (r : ProbeAnswer) → IsValid p → gives old p r → asked_of new ≡ counted (asked_of old)
       → ((c : Class) (f : SourceFault) → IsOf c p → IsErrOf r (probe.TableRead f) → may_fail old c f)
       → ((c : Class) (f : SourceFault) → may_fail new c f → may_fail old c f)

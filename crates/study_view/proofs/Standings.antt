@@ -1,4 +1,4 @@
--- Squares one by one, and what is told of each.
+-- Squares one by one, and the result for each.
 use Rattle.std.proofs.Common.{◌≡◌, ℕ, ◌+◌, ◌-◌, ◌<◌, ◌≤◌, ◌==◌, suc, Bool, true, false, not, List, [], ◌∷◌, ◌++◌, Option, Some, None, Result, Ok, Err, OnOk, cond, arith, refl, sym, ap, subst, ◌∙◌, append_assoc}
 use Rattle.std.specs.Prelude.{MatchOption, IsSome}
 use Rattle.std.specs.List.{filter, range_with_len}
@@ -51,7 +51,7 @@ pub no-square : (from n : ℕ) → 64 ≤ n → squares_but from n (64 - n) ≡ 
 no-square from n h =
     let z : 64 - n ≡ 0 = omega (arith, h) in ap (λ k. squares_but from n k) z
 
--- more squares are told
+-- more squares are written
 abbrev pub Adds : Position → ℕ → Stipulation → List ℕ → List Stood → List Stood → Type 0
 Adds p from st squares old new = (more : List Stood) × AreStandings p from st squares more × (new ≡ old ++ more)
 

@@ -1,4 +1,4 @@
--- A square is told `only` exactly where one move alone keeps what the hero is to reach.
+-- A square is written `only` exactly if one move alone keeps what the hero is to reach.
 use Rattle.std.proofs.Common.{◌≡◌, ℕ, zero, suc, ◌+◌, ◌<◌, ◌≤◌, ◌==◌, not, Bool, true, false, List, [], ◌∷◌, ◌++◌, cond, length}
 use Rattle.std.proofs.Common.{Option, Some, None, inl, inr, arith, refl, sym, ap, subst, ◌∙◌}
 use Rattle.std.specs.Prelude.{MatchOption}
@@ -93,7 +93,7 @@ alone-in lo (y ∷ z ∷ l) x a i all =
 
 -- ---- one position
 
--- what `only` tells of a valid position
+-- what `only` says of a valid position
 record IsOnlyIn (st : Stipulation) (q : Position) (v : Value) (m : Move) : Type 0 where
   hero : same_side st.hero q.to_move ≡ true
   of_game : IsValueOf q v
@@ -177,7 +177,7 @@ stood-faultless p from x valid =
     let men = moved_men from x p.men in
     first_fault_same men (in_order men) (IsPermutation-in_order men) p.to_move p.passed ∙ valid.faultless
 
--- each square of a list is told
+-- each square of a list is written
 standing-of : (p : Position) (from : ℕ) (st : Stipulation) (xs : List ℕ) (ys : List Stood) (y : Stood) → AreStandings p from st xs ys → IsIn y ys
     → IsIn y.at xs × IsStanding p from st y.at y.standing
 standing-of p from st [] [] y h i = absurd i

@@ -1,4 +1,4 @@
--- Which values were asked, and what was told of them.
+-- The values that were probed, and their answers.
 use Rattle.std.specs.Prelude.{◌≡◌, ℕ, Bool, List, ◌++◌, Result, Ok, Err}
 use Rattle.study_board.specs.Position.{Position}
 use Rattle.study_material.specs.declared.class.Class.{Class}
@@ -14,12 +14,12 @@ use Rattle.study_view.specs.declared.fault.SurveyFault.TheVariants as survey
 
 module _ {V : Type 0} (held : V → Class → Bool) (gives : V → Position → ProbeAnswer → Type 0)
     (may_fail : V → Class → SourceFault → Type 0) (asked_of failed_of : V → ℕ) (is_honest : V → Type 0) where
-  -- these positions were asked in their order, and then perhaps more, to each of which p leads, and each value was told
+  -- these positions were probed in their order, and then perhaps more, to each of which p leads, and each value was read
   pub record EachTold (p : Position) (asked : List Position) (old new : V) : Type 0 where
     pub each : (more : List Position) × WereTold gives may_fail asked_of old (asked ++ more) new
     pub all : AllTold held (within p gives) may_fail asked_of failed_of is_honest old new
 
-  -- these positions were asked in their order, and then perhaps more, up to the first whose value could not be read, for this fault
+  -- these positions were probed in their order, and then perhaps more, up to the first whose value could not be read, for this fault
   pub record StoppedAt (p : Position) (asked : List Position) (old : V) (f : ProbeFault) (new : V) : Type 0 where
     pub first : (more : List Position) × IsFirstFault gives may_fail asked_of old (asked ++ more) f new
     pub stopped : Stopped held (within p gives) may_fail asked_of failed_of is_honest old f new
@@ -28,7 +28,7 @@ module _ {V : Type 0} (held : V → Class → Bool) (gives : V → Position → 
   HasToldEach p asked old (Ok x) new = EachTold p asked old new
   HasToldEach p asked old (Err f) new = StoppedAt p asked old f new
 
-  -- some positions were asked, and each value was told, unless the call stopped for the first that was not
+  -- some positions were probed, and each value was read, unless the call stopped for the first that was not
   abbrev pub HasWalked : {T : Type 0} → V → Result T ViewFault → V → Type 0
   HasWalked old (Ok x) new = AllTold held gives may_fail asked_of failed_of is_honest old new
   HasWalked old (Err NoSuchNode) new = ⊥
@@ -36,7 +36,7 @@ module _ {V : Type 0} (held : V → Class → Bool) (gives : V → Position → 
   HasWalked old (Err Device) new = ⊥
   HasWalked old (Err (Values f)) new = Stopped held gives may_fail asked_of failed_of is_honest old f new
 
-  -- each value was told, unless the call was refused for the first that was not, or before one was asked
+  -- each value was read, unless the call was refused for the first that was not, or before one was asked
   abbrev pub HasViewed : {T : Type 0} → Position → List Position → V → Result T ViewFault → V → Type 0
   HasViewed p asked old (Ok x) new = EachTold p asked old new
   HasViewed p asked old (Err NoSuchNode) new = new ≡ old
@@ -44,7 +44,7 @@ module _ {V : Type 0} (held : V → Class → Bool) (gives : V → Position → 
   HasViewed p asked old (Err Device) new = EachTold p asked old new
   HasViewed p asked old (Err (Values f)) new = StoppedAt p asked old f new
 
-  -- some positions were asked, and each value was told, or the first that could not be read was not for this fault
+  -- some positions were probed, and each value was read, or the first that could not be read was not for this fault
   abbrev pub HasToldSome : {T : Type 0} → V → Result T ProbeFault → V → Type 0
   HasToldSome old (Ok x) new = AllTold held gives may_fail asked_of failed_of is_honest old new
   HasToldSome old (Err f) new = Stopped held gives may_fail asked_of failed_of is_honest old f new

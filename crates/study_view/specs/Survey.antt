@@ -46,7 +46,7 @@ by_moves v [] = HoldsBy v 0
 by_moves v (x ∷ []) = Only v x.played
 by_moves v (x ∷ y ∷ l) = HoldsBy v (length (x ∷ y ∷ l))
 
--- what is told of a position with the value v: whether it holds, and whether the hero is to move
+-- the evaluation of a position with the value v: whether it holds, and whether the hero is to move
 abbrev pub IsToldBy : Bool → Bool → Aim → Position → Value → Standing → Type 0
 IsToldBy false hero a q v standing = standing ≡ Fails v
 IsToldBy true false a q v standing = standing ≡ Holds v

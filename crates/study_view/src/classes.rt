@@ -119,7 +119,7 @@ fn add_needed(positions: &[Position], classes: &[Class], list: &mut ArrayVec<Cla
     }
 }
 
-/// The classes whose tables tell the values of these positions and of all to which they can lead, in the order in which to build
+/// The classes whose tables have the values of these positions and of all to which they can lead, in the order in which to build
 /// the tables.
 pub fn classes_needed(positions: &[Position]) -> ArrayVec<Class, CLASS_COUNT>
     ensures { AreClassesNeeded positions.now result.items }

@@ -29,7 +29,7 @@ pub fn surveys_are_unique()
     values_are_unique();
 }
 
-/// A square is told `only` exactly where the position with the man there is valid, what the hero is to reach holds in it, and
+/// A square is written `only` exactly if the position with the man there is valid, what the hero is to reach holds in it, and
 /// exactly one legal move keeps it: by the game's values.
 pub fn surveys_tell_the_game()
     ensures { SurveysTellTheGame }

@@ -55,7 +55,7 @@ fn add_from(men: &[Man], to_move: Side, number: u8, list: &mut ArrayVec<Square, 
     add_from(men, to_move, number + 1, list)
 }
 
-/// The squares that a FEN with these men and this side to move may tell as passed, as far as the men decide it: a1, b1 up to h8.
+/// The squares that a FEN with these men and this side to move may name as passed, as far as the men decide it: a1, b1 up to h8.
 pub fn passed_squares(men: &[Man], to_move: Side) -> ArrayVec<Square, 64>
     ensures { result.items ≡ passed_squares men.now to_move }
 {

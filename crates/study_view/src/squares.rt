@@ -103,7 +103,7 @@ pub fn with_man_at(p: &Position, from: Square, to: Square) -> Option<Position>
     }
 }
 
-/// What is told by the first moves that hold.
+/// The result, from the first moves that hold.
 fn by_moves(value: Value, list: &[Continuation]) -> Standing
     requires { length list.now ≤ MAX_MOVES }
     ensures { result ≡ by_moves value list.now }
@@ -120,7 +120,7 @@ fn by_moves(value: Value, list: &[Continuation]) -> Standing
     }
 }
 
-/// What is told of a position with this value.
+/// The result for a position with this value.
 fn told_by<V: Values>(
     aim: &Aim,
     q: &Position,
@@ -144,7 +144,7 @@ fn told_by<V: Values>(
     }
 }
 
-/// What is told of a position.
+/// The result for a position.
 fn told<V: Values>(
     q: &Position,
     stipulation: &Stipulation,
@@ -161,7 +161,7 @@ fn told<V: Values>(
     }
 }
 
-/// What is told of the man on another square.
+/// The result for the man on another square.
 fn standing_at<V: Values>(
     question: &Question<'_>,
     x: Square,
@@ -195,7 +195,7 @@ fn push_stood(
     list.push(Stood { at, standing });
 }
 
-/// Adds what is told of the squares from this number on, but for the man's own.
+/// Adds the results for the squares from this number on, but for the man's own.
 fn stand_from<V: Values>(
     question: &Question<'_>,
     number: u8,

@@ -83,7 +83,7 @@ fn add_word_of<A: Allocator>(
     add_value(text, value)
 }
 
-/// What is told of the man on a square.
+/// The result for the man on a square.
 fn add_standing<A: Allocator>(
     text: &mut Text<'_, A>,
     question: &Question<'_>,
@@ -135,7 +135,7 @@ fn add_lines<A: Allocator>(
     Ok(())
 }
 
-/// The text, by what is told of each square.
+/// The text, from the result for each square.
 fn text_of<'a, A: Allocator>(
     alloc: &'a A,
     question: &Question<'_>,
@@ -176,7 +176,7 @@ fn survey_text<'a, A: Allocator, V: Values>(
 
 /// Writes what a stipulation comes to with the man of a square on each other square.
 ///
-/// The values are asked, and then the text is made whole: want of memory, and a value that cannot be read, are reported before the first
+/// The values are probed, and then the text is made whole: want of memory, and a value that cannot be read, are reported before the first
 /// byte. A writer that fails or takes nothing ends the call; it has taken a prefix of the text then.
 pub fn write_survey<'a, A: Allocator, V: Values, W: Write>(
     alloc: &'a A,

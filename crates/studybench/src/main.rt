@@ -7,7 +7,7 @@
 use std::process::ExitCode;
 use study_program::studybench;
 
-/// Does what the command line and standard input ask.
+/// Runs the script of standard input with the options of the command line.
 fn main(rt: HostRuntime) -> ExitCode {
     studybench(&rt)
 }

@@ -7,7 +7,7 @@
 use std::process::ExitCode;
 use study_import_program::studyimport;
 
-/// Does what the command line and standard input ask.
+/// Imports the games of standard input with the options of the command line.
 fn main(rt: HostRuntime) -> ExitCode {
     studyimport(&rt)
 }

@@ -89,7 +89,7 @@ fn write<V: Values, W: Write, H: Watch>(
     }
 }
 
-/// Writes what a request asks for. Where a table is not there nothing is written.
+/// Writes the positions of a request. If a table is missing nothing is written.
 pub fn answer<V: Values, W: Write, H: Watch>(
     request: &Request,
     output: Output,

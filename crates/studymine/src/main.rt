@@ -15,7 +15,7 @@ mod tables;
 use program::studymine;
 use std::process::ExitCode;
 
-/// Does what the command line asks.
+/// Searches with the options of the command line.
 fn main(rt: HostRuntime) -> ExitCode {
     studymine(&rt)
 }

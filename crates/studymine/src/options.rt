@@ -35,7 +35,7 @@ pub enum Output {
     Count,
 }
 
-/// Why words ask for nothing.
+/// Why words are not a request.
 #[derive(Clone, Copy, Debug, PartialEq, Eq)]
 pub enum WordFault {
     NoSuchClass,
@@ -44,7 +44,7 @@ pub enum WordFault {
     NoKeyMove,
 }
 
-/// What the command line asks for.
+/// The options of the command line.
 #[derive(Clone, Copy, Debug)]
 pub struct Options<'a> {
     /// The folder of the files of tables: never an empty text, of which the files would stand in the root folder.
@@ -60,7 +60,7 @@ pub struct Options<'a> {
     ghost few: { pages ≤ 4096 },
 }
 
-/// Reads the words of the command line, of which the first is the program's name; `Ok(Err(..))` where clap takes them but they ask for nothing.
+/// Reads the words of the command line, of which the first is the program's name; `Ok(Err(..))` if clap takes them but they are not a request.
 /// `--help` and `--version` are answered as errors whose exit code is 0.
 ///
 /// No contract: clap has none on the words that it takes. The type proves that the folder has a name, and the range of pages; the tests
@@ -165,7 +165,7 @@ fn bytes_of<'a>(
     Ok(list)
 }
 
-/// What the words of the class and of the theme ask for.
+/// The request of the words of the class and of the theme.
 fn read_words_of_request(class: Option<&str>, theme: &[&[u8]]) -> Result<Request, WordFault> {
     let Some(name) = class else {
         return Err(WordFault::NoSuchClass);

@@ -19,7 +19,7 @@ use study_prober::PagedTables;
 use study_program::{FolderStore, status_without_options, words_of};
 use study_text::write_text;
 
-/// Writes the positions that the command line asks for to standard output as they are found.
+/// Writes the positions of the request to standard output as they are found.
 ///
 /// The exit status is 0 where the list was made, 2 where the command line was refused, and 3 where the list stopped: at a table that is not
 /// there or not read, at too many studies, or at a device, whose name then goes to standard error.
@@ -54,7 +54,7 @@ fn not_read(rt: &HostRuntime, error: &io::Error) -> u8 {
     2
 }
 
-/// The words ask for nothing.
+/// The words are not a request.
 fn not_known(rt: &HostRuntime, fault: WordFault) -> u8
     ensures { result ≡ 2 }
 {

@@ -4,7 +4,7 @@ use crate::status::put_progress;
 use std::io::Write;
 use study_listing::Watch;
 
-/// Writes how far a search has come, where that is asked for.
+/// Writes how far a search has come, if the option is set.
 #[derive(Drop)]
 pub struct Progress<'e, E: Write> {
     pub errors: &'e mut E,

@@ -1,4 +1,4 @@
-//! What the words of a request ask for.
+//! The requests of words.
 
 use std::alloc::Global;
 use std::process::Abort;
@@ -7,7 +7,7 @@ use study_listing::{Filters, Placed, Request, Selection, Unread, read_request};
 use study_material::Class;
 use study_search::{Outcome, Search, Theme};
 
-/// What the words of a line ask for, behind a class.
+/// The request of the words of a line, behind a class.
 fn read(rt: &impl Abort, alloc: Global, class: Class, line: &str) -> Result<Request, Unread> {
     let mut words = Vec::new(alloc);
     for word in line.split_ascii_whitespace() {

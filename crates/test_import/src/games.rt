@@ -90,7 +90,7 @@ fn a_file_may_come_in_byte_by_byte(rt: HostRuntime) -> Result<(), Fail> {
     Ok(())
 }
 
-/// Games with other numbers than those that are chosen are counted, and not told.
+/// Games with other numbers than those that are chosen are counted, and not written.
 #[test]
 fn games_may_be_chosen(rt: HostRuntime) -> Result<(), Fail> {
     let alloc = rt.alloc();

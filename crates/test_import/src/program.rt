@@ -78,7 +78,7 @@ fn joined(rt: &HostRuntime, parts: &[&[u8]]) -> Result<Vec<u8>, Fail> {
     Ok(text)
 }
 
-/// The exit status tells whether each game that was taken has its block.
+/// The exit status says whether each game that was taken has its block.
 #[test]
 fn games_are_chosen_and_counted(rt: HostRuntime) -> Result<(), Fail> {
     let both = joined(&rt, &[BLOCK, FAULT, b"# games 2, studies 1\n"])?;

@@ -1,4 +1,4 @@
-//! Studies of the gallery: what a review tells of their nodes, by an independent program.
+//! Studies of the gallery: the facts of a review, by an independent program.
 use crate::studies::{Moves, is_written, node, study, tables_of, white};
 use arrayvec::ArrayVec;
 use std::alloc::Global;

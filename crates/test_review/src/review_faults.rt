@@ -1,4 +1,4 @@
-//! Values that are not told: a class that is not held, and a device that fails at each question in turn.
+//! Values that cannot be read: a missing table, and a device that fails at each probe in turn.
 use crate::studies::{position_of, tables_of};
 use arrayvec::ArrayVec;
 use std::process::Abort;
@@ -14,7 +14,7 @@ const WIN: Aim = Aim {
     hero_first: true,
 };
 
-/// A call that asks values.
+/// A call that probes values.
 #[derive(Clone, Copy, Debug, PartialEq, Eq)]
 enum Call {
     TimedAlternatives,
@@ -49,7 +49,7 @@ fn fault_of<V: Values>(rt: &impl Abort, call: Call, values: &mut V) -> Option<Pr
     }
 }
 
-/// Each of the first forty questions fails in turn; the fault is reported, and no more is asked.
+/// Each of the first forty probes fails in turn; the fault is reported, and no more is probed.
 #[test]
 fn each_question_of_a_call_fails_in_turn(rt: HostRuntime) {
     let alloc = rt.alloc();

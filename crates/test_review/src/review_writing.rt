@@ -18,7 +18,7 @@ empty
 play root win 1 Rh8#
 ";
 
-/// By hand: after the mate nothing is left to tell.
+/// By hand: after the mate there is no fact.
 const MATED: &[u8] = b"study 7 k7/8/1K6/8/8/8/8/7R w - - 0 1
 stipulation White to mate in 1: sound, White mates in 1
 ";
@@ -71,7 +71,7 @@ fn nothing_is_written_before_there_is_memory_for_all(rt: HostRuntime) -> Result<
     Err(Fail::from("no heap was large enough"))
 }
 
-/// Each question of a review fails in turn: the fault is reported, nothing more is asked, and nothing is written.
+/// Each probe of a review fails in turn: the fault is reported, nothing more is probed, and nothing is written.
 #[test]
 fn nothing_is_written_where_a_value_is_not_told(rt: HostRuntime) -> Result<(), Fail> {
     let alloc = rt.alloc();

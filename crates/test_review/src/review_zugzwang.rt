@@ -60,7 +60,7 @@ fn mutual_zugzwangs_are_those_of_the_list(rt: HostRuntime) {
     }
 }
 
-/// One question after the other fails, and a class is not held: the fault is reported, and no more is asked.
+/// One probe after the other fails, and a table is missing: the fault is reported, and no more is probed.
 #[test]
 fn a_zugzwang_is_not_told_where_a_value_is_not(rt: HostRuntime) {
     let alloc = rt.alloc();

@@ -1,4 +1,4 @@
-//! Studies over built tables, and the nodes of which a review tells.
+//! Studies over built tables, and the nodes that a review speaks of.
 ghost use Rattle.std.specs.Prelude.{◌≡◌};
 
 use std::alloc::Allocator;

@@ -1,4 +1,4 @@
-//! What a number tells of its men, and the numbers after one of them has moved.
+//! The men that a number encodes, and the numbers after one of them has moved.
 use crate::men::{man, side, square};
 use crate::rows::{field, number};
 use std::process::Abort;

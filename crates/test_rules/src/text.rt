@@ -8,7 +8,7 @@ use study_text::{
     DeviceFailed, MemoryReader, MemoryWriter, Text, WhenFull, next_word, space_len, write_text,
 };
 
-/// Writes three letters, and compares the answer, what was taken, and that the writer was asked no more after it was full.
+/// Writes three letters, and compares the answer, what was taken, and that the writer was called no more after it was full.
 fn put_letters<A: Allocator>(
     rt: &impl Abort,
     writer: &mut MemoryWriter<'_, A>,
@@ -48,7 +48,7 @@ fn fails_once<A: Allocator>(
     assert!(rt; recovers.errors == 1, "{taken}");
 }
 
-/// Writers fail, or take nothing, where they are told, each time or once.
+/// Writers fail, or take nothing, where their plan says, each time or once.
 #[test]
 fn writers_in_memory_fail_where_they_are_told(rt: HostRuntime) {
     let alloc = rt.alloc();
@@ -78,7 +78,7 @@ fn is_text(bytes: &[u8], text: &str) -> bool {
     bytes == text.as_bytes()
 }
 
-/// Readers fail where they are told, each time or once.
+/// Readers fail where their plan says, each time or once.
 #[test]
 fn readers_in_memory_fail_where_they_are_told(rt: HostRuntime) {
     let mut text = Vec::new(rt.alloc());

@@ -12,7 +12,7 @@ use study_tablefile::PageSource;
 use study_values::SourceFault;
 
 /// A rook mates in one: the commands, and their replies where the table can be read, where it is not held, and where it
-/// is held by pages and the one that is asked for is not there.
+/// is read by pages and the requested one is not there.
 const STUDY: &str = "position k7/8/1K6/8/8/8/8/7R w - - 0 1\nstipulate white win\nmark root\n";
 
 const MARKED: &str =

@@ -71,7 +71,7 @@ impl<'a, A: Allocator> Case<'a, A> {
         }
     }
 
-    /// The script and the replies that rows tell.
+    /// The script and the replies of rows.
     pub(crate) fn add_rows(&mut self, rt: &impl Abort, rows: Rows<'_>) {
         for row in rows.lines() {
             match row.split_once(" ->") {

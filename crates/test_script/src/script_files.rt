@@ -240,7 +240,7 @@ position k7/8/1K6/8/8/8/8/7R w - - 0 1 -> position k7/8/1K6/8/8/8/8/7R w - - 0 1
 stipulate white win -> error TableRead Short
 mark root -> error NoStudy";
 
-/// The edits that ask values, over tables read by pages.
+/// The edits that probe values, over tables read by pages.
 const EDITED_BY_PAGES: Rows<'static> = "load KRK -> loaded KRK cells 81920
 load KK -> loaded KK cells 1280
 position k7/8/1K6/8/8/8/8/7R w - - 0 1 -> position k7/8/1K6/8/8/8/8/7R w - - 0 1

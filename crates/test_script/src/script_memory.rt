@@ -8,7 +8,7 @@ use std::test::Fail;
 use study_script::{RunFault, Settings, Summary, run};
 use study_text::{MemoryReader, MemoryWriter};
 
-/// There is no room for either table. A room is asked for before the tables that are needed.
+/// There is no room for either table. The tables that are needed are looked for after that.
 const NO_ROOM: Rows<'static> = "build KK -> error OutOfMemory
 build KQK -> error OutOfMemory
 position k7/8/1K6/8/8/8/8/6Q1 w - - 0 1 -> position k7/8/1K6/8/8/8/8/6Q1 w - - 0 1

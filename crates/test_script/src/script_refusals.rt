@@ -1,7 +1,7 @@
 //! Lines that are refused, each with its name and in its order.
 use crate::rows::{Rows, check};
 
-/// Words that are no command, or not of its form; they come before all that is asked of what is held.
+/// Words that are no command, or not of its form; they come before all refusals for the state.
 const FORMS: Rows<'static> = "moves\troot -> error BadByte
 dance root -> error UnknownCommand
 moves -> error BadArguments

@@ -133,7 +133,7 @@ refused 10 NoStudy
 study 2 7k/8/8/8/8/8/8/7K w - - 0 1
 ";
 
-/// What a report tells, without the facts of the studies.
+/// A report without the facts of the studies.
 fn entries_of(rt: &impl Abort, alloc: Global, text: &[u8]) -> Vec<u8> {
     let mut entries = Vec::new(alloc);
     let text = std::str::from_utf8(text).unwrap_or("no text");

@@ -1,4 +1,4 @@
-//! Studies edit by edit: their marks, and what each call tells of them. Most marks are tested by the scripts of test_script.
+//! Studies edit by edit: their marks, and the results of each call. Most marks are tested by the scripts of test_script.
 ghost use Rattle.std.specs.Prelude.{◌≡◌, Ok, true};
 
 use crate::calls;
@@ -60,7 +60,7 @@ fn expect_queen_marks<'a, A: Allocator>(rt: &impl Abort, alloc: &'a A, bench: &B
     assert!(rt; calls::size(bench) == 3);
 }
 
-/// So many labels were written, and so many values asked.
+/// So many labels were written, and so many values probed.
 fn expect_counts<A: Allocator, V: Values>(
     rt: &impl Abort,
     bench: &Bench<'_, A>,
@@ -86,7 +86,7 @@ fn expect_deletion<'a, A: Allocator>(rt: &impl Abort, alloc: &'a A, bench: &mut 
     assert!(rt; calls::size(bench) == 2 && calls::relabelled(bench) == 7);
 }
 
-/// Each edit writes the labels of one path, a stipulation those of all nodes; none but an insertion asks a value. The root has 25
+/// Each edit writes the labels of one path, a stipulation those of all nodes; none but an insertion probes a value. The root has 25
 /// moves, and the mate and the stalemate have none.
 #[test]
 fn edits_write_the_labels_of_one_path(rt: HostRuntime) {
@@ -116,7 +116,7 @@ fn expect_fen(rt: &impl Abort, start: &Start, fen: &str) {
     assert_eq!(rt; write_fen(start).as_str(), fen);
 }
 
-/// What is told of the start and of the root.
+/// The facts of the start and of the root.
 fn expect_root<'a, A: Allocator>(rt: &impl Abort, alloc: &'a A, bench: &Bench<'a, A>) {
     expect_fen(rt, bench.start(), QUEEN.fen);
     assert!(rt; bench.stipulation().goal == Goal::Win && bench.stipulation().hero == Side::White);
@@ -124,7 +124,7 @@ fn expect_root<'a, A: Allocator>(rt: &impl Abort, alloc: &'a A, bench: &Bench<'a
     assert!(rt; calls::children(bench, &root) == Some(2) && calls::move_at(bench, &root).is_none());
 }
 
-/// What is told of the stalemate.
+/// The facts of the stalemate.
 fn expect_stalemate<'a, A: Allocator>(rt: &impl Abort, alloc: &'a A, bench: &Bench<'a, A>) {
     let second = path_of(rt, alloc, &[1]);
     let stalemate = move_of(rt, bench, &Path::root(alloc), "Qh2");
@@ -142,7 +142,7 @@ fn expect_tag<A: Allocator>(rt: &impl Abort, bench: &mut Bench<'_, A>, text: &st
     assert!(rt; bench.tag(TagName::Event) == Some(text) && bench.tag(TagName::Site).is_none());
 }
 
-/// What each reader tells of a study, and that another position leaves the root alone.
+/// The result of each reader of a study, and that another position leaves the root alone.
 #[test]
 fn readers_tell_what_was_put_in(rt: HostRuntime) {
     let alloc = rt.alloc();
@@ -201,7 +201,7 @@ const LINE_MOVES: [(u8, u8, Mark); 3] = [
     ),
 ];
 
-/// Child by child, each node of the line that is lent shows its move and its mark.
+/// Child by child, each borrowed node of the line shows its move and its mark.
 #[test]
 fn lent_nodes_show_moves_and_marks(rt: HostRuntime) {
     let alloc = rt.alloc();
@@ -304,7 +304,7 @@ impl Values for Draws {
     }
 }
 
-/// A study made over values that are wrong has the game's marks once its values are asked anew.
+/// A study made over values that are wrong has the game's marks once its values are probed anew.
 #[test]
 fn marks_over_wrong_values_are_made_right(rt: HostRuntime) {
     let alloc = rt.alloc();
@@ -331,7 +331,7 @@ const TRIALS: &[Trial] = &[
     (&[0], (56, 57), Value::Win(1), MoveMark::Reply, 0),
 ];
 
-/// What is told of a move with these squares at a node.
+/// The facts of a move with these squares at a node.
 fn trial<'a, V: Values>(
     rt: &impl Abort,
     alloc: &'a Global,
@@ -344,7 +344,7 @@ fn trial<'a, V: Values>(
     calls::mark_of(bench, &at, moved(origin, target), values)
 }
 
-/// Of the move to this square this mark is told.
+/// The move to this square has this mark.
 fn expect_told(rt: &impl Abort, told: Result<Mark, Refusal<'_, Global>>, wanted: Mark, target: u8) {
     assert!(rt; told.ok() == Some(wanted), "{target}");
 }
@@ -368,7 +368,7 @@ fn expect_trials<'a, V: Values>(
     }
 }
 
-/// Moves that are not in the tree have the marks that they have once they are inserted; one value is asked for each, and
+/// Moves that are not in the tree have the marks that they have once they are inserted; one value is probed for each, and
 /// nothing changes.
 #[test]
 fn a_move_not_in_the_tree_has_the_mark_it_would_get(rt: HostRuntime) {

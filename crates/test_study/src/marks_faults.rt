@@ -41,7 +41,7 @@ const MATE: Case = Case {
     ..CORNERS
 };
 
-/// The calls that ask values and that leave the study as it was where they are refused.
+/// The calls that probe values and that leave the study as it was where they are refused.
 #[derive(Clone, Copy, Debug, PartialEq, Eq)]
 pub(crate) enum Call {
     New,
@@ -116,7 +116,7 @@ impl Subject {
         Snapshot::of(rt, alloc, &bench)
     }
 
-    /// Whether a call is refused over values of which one fails, none of which was asked yet. Where it is, the study is as it
+    /// Whether a call is refused over values of which one fails, none of which was probed yet. Where it is, the study is as it
     /// was, and the call is made again; in the end the study shows what is wanted.
     pub(crate) fn is_refused<V: Values, W: Values>(
         &self,
@@ -227,7 +227,7 @@ pub(crate) fn is_device<A: Allocator>(refusal: &Refusal<'_, A>) -> bool {
     matches!(refusal, Refusal::TableRead(ProbeFault::TableRead(_)))
 }
 
-/// How many values an insertion asks, counted by hand: one for the position after the move and one for each of Black's three moves there.
+/// How many values an insertion probes, counted by hand: one for the position after the move and one for each of Black's three moves there.
 const ASKED: u64 = 4;
 
 type Failing<'a> = FailingValues<WholeTables<'a, Global>>;

@@ -90,7 +90,7 @@ fn is_without_study<V: Values>(rt: &impl Abort, alloc: &Global, values: &mut V) 
     is_device(&refusal.expect(rt, "no study"))
 }
 
-/// Over a file that is cut off after its header there is no study, however often it is asked for.
+/// Over a file that is cut off after its header there is no study, however often it is tried.
 #[test]
 fn without_a_page_there_is_no_study(rt: HostRuntime) {
     let alloc = rt.alloc();

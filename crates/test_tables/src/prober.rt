@@ -156,13 +156,13 @@ fn added<A: Allocator>(
     tables.add(class, file)
 }
 
-/// Whether both tell the same value.
+/// Whether both give the same value.
 fn agree<V: Values, W: Values>(values: &mut V, others: &mut W, p: &Position) -> bool {
     let value = others.value(p);
     value.is_ok() && values.value(p) == value
 }
 
-/// That each position of king and rook against king has one value by both, and how often they were asked.
+/// That each position of king and rook against king has one value by both, and how often they were probed.
 fn expect_alike<V: Values, W: Values>(rt: &impl Abort, values: &mut V, others: &mut W) {
     let mut count = 0u64;
     for number in 0..81_920u32 {
@@ -176,7 +176,7 @@ fn expect_alike<V: Values, W: Values>(rt: &impl Abort, values: &mut V, others: &
     assert!(rt; has_counts(others, count, 0));
 }
 
-/// The table of king and rook against king by one page: each position has the value that the whole table tells.
+/// The table of king and rook against king by one page: each position has the value of the whole table.
 #[test]
 fn values_by_one_page_are_those_of_the_whole_table(rt: HostRuntime) {
     let alloc = rt.alloc();
@@ -187,7 +187,7 @@ fn values_by_one_page_are_those_of_the_whole_table(rt: HostRuntime) {
     expect_alike(&rt, &mut tables, &mut whole);
 }
 
-/// Whether so many questions were asked, and so many of them failed.
+/// Whether so many values were probed, and so many of them failed.
 fn has_counts<V: Values>(values: &V, asked: u64, failures: u64) -> bool {
     values.asked() == asked && values.failures() == failures
 }
@@ -208,7 +208,7 @@ fn pages_with_positions(class: Class) -> u32 {
     count
 }
 
-/// How many questions fail where a position of each page is asked for twice, and the source fails once, after it gave each page.
+/// How many probes fail if a position of each page is probed twice, and the source fails once, after it gave each page.
 fn failures_at_the_second_turn(rt: &impl Abort, alloc: Global, class: Class, room: u16) -> u64 {
     let table = patterned(rt, &alloc, class, 0);
     let asked = u64::from(pages_with_positions(class));
@@ -396,7 +396,7 @@ fn fails_once<V: Values, A: Allocator>(
     assert!(rt; has_counts(values, 21, 1), "{bad}");
 }
 
-/// A source that fails at one page: the fault is told and counted, and the same question is answered next.
+/// A source that fails at one page: the fault is reported and counted, and the same probe is answered next.
 #[test]
 fn a_page_that_is_not_read_is_told_once(rt: HostRuntime) {
     let alloc = rt.alloc();
@@ -409,7 +409,7 @@ fn a_page_that_is_not_read_is_told_once(rt: HostRuntime) {
     }
 }
 
-/// Whether page 5 is told as damaged and page 19 as cut off, and the value on any other page is that of the table.
+/// Whether page 5 is reported as damaged and page 19 as cut off, and the value on any other page is that of the table.
 fn is_told<V: Values, A: Allocator>(
     rt: &impl Abort,
     values: &mut V,
@@ -424,7 +424,7 @@ fn is_told<V: Values, A: Allocator>(
     is_refused(values, &position_on(rt, Class::KRK, page), fault)
 }
 
-/// A damaged page and one that is cut off are told each time, and no other page is.
+/// A damaged page and one that is cut off are reported each time, and no other page is.
 #[test]
 fn a_damaged_page_is_told_each_time(rt: HostRuntime) {
     let alloc = rt.alloc();
@@ -441,7 +441,7 @@ fn a_damaged_page_is_told_each_time(rt: HostRuntime) {
     assert!(rt; has_counts(&tables, 40, 4));
 }
 
-/// That page 0 of KK is told as damaged once, and its values are told from then on.
+/// That page 0 of KK is reported as damaged once, and its values are read from then on.
 fn expect_read_again<V: Values, A: Allocator>(
     rt: &impl Abort,
     values: &mut V,
@@ -454,7 +454,7 @@ fn expect_read_again<V: Values, A: Allocator>(
     assert!(rt; has_counts(values, 3, 1));
 }
 
-/// A damaged page is not kept: once its source gives it whole, its values are told.
+/// A damaged page is not kept: once its source gives it whole, its values are read.
 #[test]
 fn a_damaged_page_is_read_again(rt: HostRuntime) {
     let alloc = rt.alloc();
@@ -466,7 +466,7 @@ fn a_damaged_page_is_read_again(rt: HostRuntime) {
     expect_read_again(&rt, &mut tables, &table);
 }
 
-/// Whether KRK is held and KQK is not, and no question was asked.
+/// Whether KRK is there and KQK is not, and nothing was probed.
 fn has_only_rook<V: Values>(values: &V) -> bool {
     values.holds(Class::KRK) && !values.holds(Class::KQK) && has_counts(values, 0, 0)
 }

@@ -136,7 +136,7 @@ fn fault_of_place(place: usize, version: u16) -> FileFault {
     }
 }
 
-/// Each proper prefix of a text is told as cut off.
+/// Each proper prefix of a text is reported as cut off.
 #[test]
 fn each_prefix_is_told_as_cut_off(rt: HostRuntime) {
     let alloc = rt.alloc();
@@ -192,7 +192,7 @@ fn is_cut_short<A: Allocator>(table: &Table<'_, A>, writer: &mut MemoryWriter<'_
     write_table(table, writer) == Err(FileFault::Device)
 }
 
-/// The table is not written; the writer took a prefix of the text, and was not asked again.
+/// The table is not written; the writer took a prefix of the text, and was not called again.
 fn stops<A: Allocator>(
     rt: &impl Abort,
     table: &Table<'_, A>,
@@ -244,7 +244,7 @@ fn expect_pages<S: PageSource>(rt: &impl Abort, source: &mut S) {
     assert!(rt; source.failures() == 2);
 }
 
-/// The pages of a text, one by one, from a source that fails when it is told.
+/// The pages of a text, one by one, from a source that fails where its plan says.
 #[test]
 fn pages_are_read_one_by_one(rt: HostRuntime) {
     let alloc = rt.alloc();
@@ -258,7 +258,7 @@ fn pages_are_read_one_by_one(rt: HostRuntime) {
     expect_pages(&rt, &mut source);
 }
 
-/// A cell after the last one that is not zero, under the digest that it asks for.
+/// A cell after the last one that is not zero, under the digest that fits it.
 #[test]
 fn bytes_after_the_last_cell_have_to_be_zero(rt: HostRuntime) {
     let alloc = rt.alloc();
@@ -311,7 +311,7 @@ fn faults_have_texts(rt: HostRuntime) -> Result<(), Fail> {
     Ok(())
 }
 
-/// Of two pages that have changed places the first is told, and nothing after it is read.
+/// Of two pages that have changed places the first is reported, and nothing after it is read.
 #[test]
 fn exchanged_pages_are_told(rt: HostRuntime) {
     let alloc = rt.alloc();

@@ -10,7 +10,7 @@ use study_tablefile::{MemorySource, PageSource, page_cells, read_header, read_ta
 use study_text::MemoryReader;
 use study_values::{FileFault, SourceFault};
 
-/// The device's failure is told after so many bytes, and the reader is not asked again.
+/// The device's failure is reported after so many bytes, and the reader is not called again.
 fn fails_after<A: Allocator>(
     rt: &impl Abort,
     alloc: &A,
@@ -43,7 +43,7 @@ fn a_failing_reader_is_told_after_each_byte(rt: HostRuntime) {
     assert_eq!(rt; reader.errors, 0);
 }
 
-/// Question 0 asks for the header, and the others ask for the pages in turn.
+/// Request 0 is for the header, and the others are for the pages in turn.
 fn ask<S: PageSource>(
     source: &mut S,
     question: u32,
@@ -56,7 +56,7 @@ fn ask<S: PageSource>(
     }
 }
 
-/// Whether the header is that of KRK in version 2, and the page that the question asked for is whole.
+/// Whether the header is that of KRK in version 2, and the page of the request is whole.
 fn is_given(rt: &impl Abort, bytes: &[u8; 64], question: u32, page: &[u8; 4128]) -> bool {
     let header = read_header(bytes).ok().expect(rt, "a header");
     header.class == Class::KRK
@@ -65,7 +65,7 @@ fn is_given(rt: &impl Abort, bytes: &[u8; 64], question: u32, page: &[u8; 4128])
         && (question == 0 || page_cells(&header, question - 1, page))
 }
 
-/// Asks all questions. One of them fails: it is told and counted, and the same question asked again is answered.
+/// Makes all requests. One of them fails: it is reported and counted, and the same request made again is answered.
 fn ask_all<S: PageSource>(rt: &impl Abort, source: &mut S, fails_at: u32) {
     let mut bytes = [0u8; 64];
     let mut page = [0u8; 4128];

@@ -75,7 +75,7 @@ pub fn has_fault<A: Allocator>(alloc: &A, text: &[u8], want: FileFault) -> bool 
     fault(alloc, text) == Some(want)
 }
 
-/// A header of these fields, and a page of KK under the digest that other fields ask for.
+/// A header of these fields, and a page of KK under the digest of other fields.
 pub fn one_page<'a, A: Allocator>(
     rt: &impl Abort,
     alloc: &'a A,
@@ -100,7 +100,7 @@ pub fn text_of<'a, A: Allocator>(rt: &impl Abort, alloc: &'a A, class: Class) ->
     written(rt, alloc, &zero_table(rt, alloc, class))
 }
 
-/// The text of the table of KK with zero cells, as the description of the format tells it.
+/// The text of the table of KK with zero cells, as the description of the format has it.
 pub fn text_of_kk<'a, A: Allocator>(rt: &impl Abort, alloc: &'a A) -> Vec<u8, &'a A> {
     let page = [0u8; 4096];
     let text = one_page(rt, alloc, KK, KK, page.as_slice());
