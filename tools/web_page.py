@@ -10,6 +10,7 @@ import base64
 import gzip
 import hashlib
 import os
+import re
 import sys
 
 WEB = os.path.join(os.path.dirname(os.path.abspath(__file__)), "..", "web")
@@ -29,6 +30,12 @@ def digest(text):
     return "'sha256-%s'" % base64.b64encode(hashlib.sha256(text.encode()).digest()).decode()
 
 
+def version():
+    """The version of the programs, which the board has too."""
+    options = read(os.path.join(WEB, "..", "crates", "study_program", "src", "options.rt"))
+    return re.search(r'^pub const VERSION: &str = "([^ ]*) ', options, re.M).group(1)
+
+
 def main():
     page_js, worker_js, module64, module32, out = sys.argv[1:6]
     script, worker, style = read(page_js).strip(), read(worker_js).strip(), read(os.path.join(WEB, "board.css")).strip()
@@ -38,7 +45,8 @@ def main():
               "base-uri 'none'; form-action 'none'") % (digest(script), digest(style))
     page = read(os.path.join(WEB, "page.html"))
     parts = {"/*POLICY*/": policy, "/*STYLE*/": style, "<!--MEN-->": read(os.path.join(WEB, "men.svg")).strip(), "/*WORKER*/": worker,
-             "/*MODULE64*/": packed(module64), "/*MODULE32*/": packed(module32), "/*SCRIPT*/": script}
+             "/*MODULE64*/": packed(module64), "/*MODULE32*/": packed(module32), "/*SCRIPT*/": script,
+             "/*VERSION*/": version()}
     for mark, text in parts.items():
         assert page.count(mark) == 1, mark
         page = page.replace(mark, text)

@@ -7,8 +7,8 @@ use study_import::Choice;
 use study_marks::Stipulation;
 use study_text::Text;
 
-/// The version, and the kit that it is proved with, as `studyimport --version` tells them.
-pub const VERSION: &str = "0.1.0 (kit rattle-kit-13f)";
+/// The version, and the kit that it is proved with, as `studyimport --version` prints them.
+pub const VERSION: &str = "1.0.0 (kit rattle-kit-13f)";
 
 const ABOUT: &str =
     "Turns games of PGN, from standard input, into a script of studybench and studyreport, to standard output.";
@@ -20,11 +20,11 @@ Stipulation, its tag Result, the result behind its moves, --stipulate.
 
 Exit status: 0 each game has its block; 1 some has not; 2 the command line was refused; 3 the run stopped at a fault.";
 
-/// What the command line asks for.
+/// The options of the command line.
 #[derive(Clone, Copy, Debug, PartialEq, Eq)]
 pub struct Options {
     pub choice: Choice,
-    /// Whether standard error is told how many games were read, after every hundred.
+    /// Whether the number of games read is written to standard error, after every hundred.
     pub progress: bool,
 }
 

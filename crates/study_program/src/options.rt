@@ -6,8 +6,8 @@ use clap::builder::ValueParser;
 use clap::{Arg, ArgAction, Command, Error, value_parser};
 use std::alloc::Global;
 
-/// The version, and the kit that it is proved with, as `studybench --version` tells them.
-pub const VERSION: &str = "0.1.0 (kit rattle-kit-13f)";
+/// The version, and the kit that it is proved with, as `studybench --version` prints them.
+pub const VERSION: &str = "1.0.0 (kit rattle-kit-13f)";
 
 const ABOUT: &str =
     "Answers a script of commands on chess endgame studies, one reply a line, from standard input to standard output.";
@@ -35,7 +35,7 @@ but the file that a 'save' had begun when its device failed, and with --separate
 
 Exit status: 0 no line was refused; 1 some line was; 2 the command line was; 3 the run stopped at a fault.";
 
-/// What the command line asks for.
+/// The options of the command line.
 #[derive(Clone, Copy, Debug)]
 pub struct Options<'a> {
     /// The folder of the files of tables: never an empty text, of which the files would stand in the root folder.

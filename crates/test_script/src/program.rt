@@ -49,7 +49,7 @@ fn options_are_read(rt: HostRuntime) -> Result<(), Fail> {
     )
 }
 
-/// Help and the version are asked for; words are refused, an empty name of the folder too.
+/// Help and the version are printed; words are refused, an empty name of the folder too.
 #[test]
 fn help_and_version_are_told_and_words_refused(rt: HostRuntime) -> Result<(), Fail> {
     check_words(&rt, &["--help"], Err((0, "Answers a script of commands")))?;
@@ -57,7 +57,7 @@ fn help_and_version_are_told_and_words_refused(rt: HostRuntime) -> Result<(), Fa
     check_words(
         &rt,
         &["--version"],
-        Err((0, "studybench 0.1.0 (kit rattle-kit-13f)\n")),
+        Err((0, "studybench 1.0.0 (kit rattle-kit-13f)\n")),
     )?;
     for words in [
         ["--pages", "0"],
