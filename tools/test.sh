@@ -9,24 +9,24 @@
 #   SECONDS_EACH=300 ..       the most that a test or a program may take, beside the others; else 120
 #
 # A program runs by `rt try` on its files stdin, args and data, and its output and exit status are compared with its files stdout and status, as in
-# the gate. studybench also answers the scripts of the gallery that need no table of four men. Tests run by `rt try --test`. What a slow machine cuts
+# the gate. studybench also answers five scripts of the gallery that need no table of four men. Tests run by `rt try --test`. What a slow machine cuts
 # is no failure: such lines end with 'not ended', are counted apart, and say nothing of the program. finding_lists, gallery and test_large walk classes
-# of four men, which only a compiled program does in time: the gate alone runs them.
+# of four men, and studyimport reads 36 KB of games, which only compiled programs do in time: the gate alone runs them.
 #
 # Exit status: 0 where nothing failed, 1 where something did, 2 where it could not be tried: no rt, no such crate, no room.
 say() { echo "tools/test.sh: $1" >&2; exit 2; }
 cd "$(dirname "$0")/.." || exit 2
 command -v rt > /dev/null || say "the Rattle toolchain's rt is not on PATH"
-large=" finding_lists gallery test_large "; quick="test_rules test_web"; limit=${SECONDS_EACH:-120}; jobs=${JOBS:-$(nproc)}
+large=" finding_lists gallery studyimport test_large "; quick="test_rules test_web"; limit=${SECONDS_EACH:-120}; jobs=${JOBS:-$(nproc)}
 case $limit$jobs in *[!0-9]*) say "SECONDS_EACH and JOBS are numbers" ;; esac
 
 is_tests() { grep -qr '#\[test\]' "crates/$1/src"; }
 # Those that take longest come first, so that none runs alone at the end.
 all() {
-    for it in test_script test_study test_tables test_review; do echo "$it"; done
+    for it in test_script test_tables test_find test_review test_study; do echo "$it"; done
     for it in crates/*; do
         name=$(basename "$it")
-        case " test_script test_study test_tables test_review$large" in *" $name "*) continue ;; esac
+        case " test_script test_tables test_find test_review test_study$large" in *" $name "*) continue ;; esac
         if [ -f "$it/src/main.rt" ] || is_tests "$name"; then echo "$name"; fi
         [ "$name" = studybench ] && echo cases
     done
@@ -40,7 +40,7 @@ case ${1:-} in
         for name in "$@"; do
             [ -f "crates/$name/src/lib.rt" ] || [ -f "crates/$name/src/main.rt" ] || say "$name is no crate"
             [ -f "crates/$name/src/main.rt" ] || is_tests "$name" || say "$name is a library without tests; those of its layer are in crates/test_*"
-            case $large in *" $name "*) say "$name walks classes of four men: the gate alone runs it" ;; esac
+            case $large in *" $name "*) say "$name takes a compiled program: the gate alone runs it" ;; esac
         done
         names=$(printf '%s\n' "$@")
         ;;
@@ -64,11 +64,11 @@ program() {
     else echo "program $1 ... FAILED (status $status, wanted $want)"; fi
 }
 
-# The scripts of the gallery that need no table of four men, each as standard input of studybench
+# Scripts of the gallery that need no table of four men, each as standard input of studybench; of those that build the table of king and pawn, one
 cases() {
     mkdir "$out/cases"
     while read -r name; do
-        case $name in knnk_*) continue ;; esac
+        case $name in knnk_* | kpk_into_* | kpk_longest_* | kpk_rook_*) continue ;; esac
         cp "crates/gallery/data/$name.script" "$out/cases/$name"
         cp "crates/gallery/data/$name.expected" "$out/cases/$name.stdout"
     done < crates/gallery/args
