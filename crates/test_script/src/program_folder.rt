@@ -25,6 +25,20 @@ const SHORT: &str =
 
 const LOADED: &str = "loaded KRK cells 81920\n";
 
+/// Two kings: the commands, and their replies where the table can be read, where its page is not there, and where it is not held.
+const KINGS: &str = "position k7/8/8/8/8/8/8/K7 w - - 0 1\nstipulate white draw\nmark root\n";
+
+const KINGS_MARKED: &str =
+    "position k7/8/8/8/8/8/8/K7 w - - 0 1\nstipulate White to draw\nmark root draw - faults 0\n";
+
+const KINGS_SHORT: &str =
+    "position k7/8/8/8/8/8/8/K7 w - - 0 1\nerror TableRead Short\nerror NoStudy\n";
+
+const KINGS_NOT_HELD: &str =
+    "position k7/8/8/8/8/8/8/K7 w - - 0 1\nerror NoTable KK\nerror NoStudy\n";
+
+const KINGS_LOADED: &str = "loaded KK cells 1280\n";
+
 /// The parts, one after the other.
 fn joined(alloc: Global, parts: &[&str]) -> Result<String, Fail> {
     let mut text = String::new(alloc);
@@ -56,26 +70,37 @@ fn check(
     }
 }
 
-/// Makes a folder with the files of KK and KRK, in place of one that a broken test left.
-fn save(rt: &HostRuntime, folder: &str) -> Result<(), Fail> {
+/// Makes a folder with files that a run saves, in place of one that a broken test left.
+fn save(rt: &HostRuntime, folder: &str, script: &str, replies: &str) -> Result<(), Fail> {
     let _absent = fs::remove_dir_all(rt, folder);
     fs::create_dir(rt, folder)?;
-    check(
+    check(rt, folder, None, &[script], &[replies])
+}
+
+/// A folder with the file of two kings.
+fn save_kings(rt: &HostRuntime, folder: &str) -> Result<(), Fail> {
+    save(
         rt,
         folder,
-        None,
-        &["build KK\nsave KK\nbuild KRK\nsave KRK\n"],
-        &[
-            "built KK cells 1280 win -\nsaved KK bytes 4192\n",
-            "built KRK cells 81920 win 31\nsaved KRK bytes 82624\n",
-        ],
+        "build KK\nsave KK\n",
+        "built KK cells 1280 win -\nsaved KK bytes 4192\n",
     )
 }
 
 /// What one run saves, others load, whole and by pages.
 #[test]
 fn what_one_run_saves_others_load(rt: HostRuntime) -> Result<(), Fail> {
-    save(&rt, "saved")?;
+    save_kings(&rt, "saved")?;
+    check(
+        &rt,
+        "saved",
+        None,
+        &["load KK\nbuild KRK\nsave KRK\n"],
+        &[
+            KINGS_LOADED,
+            "built KRK cells 81920 win 31\nsaved KRK bytes 82624\n",
+        ],
+    )?;
     check(
         &rt,
         "saved",
@@ -108,63 +133,83 @@ fn what_one_run_saves_others_load(rt: HostRuntime) -> Result<(), Fail> {
             MARKED,
         ],
     )?;
+    check_cut(&rt, 82_623, MARKED)?;
+    check_cut(&rt, 64 + 4128 * 5 + 9, SHORT)?;
     Ok(fs::remove_dir_all(&rt, "saved")?)
 }
 
-/// What `load` answers over a changed file of KRK, whole and by pages, and what a study is answered then.
-fn check_load(rt: &HostRuntime, folder: &str, whole: &str, paged: [&str; 2]) -> Result<(), Fail> {
+/// The file of KRK is cut after so many bytes: what a study is answered by pages.
+fn check_cut(rt: &HostRuntime, len: usize, study: &str) -> Result<(), Fail> {
+    let mut text = fs::read(rt, "saved/KRK.dtm")?;
+    text.truncate(len);
+    fs::write(rt, "saved/KRK.dtm", text.as_slice())?;
     check(
         rt,
-        folder,
-        None,
-        &["load KK\nload KRK\n"],
-        &["loaded KK cells 1280\n", whole],
-    )?;
-    check(rt, folder, Some(1), &["load KRK\n", STUDY], &paged)
+        "saved",
+        Some(1),
+        &["load KRK\n", STUDY],
+        &[LOADED, study],
+    )
 }
 
-/// The file ends too early, or too late.
+/// The file ends too early, or too late: what `load` answers, whole and by pages, and what a study is answered then.
 #[test]
 fn a_file_of_another_length_is_told(rt: HostRuntime) -> Result<(), Fail> {
-    save(&rt, "cut")?;
-    let mut text = fs::read(&rt, "cut/KRK.dtm")?;
+    save_kings(&rt, "cut")?;
+    let mut text = fs::read(&rt, "cut/KK.dtm")?;
     text.push(b'x')?;
     let rows = [
-        (82_625, "error TrailingBytes\n", [LOADED, MARKED]),
-        (82_623, "error Cut\n", [LOADED, MARKED]),
-        (64 + 4128 * 5 + 9, "error Cut\n", [LOADED, SHORT]),
-        (63, "error Cut\n", ["error TableRead Short\n", NOT_HELD]),
-        (0, "error Cut\n", ["error TableRead Short\n", NOT_HELD]),
+        (4193, "error TrailingBytes\n", [KINGS_LOADED, KINGS_MARKED]),
+        (4191, "error Cut\n", [KINGS_LOADED, KINGS_SHORT]),
+        (64 + 9, "error Cut\n", [KINGS_LOADED, KINGS_SHORT]),
+        (
+            63,
+            "error Cut\n",
+            ["error TableRead Short\n", KINGS_NOT_HELD],
+        ),
+        (
+            0,
+            "error Cut\n",
+            ["error TableRead Short\n", KINGS_NOT_HELD],
+        ),
     ];
     for (len, whole, paged) in rows {
         text.truncate(len);
-        fs::write(&rt, "cut/KRK.dtm", text.as_slice())?;
-        check_load(&rt, "cut", whole, paged)?;
+        fs::write(&rt, "cut/KK.dtm", text.as_slice())?;
+        check(&rt, "cut", None, &["load KK\n"], &[whole])?;
+        check(&rt, "cut", Some(1), &["load KK\n", KINGS], &paged)?;
     }
     Ok(fs::remove_dir_all(&rt, "cut")?)
+}
+
+/// What `load` answers of KRK, whole and by pages; a study of that class is answered `NoTable` then.
+fn check_load(rt: &HostRuntime, whole: &str, paged: &str) -> Result<(), Fail> {
+    check(
+        rt,
+        "none",
+        None,
+        &["load KK\nload KRK\n"],
+        &[KINGS_LOADED, whole],
+    )?;
+    check(
+        rt,
+        "none",
+        Some(1),
+        &["load KRK\n", STUDY],
+        &[paged, NOT_HELD],
+    )
 }
 
 /// Another class, a folder, or nothing is in the file's place.
 #[test]
 fn a_file_that_is_not_there_is_told(rt: HostRuntime) -> Result<(), Fail> {
-    save(&rt, "none")?;
-    fs::rename(&rt, "none/KRK.dtm", "none/kept")?;
-    check_load(&rt, "none", "error NoFile\n", ["error NoFile\n", NOT_HELD])?;
+    save_kings(&rt, "none")?;
+    check_load(&rt, "error NoFile\n", "error NoFile\n")?;
     fs::copy(&rt, "none/KK.dtm", "none/KRK.dtm")?;
-    check_load(
-        &rt,
-        "none",
-        "error OtherClass KK\n",
-        ["error OtherClass KK\n", NOT_HELD],
-    )?;
+    check_load(&rt, "error OtherClass KK\n", "error OtherClass KK\n")?;
     fs::remove_file(&rt, "none/KRK.dtm")?;
     fs::create_dir(&rt, "none/KRK.dtm")?;
-    check_load(
-        &rt,
-        "none",
-        "error Device\n",
-        ["error TableRead Device\n", NOT_HELD],
-    )?;
+    check_load(&rt, "error Device\n", "error TableRead Device\n")?;
     Ok(fs::remove_dir_all(&rt, "none")?)
 }
 
