@@ -1,8 +1,9 @@
 -- What comes before the first page and after the last: fixed texts.
 use Rattle.std.specs.Prelude.{ℕ, List, ◌++◌, codes}
 
-unfoldable pub opening : List ℕ
-opening =
+-- what comes before the end of the style, and what comes after it
+unfoldable pub front : List ℕ
+front =
     codes "<!DOCTYPE html>\n<html lang=\"en\"><head><meta charset=\"utf-8\"><meta name=\"viewport\" content=\"width=device-width, initial-sca"
     ++ (codes "le=1\"><title>Study report</title><style>\n@page{size:A4;margin:12mm 16mm}\n*{box-sizing:border-box}\nhtml{font:10pt/1.38 \"Libera"
     ++ (codes "tion Serif\",\"Times New Roman\",Georgia,serif;color:#111;background:#fff}\nbody{margin:0 auto;max-width:178mm;padding:6mm 0}\nart"
@@ -32,7 +33,11 @@ opening =
     ++ (codes "right:1.5mm}\n.note{font-size:8.5pt;color:#333;margin-top:1mm}\nsmall{font-size:8.5pt;color:#333}\nfooter{margin-top:5mm;border-top:.5pt solid #"
     ++ (codes "999;padding-top:1mm;font-size:8.5pt;color:#333}\n@media print{body{padding:0}article+article{margin-top:0}a{color:inherit}.stamp,."
     ++ (codes "dk{print-color-adjust:exact}}\n@media screen and (max-width:700px){body{padding:4mm}.top,.cards{grid-template-columns:1fr}}\n.warn"
-    ++ (codes "{color:#9c1119;font-style:italic}\n.keep{break-inside:avoid}\n.mini use{stroke-width:2.3}\n\n</style></head><body><svg class=\"def"
+    ++ (codes "{color:#9c1119;font-style:italic}\n.keep{break-inside:avoid}\n.mini use{stroke-width:2.3}\n\n")))))))))))))))))))))))))))))
+
+unfoldable pub back : List ℕ
+back =
+    codes "</style></head><body><svg class=\"def"
     ++ (codes "s\" width=\"0\" height=\"0\" aria-hidden=\"true\"><defs><symbol id=\"mP\" viewBox=\"0 0 45 45\"><path d=\"M22.5 8.5a5.6 5.6 0 0 1 "
     ++ (codes "3.7 9.8c2.9 1.6 4.6 4.3 4.6 7.4 0 2.2-.8 4.3-2.3 5.9 4.2 1.2 7 4 7 7.4h-26c0-3.4 2.8-6.2 7-7.4a8.7 8.7 0 0 1-2.3-5.9c0-3.1 1.7-5.8"
     ++ (codes " 4.6-7.4a5.6 5.6 0 0 1 3.7-9.8z\"/></symbol><symbol id=\"mR\" viewBox=\"0 0 45 45\"><path d=\"M10 39v-4.5l3-1v-2l2.5-12-4.5-4V8h5v"
@@ -57,7 +62,20 @@ opening =
     ++ (codes "112\" y=\"372\">c</text><text x=\"157\" y=\"372\">d</text><text x=\"202\" y=\"372\">e</text><text x=\"247\" y=\"372\">f</text><tex"
     ++ (codes "t x=\"292\" y=\"372\">g</text><text x=\"337\" y=\"372\">h</text><text x=\"-8\" y=\"342\">1</text><text x=\"-8\" y=\"297\">2</text>"
     ++ (codes "<text x=\"-8\" y=\"252\">3</text><text x=\"-8\" y=\"207\">4</text><text x=\"-8\" y=\"162\">5</text><text x=\"-8\" y=\"117\">6</tex"
-    ++ (codes "t><text x=\"-8\" y=\"72\">7</text><text x=\"-8\" y=\"27\">8</text></g></defs></svg>\n"))))))))))))))))))))))))))))))))))))))))))))))))))))))
+    ++ (codes "t><text x=\"-8\" y=\"72\">7</text><text x=\"-8\" y=\"27\">8</text></g></defs></svg>\n")))))))))))))))))))))))))
+
+-- of pages
+unfoldable pub opening : List ℕ
+opening = front ++ back
+
+-- of a sheet: twelve diagrams a page
+unfoldable pub sheet_style : List ℕ
+sheet_style =
+    codes "body{max-width:178mm}\nbody>figure{display:inline-block;width:59mm;height:68mm;vertical-align:top;break-inside:avoid}\nbody>figure svg.board"
+    ++ codes "{width:50mm}\nbody>figure figcaption{margin:.5mm 2mm 0;font-size:8.5pt;line-height:1.3}\nbody>figure figcaption b{font-size:9.5pt}\n"
+
+unfoldable pub sheet_opening : List ℕ
+sheet_opening = front ++ (sheet_style ++ back)
 
 unfoldable pub closing : List ℕ
 closing = codes "</body></html>\n"

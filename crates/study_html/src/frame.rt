@@ -1,15 +1,15 @@
 //! What comes before the first page and after the last.
-ghost use Rattle.std.specs.Prelude.{◌≡◌, OnOk, OnErr};
+ghost use Rattle.std.specs.Prelude.{◌≡◌, ◌++◌, OnOk, OnErr};
 ghost use Rattle.std.specs.Io.KnownBytes.{Appends};
 ghost use Rattle.study_text.specs.Taken.{TakesPrefix};
-ghost use Rattle.study_html.specs.Frame.{opening, closing};
+ghost use Rattle.study_html.specs.Frame.{front, back, opening, sheet_style, sheet_opening, closing};
 
 use std::io::Write;
 use study_text::{DeviceFailed, write_text};
 
-/// The style sheet, the shapes of the men, and the board.
-fn opening() -> &'static [u8]
-    ensures { result.now ≡ opening }
+/// What comes before the end of the style.
+fn front() -> &'static [u8]
+    ensures { result.now ≡ front }
 {
     b"<!DOCTYPE html>\n<html lang=\"en\"><head><meta charset=\"utf-8\"><meta name=\"viewport\" content=\"width=device-width, initial-scale=1\"><ti\
 tle>Study report</title><style>\n@page{size:A4;margin:12mm 16mm}\n*{box-sizing:border-box}\nhtml{font:10pt/1.38 \"Liberation Serif\",\"Time\
@@ -38,7 +38,14 @@ vertical-align:top;border-bottom:.4pt solid #bbb;padding:.7mm 2.5mm .7mm 0}\ntd:
 {white-space:nowrap;margin-right:1.5mm}\n.note{font-size:8.5pt;color:#333;margin-top:1mm}\nsmall{font-size:8.5pt;color:#333}\nfooter{margin-top:5mm;border-top:\
 .5pt solid #999;padding-top:1mm;font-size:8.5pt;color:#333}\n@media print{body{padding:0}article+article{margin-top:0}a{color:inherit}.stamp\
 ,.dk{print-color-adjust:exact}}\n@media screen and (max-width:700px){body{padding:4mm}.top,.cards{grid-template-columns:1fr}}\n.warn{color:#\
-9c1119;font-style:italic}\n.keep{break-inside:avoid}\n.mini use{stroke-width:2.3}\n\n</style></head><body><svg class=\"defs\" width=\"0\" he\
+9c1119;font-style:italic}\n.keep{break-inside:avoid}\n.mini use{stroke-width:2.3}\n\n"
+}
+
+/// The end of the style, the shapes of the men, and the board.
+fn back() -> &'static [u8]
+    ensures { result.now ≡ back }
+{
+    b"</style></head><body><svg class=\"defs\" width=\"0\" he\
 ight=\"0\" aria-hidden=\"true\"><defs><symbol id=\"mP\" viewBox=\"0 0 45 45\"><path d=\"M22.5 8.5a5.6 5.6 0 0 1 3.7 9.8c2.9 1.6 4.6 4.3 4.6 \
 7.4 0 2.2-.8 4.3-2.3 5.9 4.2 1.2 7 4 7 7.4h-26c0-3.4 2.8-6.2 7-7.4a8.7 8.7 0 0 1-2.3-5.9c0-3.1 1.7-5.8 4.6-7.4a5.6 5.6 0 0 1 3.7-9.8z\"/></s\
 ymbol><symbol id=\"mR\" viewBox=\"0 0 45 45\"><path d=\"M10 39v-4.5l3-1v-2l2.5-12-4.5-4V8h5v3.2h4V8h5v3.2h4V8h5v7.5l-4.5 4 2.5 12v2l3 1V39z\
@@ -64,6 +71,14 @@ t><text x=\"-8\" y=\"297\">2</text><text x=\"-8\" y=\"252\">3</text><text x=\"-8
 x=\"-8\" y=\"117\">6</text><text x=\"-8\" y=\"72\">7</text><text x=\"-8\" y=\"27\">8</text></g></defs></svg>\n"
 }
 
+/// What a sheet adds to the style.
+fn sheet_style() -> &'static [u8]
+    ensures { result.now ≡ sheet_style }
+{
+    b"body{max-width:178mm}\nbody>figure{display:inline-block;width:59mm;height:68mm;vertical-align:top;break-inside:avoid}\nbody>figure svg.board\
+{width:50mm}\nbody>figure figcaption{margin:.5mm 2mm 0;font-size:8.5pt;line-height:1.3}\nbody>figure figcaption b{font-size:9.5pt}\n"
+}
+
 #[tactic(auto, unfolding(crate::specs::Frame::closing))]
 fn closing() -> &'static [u8]
     ensures { result.now ≡ closing }
@@ -71,12 +86,32 @@ fn closing() -> &'static [u8]
     b"</body></html>\n"
 }
 
+/// Writes one text after the other.
+fn write_both<W: Write>(out: &mut W, first: &[u8], second: &[u8]) -> Result<(), DeviceFailed>
+    ensures ok { OnOk result (Appends (W.contents out.old) (W.contents out.new) (first.now ++ second.now)) }
+    ensures prefix { OnErr result (TakesPrefix (W.contents out.old) (W.contents out.new) (first.now ++ second.now)) }
+{
+    write_text(out, first)?;
+    write_text(out, second)
+}
+
 /// Writes what comes before the first page.
+#[tactic(auto, unfolding(crate::specs::Frame::opening))]
 pub fn write_opening<W: Write>(out: &mut W) -> Result<(), DeviceFailed>
     ensures ok { OnOk result (Appends (W.contents out.old) (W.contents out.new) opening) }
     ensures prefix { OnErr result (TakesPrefix (W.contents out.old) (W.contents out.new) opening) }
 {
-    write_text(out, opening())
+    write_both(out, front(), back())
+}
+
+/// Writes what comes before the first diagram of a sheet.
+#[tactic(auto, unfolding(crate::specs::Frame::sheet_opening))]
+pub fn write_sheet_opening<W: Write>(out: &mut W) -> Result<(), DeviceFailed>
+    ensures ok { OnOk result (Appends (W.contents out.old) (W.contents out.new) sheet_opening) }
+    ensures prefix { OnErr result (TakesPrefix (W.contents out.old) (W.contents out.new) sheet_opening) }
+{
+    write_text(out, front())?;
+    write_both(out, sheet_style(), back())
 }
 
 /// Writes what comes after the last page.

@@ -1,7 +1,7 @@
 //! HTML that is always well nested: elements, words from outside, and drawings of boards and men.
 //!
 //! `Html` is markup that grows by words, by whole elements and by drawings, so that it is always well nested and words from
-//! outside are never read as markup. `write_opening` and `write_closing` write what stands around the pages of a file: the
+//! outside are never read as markup. `write_opening` or `write_sheet_opening`, and `write_closing`, write what stands around the pages of a file: the
 //! style sheet of the elements, and the shapes that the drawings name.
 #![tactic(auto)]
 
@@ -14,6 +14,6 @@ mod laws;
 
 pub use drawing::Drawing;
 pub use element::Element;
-pub use frame::{write_closing, write_opening};
+pub use frame::{write_closing, write_opening, write_sheet_opening};
 pub use html::{Html, put_words};
 pub use laws::words_are_clean;

@@ -4,3 +4,4 @@ pub mod WholePage
 pub mod GroupsFound
 pub mod TreeWritten
 pub mod OnePage
+pub mod KeyMade

@@ -9,3 +9,4 @@ pub mod Tree
 pub mod Made
 pub mod Page
 pub mod Lists
+pub mod Sheet

@@ -98,7 +98,7 @@ pub fn put_head<'a, 'b, A: Allocator, B: Allocator>(
 }
 
 /// Where Black moves first, that it is so.
-fn moves_first(side: Side) -> &'static [u8]
+pub fn moves_first(side: Side) -> &'static [u8]
     ensures { result.now ≡ moves_first side }
 {
     match side {

@@ -8,8 +8,9 @@ use Rattle.study_report.specs.Lines.{refusal_line, IsReviewForm}
 use Rattle.study_report.specs.Outcome.{Shape}
 use Rattle.study_report.specs.Parts.{Fits}
 use Rattle.study_print.specs.Pages.{FileShape, FileFits}
+use Rattle.study_sheet.specs.Sheet.{SheetFits}
 use Rattle.study_report_program.specs.declared.options.Form.{Form}
-use Rattle.study_report_program.specs.declared.options.Form.TheVariants.{Lines, Pages}
+use Rattle.study_report_program.specs.declared.options.Form.TheVariants.{Lines, Pages, Sheet}
 use Rattle.study_report_program.specs.Ended.{HasReported}
 
 least : (n : ℕ) → 0 ≤ n
@@ -23,6 +24,7 @@ pub none_reported : (form : Form) (script left out : Option (List ℕ)) → HasR
 none_reported form None left out = tt
 none_reported Lines (Some script) left out = (not_begun script left, tt)
 none_reported Pages (Some script) left out = (inr (Err OutOfMemory, not_begun script left, inl refl), inl (refl, refl))
+none_reported Sheet (Some script) left out = (inr (Err OutOfMemory, not_begun script left, inl refl), inl (refl, refl))
 
 pub lines_reported : (script left old new : Option (List ℕ)) (answer : Result Summary RunFault) → IfSome script (λ bytes. Shape bytes left answer)
     → IfSome script (λ bytes. Fits IsReviewForm (λ number line reply. refusal_line number reply) bytes left old new answer) → HasReported Lines script left old new answer
@@ -33,3 +35,8 @@ pub pages_reported : (script left old new : Option (List ℕ)) (answer : Result 
     → IfSome script (λ bytes. FileFits bytes left old new answer) → HasReported Pages script left old new answer
 pages_reported None left old new answer shape fits = tt
 pages_reported (Some script) left old new answer shape fits = (shape, inr fits)
+
+pub sheet_reported : (script left old new : Option (List ℕ)) (answer : Result Summary RunFault) → IfSome script (λ bytes. FileShape bytes left answer)
+    → IfSome script (λ bytes. SheetFits bytes left old new answer) → HasReported Sheet script left old new answer
+sheet_reported None left old new answer shape fits = tt
+sheet_reported (Some script) left old new answer shape fits = (shape, inr fits)

@@ -22,6 +22,8 @@ pub enum Form {
     Pages,
     /// As lines of plain text, a fact a line.
     Lines,
+    /// As a sheet of diagrams, twelve a page, in HTML.
+    Sheet,
 }
 
 /// The options of the command line.
@@ -46,6 +48,21 @@ pub struct Options<'a> {
 /// No contract: clap has none on the words that it takes. The type proves that the folder has a name, and the range of pages; the tests
 /// tell the rest.
 pub fn read_words<'a>(alloc: Global, words: &'a [String]) -> Result<Options<'a>, Error> {
+    let command = command(alloc)?;
+    let matches = command.try_get_matches_from(words)?;
+    let tables = folder_of(matches.get_str("tables"));
+    let pages = pages_of(matches.get_one::<u16>("pages"));
+    let form = form_of(matches.get_flag("lines"), matches.get_flag("sheet"));
+    let progress = matches.get_flag("progress");
+    Ok(Options {
+        tables,
+        pages,
+        form,
+        progress,
+    })
+}
+
+fn command<'a>(alloc: Global) -> Result<Command<'a>, Error> {
     let tables = Arg::new(alloc, "tables")
         .long("tables")
         .value_name("DIR")
@@ -58,16 +75,21 @@ pub fn read_words<'a>(alloc: Global, words: &'a [String]) -> Result<Options<'a>,
         .action(ArgAction::Set)
         .value_parser(value_parser!(u16).range(1..=4096))
         .help("Keeps N pages of 4,096 cells, 1 to 4096 [default: 1024]");
-    let lines = Arg::new(alloc, "lines")
-        .long("lines")
-        .action(ArgAction::SetTrue)
-        .help("Tells facts as lines of plain text, a fact a line, and not as pages");
-    let progress = Arg::new(alloc, "progress")
-        .long("progress")
-        .action(ArgAction::SetTrue)
-        .help(
-            "Tells on standard error, after every ten pages, how many studies were printed; of lines nothing",
-        );
+    let lines = flag(
+        alloc,
+        "lines",
+        "Writes facts as lines of plain text, a fact a line, and not as pages",
+    );
+    let sheet = flag(
+        alloc,
+        "sheet",
+        "Writes a sheet of diagrams, twelve a page, each with its number, stipulation and key",
+    );
+    let progress = flag(
+        alloc,
+        "progress",
+        "Writes to standard error, after every ten pages, how many studies were printed; of lines and sheets nothing",
+    );
     let command = Command::new(alloc, "studyreport")
         .version(VERSION)
         .about(ABOUT)
@@ -75,18 +97,16 @@ pub fn read_words<'a>(alloc: Global, words: &'a [String]) -> Result<Options<'a>,
         .arg(tables)?
         .arg(pages)?
         .arg(lines)?
+        .arg(sheet.conflicts_with("lines")?)?
         .arg(progress)?;
-    let matches = command.try_get_matches_from(words)?;
-    let tables = folder_of(matches.get_str("tables"));
-    let pages = pages_of(matches.get_one::<u16>("pages"));
-    let form = form_of(matches.get_flag("lines"));
-    let progress = matches.get_flag("progress");
-    Ok(Options {
-        tables,
-        pages,
-        form,
-        progress,
-    })
+    Ok(command)
+}
+
+fn flag<'a>(alloc: Global, name: &'a str, help: &'a str) -> Arg<'a> {
+    Arg::new(alloc, name)
+        .long(name)
+        .action(ArgAction::SetTrue)
+        .help(help)
 }
 
 /// So many pages, where it is a number of pages that can be kept, else 1,024.
@@ -100,7 +120,11 @@ fn pages_of(given: Option<u16>) -> u16
     }
 }
 
-/// The form that the options name.
-fn form_of(lines: bool) -> Form {
-    if lines { Form::Lines } else { Form::Pages }
+/// The form that the options name; clap refuses both at once.
+fn form_of(lines: bool, sheet: bool) -> Form {
+    match (lines, sheet) {
+        (true, _) => Form::Lines,
+        (false, true) => Form::Sheet,
+        (false, false) => Form::Pages,
+    }
 }

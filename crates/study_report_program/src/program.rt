@@ -19,6 +19,7 @@ use study_prober::PagedTables;
 use study_program::{FolderStore, status_of, status_without_options, words_of};
 use study_report::{Lines, follow_script};
 use study_script::{RunFault, Summary, Tables};
+use study_sheet::follow_sheet;
 
 /// Reads the script from standard input and writes the report of each study to standard output as soon as its line is answered.
 ///
@@ -123,6 +124,7 @@ fn report_over_files<F: Files, A: Allocator, R: Read, W: Write, E: Write>(
     open_tables(alloc, &mut tables, &mut store, errors);
     match options.form {
         Form::Lines => follow_script(alloc, script, out, &mut Lines, Tables::Paged(tables)),
+        Form::Sheet => follow_sheet(alloc, script, out, Tables::Paged(tables)),
         Form::Pages => {
             let asked = options.progress;
             let progress = Progress { errors, asked };

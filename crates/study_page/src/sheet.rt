@@ -1,0 +1,125 @@
+//! A study on a sheet of diagrams.
+ghost use Rattle.std.specs.Prelude.{◌≡◌, ◌++◌, OnOk, IfOk, Err};
+ghost use Rattle.std.specs.Io.KnownBytes.{Appends};
+ghost use Rattle.study_text.specs.Taken.{TakesPrefix};
+ghost use Rattle.study_marks.specs.BenchState.{marked};
+ghost use Rattle.study_marks.specs.Study.{tag_of};
+ghost use Rattle.study_marks.specs.declared.tag.TagName.TheVariants as tag;
+ghost use Rattle.study_page.specs.Known.{known};
+ghost use Rattle.study_pgn.specs.Pgn.{stipulation_text};
+ghost use Rattle.study_page.specs.Sheet.{number_words, author_line, key_words, key_of, place_caption, place};
+
+use crate::diagram::draw_board;
+use crate::fault::PageFault;
+use crate::head::moves_first;
+use crate::known::known_tag;
+use crate::words::add_label;
+use std::alloc::{AllocError, Allocator};
+use std::io::Write;
+use study_html::{Drawing, Element, Html, put_words};
+use study_marks::{Bench, TagName};
+use study_pgn::add_stipulation;
+use study_review::made_in;
+use study_text::{Text, write_text};
+
+/// The number and the stipulation.
+#[tactic(auto, unfolding(crate::specs::Sheet::number_words))]
+fn add_numbered<'b, A: Allocator, B: Allocator>(
+    text: &mut Text<'_, A>,
+    bench: &Bench<'b, B>,
+    number: u32,
+) -> Result<(), AllocError>
+    ensures { OnOk result (text.new ≡ text.old ++ number_words number (stipulation_text (marked bench.now).stipulation)) }
+{
+    text.add_number(number)?;
+    text.add(b". ")?;
+    add_stipulation(text, bench.stipulation())
+}
+
+/// The author on a line, if one is known.
+fn say_author<A: Allocator>(html: &mut Html<'_, A>, author: &[u8]) -> Result<(), AllocError>
+    ensures { OnOk result (html.new ≡ html.old ++ author_line author.now) }
+{
+    if author.is_empty() {
+        return Ok(());
+    }
+    html.draw(&Drawing::Break)?;
+    html.say(author)
+}
+
+/// The first move of the solution, with its number.
+fn add_key<'b, A: Allocator, B: Allocator>(
+    text: &mut Text<'_, A>,
+    bench: &Bench<'b, B>,
+) -> Result<(), AllocError>
+    ensures { OnOk result (text.new ≡ text.old ++ key_words (marked bench.now).start (key_of (marked bench.now).tree.below)) }
+{
+    match made_in(bench, &[0]) {
+        None => Ok(()),
+        Some(made) => add_label(
+            text,
+            bench.start(),
+            made.before.depth,
+            &made.before.position,
+            made.played,
+        ),
+    }
+}
+
+/// What is below the diagram.
+#[tactic(auto, unfolding(crate::specs::Sheet::place_caption))]
+fn put_place_caption<'a, 'b, A: Allocator, B: Allocator>(
+    alloc: &'a A,
+    html: &mut Html<'_, A>,
+    bench: &Bench<'b, B>,
+    number: u32,
+) -> Result<(), AllocError>
+    ensures { OnOk result (html.new ≡ html.old ++ place_caption number (marked bench.now).stipulation (marked bench.now).start
+        (known (tag_of (marked bench.now).tags tag.White)) (key_of (marked bench.now).tree.below)) }
+{
+    let mut within = Html::new(alloc);
+    let mut numbered = Text::new(alloc);
+    let mut key = Text::new(alloc);
+    add_numbered(&mut numbered, bench, number)?;
+    put_words(alloc, &mut within, Element::Strong, numbered.as_slice())?;
+    within.say(moves_first(bench.start().position.to_move()))?;
+    say_author(&mut within, known_tag(bench, TagName::White))?;
+    within.draw(&Drawing::Break)?;
+    add_key(&mut key, bench)?;
+    within.say(key.as_slice())?;
+    html.put(Element::Caption, &within)
+}
+
+/// The study on a sheet.
+#[tactic(auto, unfolding(crate::specs::Sheet::place))]
+fn place_of<'a, 'b, A: Allocator, B: Allocator>(
+    alloc: &'a A,
+    bench: &Bench<'b, B>,
+    number: u32,
+) -> Result<Html<'a, A>, AllocError>
+    ensures { IfOk result (λ html. html ≡ place (marked bench.now) number) }
+{
+    let mut html = Html::new(alloc);
+    let mut within = Html::new(alloc);
+    draw_board(alloc, &mut within, &bench.start().position)?;
+    put_place_caption(alloc, &mut within, bench, number)?;
+    html.put(Element::Figure, &within)?;
+    Ok(html)
+}
+
+/// Writes a study as a place on a sheet, twelve of which fill a page: the diagram of its start, with its number, what is to be done, its
+/// author and the first move of its solution below.
+pub fn write_place<'a, 'b, A: Allocator, B: Allocator, W: Write>(
+    alloc: &'a A,
+    bench: &Bench<'b, B>,
+    number: u32,
+    out: &mut W,
+) -> Result<(), PageFault>
+    ensures ok { OnOk result (Appends (W.contents out.old) (W.contents out.new) (place (marked bench.now) number)) }
+    ensures device { result ≡ Err PageFault.Device → TakesPrefix (W.contents out.old) (W.contents out.new) (place (marked bench.now) number) }
+    ensures memory { result ≡ Err PageFault.OutOfMemory → out.new ≡ out.old }
+{
+    let html = place_of(alloc, bench, number)?;
+    write_text(out, html.as_slice())?;
+    Ok(())
+}

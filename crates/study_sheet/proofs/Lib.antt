@@ -1,0 +1,2 @@
+pub mod SheetWritten
+pub mod PlacesPlain

@@ -1,0 +1,38 @@
+-- A whole sheet, by what was written one after the other.
+use Rattle.std.proofs.Common.{◌≡◌, ℕ, List, Option, Some, None, Result, Ok, Err, refl, inl, inr, true, false, Bool, is_err}
+use Rattle.std.specs.Prelude.{IfSome, OnOk}
+use Rattle.std.specs.Io.KnownBytes.{Appends}
+use Rattle.study_text.specs.Taken.{TakesPrefix}
+use Rattle.study_script.specs.declared.running.Summary.{Summary}
+use Rattle.study_script.specs.declared.running.RunFault.{RunFault}
+use Rattle.study_script.specs.declared.running.RunFault.TheVariants.{WriteDevice}
+use Rattle.study_script.specs.State.{State}
+use Rattle.study_report.specs.Outcome.{Outcome}
+use Rattle.study_report.specs.Parts.{Fits}
+use Rattle.study_html.specs.Frame.{sheet_opening, closing}
+use Rattle.study_print.specs.Pages.{refusal_text, IsEnded}
+use Rattle.study_sheet.specs.Sheet.{IsPlaceOf, IsPlace, IsSheet, SheetFits}
+
+module _ (left old begun ended new : Option (List ℕ)) (answer : Result Summary RunFault) where
+  pub whole_sheet : (first : State) (given : Option (List ℕ)) (ran : Result Summary RunFault) → Appends old begun sheet_opening
+      → IfSome given (λ bytes. Outcome IsPlaceOf refusal_text first bytes left begun ended ran) → IsEnded closing ended new ran answer
+      → IfSome given (λ bytes. IsSheet first bytes left old new answer)
+  whole_sheet first None ran opened told end = tt
+  whole_sheet first (Some script) ran opened told end = inr (begun, ended, ran, opened, told, end)
+
+  pub sheet_fits : (given : Option (List ℕ)) (ran : Result Summary RunFault) → Appends old begun sheet_opening
+      → IfSome given (λ bytes. Fits IsPlace refusal_text bytes left begun ended ran) → IsEnded closing ended new ran answer
+      → IfSome given (λ bytes. SheetFits bytes left old new answer)
+  sheet_fits None ran opened fits end = tt
+  sheet_fits (Some script) ran opened fits end = inr (begun, ended, ran, opened, fits, end)
+
+-- the writer fails before the first line
+pub no_sheet : (first : State) (given old new : Option (List ℕ)) → TakesPrefix old new sheet_opening
+    → IfSome given (λ bytes. IsSheet first bytes given old new (Err WriteDevice))
+no_sheet first None old new h = tt
+no_sheet first (Some script) old new h = inl (refl, refl, h)
+
+pub no_fit : (given left old new : Option (List ℕ)) → TakesPrefix old new sheet_opening
+    → IfSome given (λ bytes. SheetFits bytes left old new (Err WriteDevice))
+no_fit None left old new h = tt
+no_fit (Some script) left old new h = inl (refl, h)

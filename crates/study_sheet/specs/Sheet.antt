@@ -1,0 +1,37 @@
+-- A sheet of diagrams.
+use Rattle.std.specs.Prelude.{◌≡◌, ◌⊎◌, ℕ, List, Option, Some, Result, Err}
+use Rattle.std.specs.Io.KnownBytes.{Appends}
+use Rattle.study_text.specs.Taken.{TakesPrefix}
+use Rattle.study_marks.specs.Edits.{Plainly}
+use Rattle.study_script.specs.declared.running.Summary.{Summary}
+use Rattle.study_script.specs.declared.running.RunFault.{RunFault}
+use Rattle.study_script.specs.declared.running.RunFault.TheVariants.{WriteDevice}
+use Rattle.study_script.specs.State.{State}
+use Rattle.study_report.specs.Outcome.{Outcome}
+use Rattle.study_report.specs.Parts.{Fits}
+use Rattle.study_html.specs.Frame.{sheet_opening, closing}
+use Rattle.study_page.specs.Sheet.{place}
+use Rattle.study_print.specs.Pages.{refusal_text, IsEnded}
+
+-- the place of this study, with this number; and of some study
+abbrev pub IsPlaceOf : Plainly → ℕ → List ℕ → Type 0
+IsPlaceOf plain number text = text ≡ place plain number
+
+abbrev pub IsPlace : ℕ → List ℕ → Type 0
+IsPlace number text = (plain : Plainly) × IsPlaceOf plain number text
+
+-- A sheet, of what is held at the beginning, the bytes of a script, what the reader has left of them, what the writer had and has, and the answer:
+-- the opening; in script order the place of each study that an accepted `pgn` line reported, and each refused line; and the closing.
+abbrev pub IsSheet : State → List ℕ → Option (List ℕ) → Option (List ℕ) → Option (List ℕ) → Result Summary RunFault → Type 0
+IsSheet first script left old new answer =
+    ((answer ≡ Err WriteDevice) × (left ≡ Some script) × TakesPrefix old new sheet_opening)
+    ⊎ ((begun ended : Option (List ℕ)) × (ran : Result Summary RunFault) × Appends old begun sheet_opening
+    × Outcome IsPlaceOf refusal_text first script left begun ended ran × IsEnded closing ended new ran answer)
+
+-- What is written of a sheet, whatever is held: the opening, the places and the refusals of the lines, of which so many are refusals as are
+-- counted, and the closing.
+abbrev pub SheetFits : List ℕ → Option (List ℕ) → Option (List ℕ) → Option (List ℕ) → Result Summary RunFault → Type 0
+SheetFits script left old new answer =
+    ((answer ≡ Err WriteDevice) × TakesPrefix old new sheet_opening)
+    ⊎ ((begun ended : Option (List ℕ)) × (ran : Result Summary RunFault) × Appends old begun sheet_opening
+    × Fits IsPlace refusal_text script left begun ended ran × IsEnded closing ended new ran answer)

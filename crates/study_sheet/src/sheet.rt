@@ -1,0 +1,57 @@
+//! A report as a sheet of diagrams.
+use std::alloc::Allocator;
+use std::io::Write;
+use study_marks::Bench;
+use study_page::{PageFault, write_place, write_refusal};
+use study_print::{reason_of, refusal_in};
+use study_report::{NotTold, Report, ReviewFault};
+use study_values::Values;
+
+/// Studies as places on a sheet, and a line for each refused line. No value is probed.
+#[derive(Clone, Copy, Debug, PartialEq, Eq)]
+pub struct Sheet;
+
+impl Report for Sheet {
+    ghost use Rattle.study_print.specs.Pages.{refusal_text};
+    ghost use Rattle.study_sheet.specs.Sheet.{IsPlaceOf, IsPlace};
+
+    ghost tells = { λ plain number text. IsPlaceOf plain number text };
+
+    ghost form = { λ number text. IsPlace number text };
+
+    ghost refusal = { λ number line reply. refusal_text number line reply };
+
+    // Nothing is kept.
+    ghost lists = { λ sheet told. Unit {0} };
+
+    fn add_study<'a, 'b, A: Allocator, B: Allocator, V: Values, W: Write>(
+        &mut self,
+        alloc: &'a A,
+        bench: &Bench<'b, B>,
+        _values: &mut V,
+        number: u32,
+        out: &mut W,
+    ) -> Result<(), ReviewFault> {
+        match write_place(alloc, bench, number, out) {
+            Ok(()) => Ok(()),
+            Err(PageFault::OutOfMemory) => Err(ReviewFault::OutOfMemory),
+            Err(PageFault::Device) => Err(ReviewFault::Device),
+        }
+    }
+
+    fn add_refusal<'a, A: Allocator, W: Write>(
+        &mut self,
+        alloc: &'a A,
+        number: u32,
+        line: &[u8],
+        reply: &[u8],
+        out: &mut W,
+    ) -> Result<(), NotTold> {
+        let refusal = refusal_in(reply);
+        match write_refusal(alloc, number, line, refusal, reason_of(refusal), out) {
+            Ok(()) => Ok(()),
+            Err(PageFault::OutOfMemory) => Err(NotTold::OutOfMemory),
+            Err(PageFault::Device) => Err(NotTold::Device),
+        }
+    }
+}
