@@ -5,3 +5,4 @@ pub mod GroupsFound
 pub mod TreeWritten
 pub mod OnePage
 pub mod KeyMade
+pub mod PlacesPlain

@@ -1,13 +1,13 @@
 //! A study on a sheet of diagrams.
-ghost use Rattle.std.specs.Prelude.{◌≡◌, ◌++◌, OnOk, IfOk, Err};
+ghost use Rattle.std.specs.Prelude.{◌≡◌, ℕ, List, ◌++◌, OnOk, IfOk, Err};
 ghost use Rattle.std.specs.Io.KnownBytes.{Appends};
 ghost use Rattle.study_text.specs.Taken.{TakesPrefix};
 ghost use Rattle.study_marks.specs.BenchState.{marked};
-ghost use Rattle.study_marks.specs.Study.{tag_of};
+ghost use Rattle.study_marks.specs.Study.{tag_of, plain_study};
 ghost use Rattle.study_marks.specs.declared.tag.TagName.TheVariants as tag;
 ghost use Rattle.study_page.specs.Known.{known};
 ghost use Rattle.study_pgn.specs.Pgn.{stipulation_text};
-ghost use Rattle.study_page.specs.Sheet.{number_words, author_line, key_words, key_of, place_caption, place};
+ghost use Rattle.study_page.specs.Sheet.{number_words, author_line, key_words, key_of, place_caption, place, IsPlaceOf, IsPlace};
 
 use crate::diagram::draw_board;
 use crate::fault::PageFault;
@@ -107,6 +107,19 @@ fn place_of<'a, 'b, A: Allocator, B: Allocator>(
     Ok(html)
 }
 
+/// The same, of the study without its marks.
+#[tactic(auto, using(crate::proofs::PlacesPlain::place_plain))]
+fn plain_place_of<'a, 'b, A: Allocator, B: Allocator>(
+    alloc: &'a A,
+    bench: &Bench<'b, B>,
+    number: u32,
+) -> Result<Html<'a, A>, AllocError>
+    ensures { IfOk result (λ html. IsPlaceOf (plain_study (marked bench.now)) number html) }
+{
+    let html = place_of(alloc, bench, number)?;
+    Ok(html)
+}
+
 /// Writes a study as a place on a sheet, twelve of which fill a page: the diagram of its start, with its number, what is to be done, its
 /// author and the first move of its solution below.
 pub fn write_place<'a, 'b, A: Allocator, B: Allocator, W: Write>(
@@ -115,11 +128,14 @@ pub fn write_place<'a, 'b, A: Allocator, B: Allocator, W: Write>(
     number: u32,
     out: &mut W,
 ) -> Result<(), PageFault>
-    ensures ok { OnOk result (Appends (W.contents out.old) (W.contents out.new) (place (marked bench.now) number)) }
-    ensures device { result ≡ Err PageFault.Device → TakesPrefix (W.contents out.old) (W.contents out.new) (place (marked bench.now) number) }
+    ensures ok { OnOk result ((text : List ℕ) × IsPlaceOf (plain_study (marked bench.now)) number text
+        × Appends (W.contents out.old) (W.contents out.new) text) }
+    ensures formed { OnOk result ((text : List ℕ) × IsPlace number text × Appends (W.contents out.old) (W.contents out.new) text) }
+    ensures device { result ≡ Err PageFault.Device → (text : List ℕ) × IsPlaceOf (plain_study (marked bench.now)) number text
+        × TakesPrefix (W.contents out.old) (W.contents out.new) text }
     ensures memory { result ≡ Err PageFault.OutOfMemory → out.new ≡ out.old }
 {
-    let html = place_of(alloc, bench, number)?;
+    let html = plain_place_of(alloc, bench, number)?;
     write_text(out, html.as_slice())?;
     Ok(())
 }

@@ -1,2 +1,2 @@
 pub mod SheetWritten
-pub mod PlacesPlain
+pub mod NothingAsked

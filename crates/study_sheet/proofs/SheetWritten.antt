@@ -11,7 +11,8 @@ use Rattle.study_report.specs.Outcome.{Outcome}
 use Rattle.study_report.specs.Parts.{Fits}
 use Rattle.study_html.specs.Frame.{sheet_opening, closing}
 use Rattle.study_print.specs.Pages.{refusal_text, IsEnded}
-use Rattle.study_sheet.specs.Sheet.{IsPlaceOf, IsPlace, IsSheet, SheetFits}
+use Rattle.study_page.specs.Sheet.{IsPlaceOf, IsPlace}
+use Rattle.study_sheet.specs.Sheet.{IsSheet, SheetFits}
 
 module _ (left old begun ended new : Option (List ℕ)) (answer : Result Summary RunFault) where
   pub whole_sheet : (first : State) (given : Option (List ℕ)) (ran : Result Summary RunFault) → Appends old begun sheet_opening

@@ -2,7 +2,6 @@
 use Rattle.std.specs.Prelude.{◌≡◌, ◌⊎◌, ℕ, List, Option, Some, Result, Err}
 use Rattle.std.specs.Io.KnownBytes.{Appends}
 use Rattle.study_text.specs.Taken.{TakesPrefix}
-use Rattle.study_marks.specs.Edits.{Plainly}
 use Rattle.study_script.specs.declared.running.Summary.{Summary}
 use Rattle.study_script.specs.declared.running.RunFault.{RunFault}
 use Rattle.study_script.specs.declared.running.RunFault.TheVariants.{WriteDevice}
@@ -10,15 +9,8 @@ use Rattle.study_script.specs.State.{State}
 use Rattle.study_report.specs.Outcome.{Outcome}
 use Rattle.study_report.specs.Parts.{Fits}
 use Rattle.study_html.specs.Frame.{sheet_opening, closing}
-use Rattle.study_page.specs.Sheet.{place}
+use Rattle.study_page.specs.Sheet.{IsPlaceOf, IsPlace}
 use Rattle.study_print.specs.Pages.{refusal_text, IsEnded}
-
--- the place of this study, with this number; and of some study
-abbrev pub IsPlaceOf : Plainly → ℕ → List ℕ → Type 0
-IsPlaceOf plain number text = text ≡ place plain number
-
-abbrev pub IsPlace : ℕ → List ℕ → Type 0
-IsPlace number text = (plain : Plainly) × IsPlaceOf plain number text
 
 -- A sheet, of what is held at the beginning, the bytes of a script, what the reader has left of them, what the writer had and has, and the answer:
 -- the opening; in script order the place of each study that an accepted `pgn` line reported, and each refused line; and the closing.

@@ -27,10 +27,7 @@ fn is_broken(ran: &Result<Summary, RunFault>) -> bool
 }
 
 /// Writes what comes after the last place, unless the writer failed before.
-fn write_end<W: Write>(
-    ran: Result<Summary, RunFault>,
-    out: &mut W,
-) -> Result<Summary, RunFault>
+fn write_end<W: Write>(ran: Result<Summary, RunFault>, out: &mut W) -> Result<Summary, RunFault>
     ensures { IsEnded closing (W.contents out.old) (W.contents out.new) ran result }
 {
     if is_broken(&ran) {

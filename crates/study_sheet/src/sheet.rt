@@ -13,7 +13,7 @@ pub struct Sheet;
 
 impl Report for Sheet {
     ghost use Rattle.study_print.specs.Pages.{refusal_text};
-    ghost use Rattle.study_sheet.specs.Sheet.{IsPlaceOf, IsPlace};
+    ghost use Rattle.study_page.specs.Sheet.{IsPlaceOf, IsPlace};
 
     ghost tells = { λ plain number text. IsPlaceOf plain number text };
 
@@ -24,6 +24,7 @@ impl Report for Sheet {
     // Nothing is kept.
     ghost lists = { λ sheet told. Unit {0} };
 
+    #[tactic(auto, using(crate::proofs::NothingAsked::nothing_asked))]
     fn add_study<'a, 'b, A: Allocator, B: Allocator, V: Values, W: Write>(
         &mut self,
         alloc: &'a A,
