@@ -4,7 +4,7 @@ use std::alloc::{Allocator, Global};
 use std::io::{ErrorKind, Write};
 use std::{fs, io};
 use study_material::Class;
-use study_web::{Ending, Reply, Span, answer, put_ending};
+use study_web::{Ending, Reply, Span, TableFiles, answer, put_ending};
 
 /// Each after the classes that it needs.
 const MADE: [Class; 7] = [
@@ -80,14 +80,17 @@ fn ask<'a, A: Allocator>(
     script: &str,
     files: &Files<'a, A>,
 ) -> Reply<'a, A> {
+    let handed_in = TableFiles {
+        spans: files.spans.as_slice(),
+        bytes: files.bytes.as_slice(),
+        pages: None,
+    };
     answer(
         alloc,
         request.as_bytes(),
         script.as_bytes(),
-        files.spans.as_slice(),
-        files.bytes.as_slice(),
+        &handed_in,
         &[],
-        None,
     )
 }
 

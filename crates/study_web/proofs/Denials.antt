@@ -1,5 +1,5 @@
 -- Answers that are whole, and refusals.
-use Rattle.std.proofs.Common.{◌≡◌, ◌⊎◌, ℕ, Bool, true, List, [], ◌∷◌, Option, Result, Ok, Err, refl, sym, ap, subst, ◌∙◌, inl, inr}
+use Rattle.std.proofs.Common.{◌≡◌, ◌⊎◌, ℕ, Bool, true, false, List, [], ◌∷◌, Option, Result, Ok, Err, refl, sym, ap, subst, ◌∙◌, inl, inr}
 use Rattle.std.specs.Prelude.{IfOk, IfErr, IsErrAnd}
 use Rattle.study_script.specs.declared.running.RunFault.{RunFault}
 use Rattle.study_script.specs.declared.running.RunFault.TheVariants as run_fault
@@ -37,7 +37,11 @@ use Rattle.study_values.specs.declared.values.ProbeFault.TheVariants as probe
 use Rattle.study_reply.specs.declared.refusal.Refusal.TheVariants.{NoSuchNode, OutOfMemory}
 use Rattle.study_reply.specs.Names.{of_probe}
 use Rattle.study_web.specs.Answers.{IsWhole, MayEnd, IsNever, IsNoMemory, IsViewDenial, IsSurveyDenial}
-use Rattle.study_web.specs.Opened.{IsHeldAs, IsOfTables, IsOfValues, IsValueUntold}
+use Rattle.study_listing.specs.declared.fault.Stop.{Stop}
+use Rattle.study_listing.specs.declared.fault.Stop.TheVariants as stops
+use Rattle.study_listing.specs.Stops.{StopsUndamaged}
+use Rattle.study_web.specs.Found.{of_stop}
+use Rattle.study_web.specs.Opened.{IsHeldAs, IsOfTables, IsOfValues, IsValueUntold, IsSearchUntold, IsOfSearch}
 use Rattle.study_web.specs.Told.{denial_text, IsDenied, IsUntold}
 
 pub whole_denied : (IsIt : List ℕ → Type 0) (May : Denial → Type 0) (Stops : RunFault → Type 0) (d : Denial) (text : List ℕ) (ended : Ending)
@@ -70,6 +74,24 @@ pub survey_over : (h : Known) (m : Faults) (Right : Type 0) (start : Start) (squ
 survey_over h m Right start square (denial.Refused refusal) is = inl is
 survey_over h m Right start square (denial.OfFile c refusal) is = inl is
 survey_over h m Right start square denial.NoMan is = absurd is
+survey_over h m Right start square (denial.Unread fault) is = inl is
+
+-- ---- why nothing is found
+
+pub search_over : (h : Known) (m : Faults) (Right : Type 0) (d : Denial) → IsOfTables h m d → IsOfSearch h m Right d
+search_over h m Right d is = inl is
+
+pub search_stopped : (h : Known) (m : Faults) (Right : Type 0) (stop : Stop) → ((c : Class) → stop ≡ stops.Values (probe.NoTable c) → IsHeldAs (h c) false)
+    → (Right → StopsUndamaged stop) → IsOfSearch h m Right (of_stop stop)
+search_stopped h m Right (stops.Values fault) lacks right = inr (fault, untold-in fault lacks right, refl)
+  where
+    untold-in : (fault : ProbeFault) → ((c : Class) → stops.Values fault ≡ stops.Values (probe.NoTable c) → IsHeldAs (h c) false)
+        → (Right → StopsUndamaged (stops.Values fault)) → IsSearchUntold h m Right fault
+    untold-in (probe.NoTable c) lacks right = lacks c refl
+    untold-in (probe.TableRead f) lacks right = tt
+    untold-in (probe.PageDamaged c n) lacks right = right
+search_stopped h m Right stops.TooManyStudies lacks right = inl refl
+search_stopped h m Right stops.WriteDevice lacks right = inl refl
 
 module _ {V : Type 0} (held : V → Class → Bool) (gives : V → Position → ProbeAnswer → Type 0) (may_fail : V → Class → SourceFault → Type 0)
     (asked_of failed_of : V → ℕ) (is_honest : V → Type 0) where
@@ -195,9 +217,17 @@ module _ (May Might : Denial → Type 0) (start : Start) (square : ℕ) (may : (
   survey_end (no_text.Denied (denial.Refused refusal)) h = may (denial.Refused refusal) h
   survey_end (no_text.Denied (denial.OfFile c refusal)) h = may (denial.OfFile c refusal) h
   survey_end (no_text.Denied denial.NoMan) h = h
+  survey_end (no_text.Denied (denial.Unread fault)) h = may (denial.Unread fault) h
   survey_end (no_text.Stopped fault) h = h
 
   pub survey_denial : {V : Type 0} (made : Result V NoText) → IfErr made (MayEnd (IsSurveyDenial May start square) IsNoMemory)
       → IfErr made (MayEnd (IsSurveyDenial Might start square) IsNoMemory)
   survey_denial (Ok v) h = tt
   survey_denial (Err why) h = survey_end why h
+
+-- the same of what is found
+pub search_denial : {V : Type 0} (made : Result V NoText) (May Might : Denial → Type 0) → ((d : Denial) → May d → Might d)
+    → IfErr made (MayEnd May IsNoMemory) → IfErr made (MayEnd Might IsNoMemory)
+search_denial (Ok v) May Might may h = tt
+search_denial (Err (no_text.Denied d)) May Might may h = may d h
+search_denial (Err (no_text.Stopped fault)) May Might may h = h

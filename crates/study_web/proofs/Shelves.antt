@@ -17,7 +17,7 @@ use Rattle.study_values.specs.declared.values.ProbeFault.TheVariants as probe
 use Rattle.study_reply.specs.declared.refusal.Refusal.{Refusal}
 use Rattle.study_web.specs.declared.denial.Denial.{Denial}
 use Rattle.study_web.specs.declared.denial.Denial.TheVariants as denial
-use Rattle.study_web.specs.Opened.{IsHeldAs, AreHandedIn, AreAllRight, IsBadFile, IsOfTables, IsValueUntold, IsOfValues, IsOfFiles, IsOfFileValues}
+use Rattle.study_web.specs.Opened.{IsHeldAs, AreHandedIn, AreAllRight, IsBadFile, IsOfTables, IsValueUntold, IsOfValues, IsOfFiles, IsOfFileValues, IsSearchUntold, IsOfSearch, IsOfFileSearch}
 use Rattle.study_web.specs.Views.{OverStore, OverFiles}
 use Rattle.study_web.specs.Store.{is_written, known, faults_known, IsShelf, AreRightFiles}
 
@@ -88,6 +88,7 @@ module _ (h k : Class → Option (Result (List ℕ) StoreFault)) (m n : Class �
   tables_alike (denial.Refused refusal) is = is
   tables_alike (denial.OfFile c refusal) is = bad_alike c refusal is
   tables_alike denial.NoMan is = is
+  tables_alike (denial.Unread fault) is = is
 
   pub still_named : {T : Type 0} (r : Result T Denial) → IfErr r (IsOfTables h m) → IfErr r (IsOfTables k n)
   still_named (Ok x) is = tt
@@ -101,6 +102,15 @@ module _ (h k : Class → Option (Result (List ℕ) StoreFault)) (m n : Class �
   pub values_alike : (Right Sound : Type 0) → (Sound → Right) → (p : Position) (d : Denial) → IsOfValues h m Right p d → IsOfValues k n Sound p d
   values_alike Right Sound g p d (inl is) = inl (tables_alike d is)
   values_alike Right Sound g p d (inr (fault, is, same)) = inr (fault, untold_alike Right Sound g p fault is, same)
+
+  search_untold_alike : (Right Sound : Type 0) → (Sound → Right) → (fault : ProbeFault) → IsSearchUntold h m Right fault → IsSearchUntold k n Sound fault
+  search_untold_alike Right Sound g (probe.NoTable c) is = subst (λ (o : Option (Result (List ℕ) StoreFault)). IsHeldAs o false) (same c) is
+  search_untold_alike Right Sound g (probe.TableRead f) is = is
+  search_untold_alike Right Sound g (probe.PageDamaged c i) is = λ k. is (g k)
+
+  pub search_alike : (Right Sound : Type 0) → (Sound → Right) → (d : Denial) → IsOfSearch h m Right d → IsOfSearch k n Sound d
+  search_alike Right Sound g d (inl is) = inl (tables_alike d is)
+  search_alike Right Sound g d (inr (fault, is, same)) = inr (fault, search_untold_alike Right Sound g fault is, same)
 
 -- the same of a store that has these spans and bytes
 module _ {spans at : List Span} {bytes bs : List ℕ} {written : List Bool} (e : at ≡ spans) (f : bs ≡ bytes) (w : written ≡ replicate 36 false) where
@@ -119,6 +129,12 @@ module _ {spans at : List Span} {bytes bs : List ℕ} {written : List Bool} (e :
   values_made p d is = values_alike (known header_given at bs written) (λ c. Some (header_given (file_in spans bytes c)))
       (faults_known at bs written) (λ c. file_faults (file_in spans bytes c) c) headers_made faults_made (AreAllRight at bs)
       (AreAllRight spans bytes) (right_made e f) p d is
+
+  pub search_made : (d : Denial) → IsOfSearch (known header_given at bs written) (faults_known at bs written) (AreAllRight at bs) d
+      → IsOfFileSearch spans bytes d
+  search_made d is = search_alike (known header_given at bs written) (λ c. Some (header_given (file_in spans bytes c)))
+      (faults_known at bs written) (λ c. file_faults (file_in spans bytes c) c) headers_made faults_made (AreAllRight at bs)
+      (AreAllRight spans bytes) (right_made e f) d is
 
   -- what is so over the store is so over the files
   pub over_made : (IsSo : List Class → Shelf → Type 0) → OverStore (known header_given at bs written) (faults_known at bs written) IsSo

@@ -21,6 +21,9 @@ use Rattle.study_review.specs.Review.{IsReviewOf}
 use Rattle.study_print.specs.Pages.{IsFile}
 use Rattle.study_view.specs.Setup.{passed_squares}
 use Rattle.study_view.specs.Survey.{IsSurvey}
+use Rattle.study_listing.specs.declared.piece_words.Piece.{Piece}
+use Rattle.study_listing.specs.Pieces.{AreLookedAt, IsPiece}
+use Rattle.study_import.specs.Imported.{script_of, all_games}
 use Rattle.study_web.specs.declared.denial.Denial.{Denial}
 use Rattle.study_web.specs.declared.denial.Denial.TheVariants as denial
 use Rattle.study_web.specs.declared.make.MakeFault.{MakeFault}
@@ -30,9 +33,10 @@ use Rattle.study_web.specs.declared.reply.NoText.TheVariants as no_text
 use Rattle.study_web.specs.declared.reply.Ending.{Ending}
 use Rattle.study_web.specs.declared.reply.Ending.TheVariants.{Answered, Refused, Ran, Stopped}
 use Rattle.study_web.specs.declared.spans.Span.{Span}
+use Rattle.study_web.specs.Spans.{spans_for}
 use Rattle.study_web.specs.Making.{IsRightFileOf, IsMakeFault, HasRightNeeds}
-use Rattle.study_web.specs.Opened.{AreAllRight, IsOfFiles, IsOfFileValues}
-use Rattle.study_web.specs.Request.{Asked, Asks, run, review, report, tables, make, view, survey, passed}
+use Rattle.study_web.specs.Opened.{AreAllRight, IsOfFiles, IsOfFileValues, IsOfFileSearch}
+use Rattle.study_web.specs.Asked.{Asked, Asks, run, review, report, tables, make, view, survey, passed, find, unread, bring}
 use Rattle.study_web.specs.Setup.{AreTables, squares_text}
 use Rattle.study_web.specs.Store.{IsShelf, AreRightFiles}
 use Rattle.study_web.specs.Told.{denial_text, ending_of, IsDenied}
@@ -171,6 +175,19 @@ abbrev pub IsPassedList : Start → List ℕ → Ending → Type 0
 IsPassedList start =
     IsWhole (λ text. text ≡ squares_text (passed_squares start.position.men start.position.to_move)) IsOutOfMemory IsNoMemory
 
+-- the piece of a list, over files that are right, of those that are looked at
+abbrev pub IsFoundOver : List Span → List ℕ → Piece → List ℕ → Ending → Type 0
+IsFoundOver spans bytes piece = IsWhole (λ text. AreAllRight spans bytes → IsPiece piece text) (IsOfFileSearch spans bytes) IsNoMemory
+
+-- the same over the files of the class and of what it needs; no other is looked at
+abbrev pub IsFoundTo : List Span → List ℕ → Piece → List ℕ → Ending → Type 0
+IsFoundTo spans bytes piece text ended =
+    (classes : List Class) × AreLookedAt piece.request classes × IsFoundOver (spans_for classes spans) bytes piece text ended
+
+-- the script of the games
+abbrev pub IsImported : List ℕ → Option Stipulation → List ℕ → Ending → Type 0
+IsImported pgn given = IsWhole (λ text. text ≡ script_of (all_games given) pgn) IsOutOfMemory IsNoMemory
+
 -- ---- the answer
 
 abbrev pub IsAnswerTo : List Span → List ℕ → Bool → List ℕ → Asked → List ℕ → Ending → Type 0
@@ -182,6 +199,9 @@ IsAnswerTo spans bytes by_pages script report text ended = IsPrinted spans bytes
 IsAnswerTo spans bytes by_pages script (survey square st start) text ended = IsSurveyed spans bytes square st start text ended
 IsAnswerTo spans bytes by_pages script tables text ended = IsTableList script text ended
 IsAnswerTo spans bytes by_pages script (passed start) text ended = IsPassedList start text ended
+IsAnswerTo spans bytes by_pages script (find piece) text ended = IsFoundTo spans bytes piece text ended
+IsAnswerTo spans bytes by_pages script (unread fault) text ended = IsDenied (denial.Unread fault) text ended
+IsAnswerTo spans bytes by_pages script (bring given) text ended = IsImported script given text ended
 
 -- what is asked for, or why the line asks for nothing
 abbrev pub IsAnswer : List Span → List ℕ → Bool → List ℕ → Asks → List ℕ → Ending → Type 0

@@ -1,7 +1,10 @@
 pub mod Making
 pub mod Laid
 pub mod Opened
+pub mod Asked
+pub mod FindWords
 pub mod Request
+pub mod Found
 pub mod Setup
 pub mod Spans
 pub mod Store

@@ -55,6 +55,7 @@ module _ (headers : Class → Option (Result (List ℕ) StoreFault)) (faults : C
   IsOfTables (denial.Refused refusal) = refusal ≡ OutOfMemory
   IsOfTables (denial.OfFile c refusal) = IsBadFile (headers c) (faults c) c refusal
   IsOfTables denial.NoMan = ⊥
+  IsOfTables (denial.Unread fault) = ⊥
 
   -- Why a value that a position leads to cannot be read: of a class that the position needs there is no file, or one that cannot be read, or a page
   -- is damaged, as none is of right files.
@@ -67,6 +68,16 @@ module _ (headers : Class → Option (Result (List ℕ) StoreFault)) (faults : C
   abbrev pub IsOfValues : Type 0 → Position → Denial → Type 0
   IsOfValues Right p d = IsOfTables d ⊎ ((fault : ProbeFault) × IsValueUntold Right p fault × (d ≡ denial.Refused (of_probe fault)))
 
+  -- Why a search has no answer: the tables are not opened, or a value cannot be read: there is no file of its class, or one that cannot be read,
+  -- or a page is damaged, as none is of right files.
+  abbrev pub IsSearchUntold : Type 0 → ProbeFault → Type 0
+  IsSearchUntold Right (probe.NoTable c) = IsHeldAs (headers c) false
+  IsSearchUntold Right (probe.TableRead f) = Unit {0}
+  IsSearchUntold Right (probe.PageDamaged c n) = Right → ⊥
+
+  abbrev pub IsOfSearch : Type 0 → Denial → Type 0
+  IsOfSearch Right d = IsOfTables d ⊎ ((fault : ProbeFault) × IsSearchUntold Right fault × (d ≡ denial.Refused (of_probe fault)))
+
 -- the same of the files that are handed in
 abbrev pub IsOfFiles : List Span → List ℕ → Denial → Type 0
 IsOfFiles spans bytes = IsOfTables (λ c. Some (header_given (file_in spans bytes c))) (λ c. file_faults (file_in spans bytes c) c)
@@ -74,3 +85,7 @@ IsOfFiles spans bytes = IsOfTables (λ c. Some (header_given (file_in spans byte
 abbrev pub IsOfFileValues : List Span → List ℕ → Position → Denial → Type 0
 IsOfFileValues spans bytes =
     IsOfValues (λ c. Some (header_given (file_in spans bytes c))) (λ c. file_faults (file_in spans bytes c) c) (AreAllRight spans bytes)
+
+abbrev pub IsOfFileSearch : List Span → List ℕ → Denial → Type 0
+IsOfFileSearch spans bytes =
+    IsOfSearch (λ c. Some (header_given (file_in spans bytes c))) (λ c. file_faults (file_in spans bytes c) c) (AreAllRight spans bytes)

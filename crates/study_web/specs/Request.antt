@@ -17,19 +17,10 @@ use Rattle.study_command.specs.declared.command.SyntaxFault.TheVariants.{BadByte
 use Rattle.study_reply.specs.declared.refusal.Refusal.{Refusal}
 use Rattle.study_reply.specs.declared.refusal.Refusal.TheVariants.{Form, NotAClass, Fen}
 use Rattle.study_script.specs.Replies.{class_told}
+use Rattle.study_web.specs.Asked.{Asked, Asks, run, review, report, tables, make, view, survey, passed, find, unread, bring}
+use Rattle.study_web.specs.FindWords.{find_asked}
 use Rattle.study_web.specs.declared.request.Request.{Request}
 use Rattle.study_web.specs.declared.request.Request.TheVariants as request
-
--- a request, with its arguments read
-pub data Asked : Type 0 where
-  run review report tables : Asked
-  make : (class : Class) → Asked
-  view : (steps : List ℕ) → Asked
-  survey : (square : ℕ) (stipulation : Stipulation) (start : Start) → Asked
-  passed : (start : Start) → Asked
-
-abbrev pub Asks : Type 0
-Asks = Result Asked Refusal
 
 -- nothing follows the word
 abbrev pub alone : Asked → List (List ℕ) → Asks
@@ -104,6 +95,15 @@ abbrev pub survey_asked : List (List ℕ) → List ℕ → Asks
 survey_asked [] text = Err (Form BadArguments)
 survey_asked (square ∷ more) text = survey_at (square_told square) (behind_word text)
 
+-- nothing, or `SIDE GOAL`
+abbrev pub brought_for : Option (Stipulation × List ℕ) → Asks
+brought_for None = Err (Form UnknownStipulation)
+brought_for (Some (stipulation, rest)) = alone (bring (Some stipulation)) (words rest)
+
+abbrev pub import_asked : List (List ℕ) → List ℕ → Asks
+import_asked [] text = Ok (bring None)
+import_asked (side ∷ more) text = brought_for (stipulation_begun (side ∷ more) text)
+
 -- ---- the request
 
 -- the first word, and the text that follows it
@@ -117,7 +117,9 @@ word_asked word rest =
     else (if bytes_eq word (codes "tables") then alone tables (words rest)
     else (if bytes_eq word (codes "passed") then with_start passed (start_of rest)
     else (if bytes_eq word (codes "make") then make_asked (one_word (words rest))
-    else Err (Form UnknownCommand))))))))
+    else (if bytes_eq word (codes "find") then find_asked (words rest)
+    else (if bytes_eq word (codes "import") then import_asked (words rest) rest
+    else Err (Form UnknownCommand))))))))))
 
 abbrev pub words_asked : List (List ℕ) → List ℕ → Asks
 words_asked [] line = Err (Form UnknownCommand)
@@ -138,6 +140,9 @@ request_seen request.Report = report
 request_seen (request.Survey s) = survey s.square s.stipulation s.start
 request_seen request.Tables = tables
 request_seen (request.Passed start) = passed start
+request_seen (request.Find piece) = find piece
+request_seen (request.Unread fault) = unread fault
+request_seen (request.Import given) = bring given
 
 abbrev pub asks_seen : Result Request Refusal → Asks
 asks_seen (Ok r) = Ok (request_seen r)

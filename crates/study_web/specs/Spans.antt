@@ -1,5 +1,6 @@
 -- The files that a page hands in: a directory of spans into one text of bytes.
-use Rattle.std.specs.Prelude.{◌==◌, nat_le, ℕ, ◌+◌, Bool, true, false, ◌&&◌, List, [], ◌∷◌, length, take, drop, if◌then◌else◌}
+use Rattle.std.specs.Prelude.{◌==◌, nat_le, ℕ, ◌+◌, Bool, true, false, ◌&&◌, List, [], ◌∷◌, ◌++◌, length, take, drop, if◌then◌else◌}
+use Rattle.std.specs.List.{list_any}
 use Rattle.std.specs.Prelude.{Option, Some, None, Result, Ok, Err}
 use Rattle.study_material.specs.declared.class.Class.{Class}
 use Rattle.study_material.specs.Class.{class_number}
@@ -18,6 +19,21 @@ is_file_of c bytes s = (s.class == class_number c) && nat_le (s.start + s.length
 abbrev pub file_in : List Span → List ℕ → Class → Option (List ℕ)
 file_in [] bytes c = None
 file_in (s ∷ more) bytes c = if is_file_of c bytes s then Some (take s.length (drop s.start bytes)) else file_in more bytes c
+
+-- ---- the files of some classes
+
+abbrev pub is_for_one : List Class → Span → Bool
+is_for_one classes s = list_any (λ c. s.class == class_number c) classes
+
+abbrev pub span_for : List Class → Span → List Span
+span_for classes s = if is_for_one classes s then s ∷ [] else []
+
+-- the spans of these classes
+abbrev pub spans_for : List Class → List Span → List Span
+spans_for classes [] = []
+spans_for classes (s ∷ more) = span_for classes s ++ spans_for classes more
+
+-- ---- what files give
 
 -- what a file gives from start to end, and what it gives as its header
 abbrev pub bytes_given : Option (List ℕ) → Result (List ℕ) StoreFault

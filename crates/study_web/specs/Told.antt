@@ -5,6 +5,8 @@ use Rattle.study_reply.specs.Names.{words_of}
 use Rattle.study_script.specs.declared.running.Summary.{Summary}
 use Rattle.study_script.specs.declared.running.RunFault.{RunFault}
 use Rattle.study_script.specs.declared.running.RunFault.TheVariants.{ReadDevice, WriteDevice, LineTooLong, TooManyLines, OutOfMemory}
+use Rattle.study_listing.specs.declared.filter_words.Unread.{Unread}
+use Rattle.study_listing.specs.declared.filter_words.Unread.TheVariants as unread
 use Rattle.study_web.specs.declared.denial.Denial.{Denial}
 use Rattle.study_web.specs.declared.denial.Denial.TheVariants as denial
 use Rattle.study_web.specs.declared.reply.NoText.{NoText}
@@ -16,11 +18,18 @@ use Rattle.study_web.specs.declared.reply.Ending.TheVariants.{Answered, Refused,
 abbrev pub line_of : List ℕ → List ℕ
 line_of words = words ++ codes "\n"
 
+-- why a request to find asks for nothing
+abbrev pub unread_text : Unread → List ℕ
+unread_text unread.NoSuchTheme = codes "NoSuchTheme\n"
+unread_text unread.NoSuchFilter = codes "NoSuchFilter\n"
+unread_text unread.NoKeyMove = codes "NoKeyMove\n"
+
 -- `NoSuchNode`, `MissingTable KQK`, `KRK HeaderDamaged`
 abbrev pub denial_text : Denial → List ℕ
 denial_text (denial.Refused refusal) = line_of (words_of refusal)
 denial_text (denial.OfFile c refusal) = name_of c ++ (codes " " ++ line_of (words_of refusal))
 denial_text denial.NoMan = codes "NoMan\n"
+denial_text (denial.Unread fault) = unread_text fault
 
 -- how a run over a script ended
 abbrev pub ending_of : Result Summary RunFault → Ending

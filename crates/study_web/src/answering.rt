@@ -2,10 +2,13 @@
 ghost use Rattle.std.specs.Prelude.{◌≡◌, ◌≤◌, true, is_some, IfSome, IfOk, IfErr};
 ghost use Rattle.study_command.specs.Paths.{steps_of, is_path_word};
 ghost use Rattle.study_web.specs.Answers.{IsAnswer, IsMade, IsMadeFile, IsMakeDenial, IsNoMemory, IsPassedList, IsPrinted, IsReviewed, IsRun, of_make};
-ghost use Rattle.study_web.specs.Answers.{IsSurveyed, IsTableList, IsViewed, MayEnd};
+ghost use Rattle.study_web.specs.Answers.{IsFoundTo, IsImported, IsSurveyed, IsTableList, IsViewed, MayEnd};
 ghost use Rattle.study_web.specs.Request.{request_of};
 
+use crate::chosen::spans_for;
 use crate::denial::Denial;
+use crate::find::found_of;
+use crate::imported::imported_of;
 use crate::make::{MakeFault, make_file};
 use crate::printed::printed_of;
 use crate::replies::replies_over;
@@ -14,10 +17,12 @@ use crate::request::{Request, Surveyed, read_request};
 use crate::saved::Saved;
 use crate::script::{review_of, view_of};
 use crate::setup::{passed_of, tables_of};
-use crate::spans::Span;
+use crate::spans::{Span, TableFiles};
 use crate::store::SpanStore;
 use crate::surveyed::survey_of;
 use std::alloc::Allocator;
+use study_listing::{Piece, classes_for};
+use study_marks::Stipulation;
 use study_material::Class;
 use study_notation::Start;
 use study_reply::Refusal;
@@ -25,45 +30,45 @@ use study_reply::Refusal;
 /// Answers a request for a script, over the files that are handed in.
 ///
 /// Requests are lines of words: `run`, `make CLASS`, `view PATH`, `review`, `report`, `survey SQUARE SIDE GOAL FEN`, `tables`,
-/// `passed FEN`. For `view`, `review`, `report` and `survey` each file that is handed in is opened by pages, and must be a table. What `run` saves is put into
-/// the cells, one for each class.
+/// `passed FEN`, `find CLASS THEME [FILTER ..] FROM TO`, `import`, `import SIDE GOAL`. For `import` the script is PGN, as Latin-1 or
+/// UTF-8. For `view`, `review`, `report` and `survey` each file that is handed in is opened by pages, and must be a table; for `find`
+/// those of the class and of what it needs, and no others. What `run` saves is put into the cells, one for each class.
 pub fn answer<'f, 'a, A: Allocator>(
     alloc: &'a A,
     request: &[u8],
     script: &[u8],
-    spans: &'f [Span],
-    bytes: &'f [u8],
+    files: &TableFiles<'f>,
     saved: &[Saved<'a, A>],
-    pages: Option<u16>,
 ) -> Reply<'a, A>
-    requires { IfSome pages (λ n. (1 ≤ n) × (n ≤ 4096)) }
-    ensures { IsAnswer spans.now bytes.now (is_some pages) script.now (request_of request.now) result.text.items result.ended }
+    requires { IfSome files.now.pages (λ n. (1 ≤ n) × (n ≤ 4096)) }
+    ensures { IsAnswer files.now.spans.now files.now.bytes.now (is_some files.now.pages) script.now (request_of request.now) result.text.items result.ended }
 {
     match read_request(request) {
         Err(refusal) => denied(alloc, Denial::Refused(refusal)),
-        Ok(Request::Run) => of_run(alloc, script, spans, bytes, saved, pages),
-        Ok(Request::Make(class)) => of_make(alloc, class, spans, bytes),
-        Ok(Request::View(path)) => of_view(alloc, path.word, script, spans, bytes, pages),
-        Ok(Request::Review) => of_review(alloc, script, spans, bytes, pages),
-        Ok(Request::Report) => of_report(alloc, script, spans, bytes, pages),
-        Ok(Request::Survey(asked)) => of_survey(alloc, &asked, spans, bytes, pages),
+        Ok(Request::Run) => of_run(alloc, script, files, saved),
+        Ok(Request::Make(class)) => of_make(alloc, class, files.spans, files.bytes),
+        Ok(Request::View(path)) => of_view(alloc, path.word, script, files),
+        Ok(Request::Review) => of_review(alloc, script, files),
+        Ok(Request::Report) => of_report(alloc, script, files),
+        Ok(Request::Survey(asked)) => of_survey(alloc, &asked, files),
         Ok(Request::Tables) => of_tables(alloc, script),
         Ok(Request::Passed(start)) => of_passed(alloc, &start),
+        Ok(Request::Find(piece)) => of_find(alloc, &piece, files),
+        Ok(Request::Unread(fault)) => denied(alloc, Denial::Unread(fault)),
+        Ok(Request::Import(given)) => of_import(alloc, script, given),
     }
 }
 
 fn of_run<'f, 'a, A: Allocator>(
     alloc: &'a A,
     script: &[u8],
-    spans: &'f [Span],
-    bytes: &'f [u8],
+    files: &TableFiles<'f>,
     saved: &[Saved<'a, A>],
-    pages: Option<u16>,
 ) -> Reply<'a, A>
-    requires { IfSome pages (λ n. (1 ≤ n) × (n ≤ 4096)) }
-    ensures { IsRun spans.now bytes.now (is_some pages) script.now result.text.items result.ended }
+    requires { IfSome files.now.pages (λ n. (1 ≤ n) × (n ≤ 4096)) }
+    ensures { IsRun files.now.spans.now files.now.bytes.now (is_some files.now.pages) script.now result.text.items result.ended }
 {
-    let ended = replies_over(alloc, script, spans, bytes, saved, pages);
+    let ended = replies_over(alloc, script, files.spans, files.bytes, saved, files.pages);
     ran(ended.text, ended.summary)
 }
 
@@ -111,30 +116,26 @@ fn of_view<'f, 'a, A: Allocator>(
     alloc: &'a A,
     path: &[u8],
     script: &[u8],
-    spans: &'f [Span],
-    bytes: &'f [u8],
-    pages: Option<u16>,
+    files: &TableFiles<'f>,
 ) -> Reply<'a, A>
-    requires pages { IfSome pages (λ n. (1 ≤ n) × (n ≤ 4096)) }
+    requires pages { IfSome files.now.pages (λ n. (1 ≤ n) × (n ≤ 4096)) }
     requires path { is_path_word path.now ≡ true }
-    ensures { IsViewed spans.now bytes.now script.now (steps_of path.now) result.text.items result.ended }
+    ensures { IsViewed files.now.spans.now files.now.bytes.now script.now (steps_of path.now) result.text.items result.ended }
 {
-    let mut store = SpanStore::new(alloc, spans, bytes, &[]);
-    told(alloc, view_of(alloc, path, script, &mut store, pages))
+    let mut store = SpanStore::new(alloc, files.spans, files.bytes, &[]);
+    told(alloc, view_of(alloc, path, script, &mut store, files.pages))
 }
 
 fn of_review<'f, 'a, A: Allocator>(
     alloc: &'a A,
     script: &[u8],
-    spans: &'f [Span],
-    bytes: &'f [u8],
-    pages: Option<u16>,
+    files: &TableFiles<'f>,
 ) -> Reply<'a, A>
-    requires { IfSome pages (λ n. (1 ≤ n) × (n ≤ 4096)) }
-    ensures { IsReviewed spans.now bytes.now script.now result.text.items result.ended }
+    requires { IfSome files.now.pages (λ n. (1 ≤ n) × (n ≤ 4096)) }
+    ensures { IsReviewed files.now.spans.now files.now.bytes.now script.now result.text.items result.ended }
 {
-    let mut store = SpanStore::new(alloc, spans, bytes, &[]);
-    match review_of(alloc, script, &mut store, pages) {
+    let mut store = SpanStore::new(alloc, files.spans, files.bytes, &[]);
+    match review_of(alloc, script, &mut store, files.pages) {
         Ok(told) => ran(told.text, told.summary),
         Err(denial) => denied(alloc, denial),
     }
@@ -143,15 +144,13 @@ fn of_review<'f, 'a, A: Allocator>(
 fn of_report<'f, 'a, A: Allocator>(
     alloc: &'a A,
     script: &[u8],
-    spans: &'f [Span],
-    bytes: &'f [u8],
-    pages: Option<u16>,
+    files: &TableFiles<'f>,
 ) -> Reply<'a, A>
-    requires { IfSome pages (λ n. (1 ≤ n) × (n ≤ 4096)) }
-    ensures { IsPrinted spans.now bytes.now script.now result.text.items result.ended }
+    requires { IfSome files.now.pages (λ n. (1 ≤ n) × (n ≤ 4096)) }
+    ensures { IsPrinted files.now.spans.now files.now.bytes.now script.now result.text.items result.ended }
 {
-    let mut store = SpanStore::new(alloc, spans, bytes, &[]);
-    match printed_of(alloc, script, &mut store, pages) {
+    let mut store = SpanStore::new(alloc, files.spans, files.bytes, &[]);
+    match printed_of(alloc, script, &mut store, files.pages) {
         Ok(told) => ran(told.text, told.summary),
         Err(denial) => denied(alloc, denial),
     }
@@ -160,15 +159,13 @@ fn of_report<'f, 'a, A: Allocator>(
 fn of_survey<'f, 'a, A: Allocator>(
     alloc: &'a A,
     asked: &Surveyed,
-    spans: &'f [Span],
-    bytes: &'f [u8],
-    pages: Option<u16>,
+    files: &TableFiles<'f>,
 ) -> Reply<'a, A>
-    requires { IfSome pages (λ n. (1 ≤ n) × (n ≤ 4096)) }
-    ensures { IsSurveyed spans.now bytes.now asked.now.square asked.now.stipulation asked.now.start result.text.items result.ended }
+    requires { IfSome files.now.pages (λ n. (1 ≤ n) × (n ≤ 4096)) }
+    ensures { IsSurveyed files.now.spans.now files.now.bytes.now asked.now.square asked.now.stipulation asked.now.start result.text.items result.ended }
 {
-    let mut store = SpanStore::new(alloc, spans, bytes, &[]);
-    told(alloc, survey_of(alloc, asked, &mut store, pages))
+    let mut store = SpanStore::new(alloc, files.spans, files.bytes, &[]);
+    told(alloc, survey_of(alloc, asked, &mut store, files.pages))
 }
 
 fn of_tables<'a, A: Allocator>(alloc: &'a A, script: &[u8]) -> Reply<'a, A>
@@ -181,4 +178,25 @@ fn of_passed<'a, A: Allocator>(alloc: &'a A, start: &Start) -> Reply<'a, A>
     ensures { IsPassedList start.now result.text.items result.ended }
 {
     told(alloc, passed_of(alloc, start))
+}
+
+/// Of the files those that are needed are looked at.
+fn of_find<'a, A: Allocator>(alloc: &'a A, piece: &Piece, files: &TableFiles<'_>) -> Reply<'a, A>
+    requires { IfSome files.now.pages (λ n. (1 ≤ n) × (n ≤ 4096)) }
+    ensures { IsFoundTo files.now.spans.now files.now.bytes.now piece.now result.text.items result.ended }
+{
+    let classes = classes_for(&piece.request);
+    match spans_for(alloc, classes.as_slice(), files.spans) {
+        Err(_) => denied(alloc, Denial::Refused(Refusal::OutOfMemory)),
+        Ok(those) => {
+            let mut store = SpanStore::new(alloc, those.as_slice(), files.bytes, &[]);
+            told(alloc, found_of(alloc, piece, &mut store, files.pages))
+        }
+    }
+}
+
+fn of_import<'a, A: Allocator>(alloc: &'a A, pgn: &[u8], given: Option<Stipulation>) -> Reply<'a, A>
+    ensures { IsImported pgn.now given result.text.items result.ended }
+{
+    told(alloc, imported_of(alloc, pgn, given))
 }

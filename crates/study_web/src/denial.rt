@@ -1,5 +1,6 @@
 //! Why a request is not answered.
 
+use study_listing::Unread;
 use study_material::Class;
 use study_reply::Refusal;
 
@@ -12,4 +13,6 @@ pub enum Denial {
     OfFile(Class, Refusal),
     /// There is no man on the square.
     NoMan,
+    /// The words of a request to find name no theme, or no filter.
+    Unread(Unread),
 }

@@ -8,7 +8,7 @@ ghost use Rattle.study_web.specs.declared.reply.Ending.{Ending as AnEnding};
 use crate::answering::answer;
 use crate::reply::Reply;
 use crate::saved::Saved;
-use crate::spans::Span;
+use crate::spans::{Span, TableFiles};
 use crate::told::put_ending;
 use std::alloc::{AllocError, Allocator};
 use study_text::{DeviceFailed, write_text};
@@ -44,15 +44,12 @@ pub fn answer_into<'a, A: Allocator>(
     let Ok(spans) = read_spans(alloc, handed_in.spans) else {
         return 0;
     };
-    let reply = answer(
-        alloc,
-        handed_in.request,
-        handed_in.script,
-        spans.as_slice(),
-        handed_in.bytes,
-        saved,
-        pages_of(handed_in.pages),
-    );
+    let files = TableFiles {
+        spans: spans.as_slice(),
+        bytes: handed_in.bytes,
+        pages: pages_of(handed_in.pages),
+    };
+    let reply = answer(alloc, handed_in.request, handed_in.script, &files, saved);
     hand_back(alloc, &reply, out)
 }
 

@@ -7,9 +7,13 @@
 #![tactic(auto)]
 
 mod answering;
+mod chosen;
 mod denial;
 mod ended;
 mod export;
+mod find;
+mod find_words;
+mod imported;
 mod laws;
 mod make;
 mod printed;
@@ -36,7 +40,7 @@ pub use make::{MakeFault, make_file};
 pub use replies::replies_over;
 pub use reply::{Ending, Reply};
 pub use saved::{Saved, SavedFile, none_saved};
-pub use spans::{Span, file_in};
+pub use spans::{Span, TableFiles, file_in};
 pub use store::SpanStore;
 pub use study_script::{RunFault, Summary};
 pub use told::put_ending;

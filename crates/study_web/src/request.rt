@@ -8,14 +8,16 @@ ghost use Rattle.study_marks.specs.Edits.{is_printable};
 ghost use Rattle.study_command.specs.Parser.{one_word, mate_in, mate_moves_of};
 ghost use Rattle.study_script.specs.Replies.{class_told};
 ghost use Rattle.study_web.specs.Request.{alone, make_asked, view_asked, with_start, goal_begun, stipulation_begun};
-ghost use Rattle.study_web.specs.Request.{survey_asked, word_asked, request_of, request_seen, asks_seen};
-ghost use Rattle.study_web.specs.Request.{passed as passed_asked};
+ghost use Rattle.study_web.specs.Request.{survey_asked, import_asked, word_asked, request_of, request_seen, asks_seen};
+ghost use Rattle.study_web.specs.Asked.{passed as passed_asked};
 
+use crate::find_words::read_find;
 use crate::words::read_square;
 use study_board::Square;
 use study_command::{
     PathWord, SyntaxFault, as_text, read_one_word, read_path_word, read_place, read_side,
 };
+use study_listing::{Piece, Unread};
 use study_marks::{Goal, MateMoves, Stipulation, is_printable};
 use study_material::Class;
 use study_notation::{FenFault, Start, read_fen};
@@ -49,6 +51,12 @@ pub enum Request<'r> {
     Tables,
     /// `passed FEN`: the squares that a pawn can just have jumped over.
     Passed(Start),
+    /// `find CLASS THEME [FILTER ..] FROM TO`: the positions of these numbers of the class that have the theme.
+    Find(Piece),
+    /// `find` with words that name no theme or no filter.
+    Unread(Unread),
+    /// `import` or `import SIDE GOAL`: the script of the games of PGN; the stipulation is that of the games that say none.
+    Import(Option<Stipulation>),
 }
 
 /// The request that a line of printable words spells, or the first reason why it spells none.
@@ -86,6 +94,10 @@ fn read_words<'r>(word: &'r [u8], rest: &'r [u8]) -> Result<Request<'r>, Refusal
         read_passed(rest)
     } else if word == b"make".as_slice() {
         read_make(rest)
+    } else if word == b"find".as_slice() {
+        read_find(rest)
+    } else if word == b"import".as_slice() {
+        read_import(rest)
     } else {
         Err(Refusal::Form(SyntaxFault::UnknownCommand))
     }
@@ -115,7 +127,7 @@ fn read_make(rest: &[u8]) -> Result<Request<'_>, Refusal>
 }
 
 #[tactic(auto, unfolding(study_script::specs::Replies::class_told))]
-fn class_named(name: &str) -> Option<Class>
+pub(crate) fn class_named(name: &str) -> Option<Class>
     ensures { result ≡ class_told name.now }
 {
     match Class::parse(name) {
@@ -222,5 +234,19 @@ fn read_survey(rest: &[u8]) -> Result<Request<'_>, Refusal>
             stipulation,
             start,
         })),
+    }
+}
+
+/// Nothing, or `SIDE GOAL`.
+#[tactic(auto, using(study_command::proofs::Printable::printable_behind))]
+fn read_import(rest: &[u8]) -> Result<Request<'_>, Refusal>
+    ensures { asks_seen result ≡ import_asked (words rest.now) rest.now }
+{
+    if next_word(rest).is_none() {
+        return Ok(Request::Import(None));
+    }
+    match read_stipulation(rest) {
+        None => Err(Refusal::Form(SyntaxFault::UnknownStipulation)),
+        Some((stipulation, behind)) => alone(behind, Request::Import(Some(stipulation))),
     }
 }

@@ -15,6 +15,17 @@ pub struct Span {
     pub length: usize,
 }
 
+/// The files of tables that are handed in, and how they are read.
+#[derive(Clone, Copy)]
+pub struct TableFiles<'f> {
+    /// Where each lies.
+    pub spans: &'f [Span],
+    /// The files, one after the other.
+    pub bytes: &'f [u8],
+    /// Tables are read by so many pages, from 1 to 4,096, or else whole.
+    pub pages: Option<u16>,
+}
+
 /// Whether the span is for this class and lies within the bytes.
 fn is_file_of(class: Class, bytes: &[u8], span: &Span) -> bool
     ensures value { result ≡ is_file_of class bytes.now span.now }

@@ -1,14 +1,15 @@
 //! The names of refusals, and how an answer ended, in words.
-ghost use Rattle.std.specs.Prelude.{◌++◌, OnOk, codes, decimal};
+ghost use Rattle.std.specs.Prelude.{◌≡◌, ◌++◌, OnOk, codes, decimal};
 ghost use Rattle.std.specs.Io.KnownBytes.{Appends};
 ghost use Rattle.study_material.specs.Class.{name_of};
 ghost use Rattle.study_reply.specs.Names.{argument_text, words_of};
-ghost use Rattle.study_web.specs.Told.{line_of, denial_text, stop_text, ending_text};
+ghost use Rattle.study_web.specs.Told.{line_of, unread_text, denial_text, stop_text, ending_text};
 
 use crate::denial::Denial;
 use crate::reply::Ending;
 use itoa::Buffer;
 use std::io::Write;
+use study_listing::Unread;
 use study_material::Class;
 use study_reply::{Argument, Refusal};
 use study_script::{RunFault, Summary};
@@ -64,6 +65,18 @@ pub fn put_denial<W: Write>(out: &mut W, denial: Denial) -> Result<(), DeviceFai
         Denial::Refused(refusal) => put_refusal(out, refusal),
         Denial::OfFile(class, refusal) => put_file_fault(out, class, refusal),
         Denial::NoMan => write_text(out, b"NoMan\n"),
+        Denial::Unread(fault) => write_text(out, unread_text(fault)),
+    }
+}
+
+/// Why a request to find asks for nothing.
+fn unread_text(fault: Unread) -> &'static [u8]
+    ensures { result.now ≡ unread_text fault }
+{
+    match fault {
+        Unread::NoSuchTheme => b"NoSuchTheme\n",
+        Unread::NoSuchFilter => b"NoSuchFilter\n",
+        Unread::NoKeyMove => b"NoKeyMove\n",
     }
 }
 

@@ -5,7 +5,9 @@ use linked_list_allocator::LocalHeap;
 use std::alloc::{Allocator, Global};
 use std::test::Fail;
 use study_material::Class;
-use study_web::{Ending, Reply, RunFault, Span, Summary, answer, make_file, put_ending};
+use study_web::{
+    Ending, Reply, RunFault, Span, Summary, TableFiles, answer, make_file, put_ending,
+};
 
 const SCRIPT: &str = r#"position k7/1R6/8/K7/8/8/8/8 w - - 0 1
 stipulate white mate 3
@@ -144,15 +146,12 @@ fn ask<'a>(
     spans: &[Span],
     bytes: &[u8],
 ) -> Reply<'a, Global> {
-    answer(
-        alloc,
-        request.as_bytes(),
-        script.as_bytes(),
+    let files = TableFiles {
         spans,
         bytes,
-        &[],
-        Some(16),
-    )
+        pages: Some(16),
+    };
+    answer(alloc, request.as_bytes(), script.as_bytes(), &files, &[])
 }
 
 /// The name of a refusal.
@@ -312,6 +311,16 @@ fn refused_by_name(rt: HostRuntime) -> Result<(), Fail> {
             "NoTable KRK\n",
         ),
         ("run\n", "BadByte\n"),
+        ("find KQ zugzwang 0 9", "NotAClass\n"),
+        ("find KRK mate 0 x", "NoSuchTheme\n"),
+        ("find KRK draw 1 red 0 x", "NoSuchFilter\n"),
+        ("find KRK zugzwang no-check 0 x", "NoKeyMove\n"),
+        ("find KRK zugzwang 0 x", "BadArguments\n"),
+        ("find KRK 9", "BadArguments\n"),
+        ("find KRK zugzwang 0 9", "NoTable KRK\n"),
+        ("find KRK draw 1 0 9", "NoTable KK\n"),
+        ("import white", "UnknownStipulation\n"),
+        ("import white win 5", "BadArguments\n"),
     ];
     for (request, name) in cases {
         let text = refusal(&alloc, request, "", &[], &[])?;
@@ -356,7 +365,12 @@ fn memory_for_an_answer(rt: HostRuntime) -> Result<(), Fail> {
         let saved = Vec::new(&heap);
         let view = b"view root".as_slice();
         let script = b"square\n".as_slice();
-        let reply = answer(&heap, view, script, &[], &[], saved.as_slice(), Some(1));
+        let files = TableFiles {
+            spans: &[],
+            bytes: &[],
+            pages: Some(1),
+        };
+        let reply = answer(&heap, view, script, &files, saved.as_slice());
         if reply.ended == Ending::Answered {
             assert!(rt; reply.text.as_slice() == b"refused 1 UnknownCommand\n".as_slice());
             assert!(rt; refused > 0);
@@ -368,4 +382,78 @@ fn memory_for_an_answer(rt: HostRuntime) -> Result<(), Fail> {
         refused = refused.saturating_add(1);
     }
     Err(Fail::from("no heap was large enough"))
+}
+
+/// By an independent program: the one draw of king and rook with two only moves in a row and a king on c3, and its first image with
+/// a king on f6.
+const FOUND: &str = "6kR/8/5K2/8/8/8/8/8 b - - 0 1 draw Kxh8\nto 81920 of 81920\n";
+
+/// Positions are found over the files that they need; another file is not looked at.
+#[test]
+fn found_over_tables(rt: HostRuntime) -> Result<(), Fail> {
+    let alloc = rt.alloc();
+    let (bytes, two) = two_files(&alloc)?;
+    let cut = Span {
+        class: Class::KQK as usize,
+        start: 0,
+        length: 63,
+    };
+    let spans = [cut, two[0], two[1]];
+    let request = "find KRK draw 2 Kf6 0 999999999";
+    let found = ask(&alloc, request, "", &spans, bytes.as_slice());
+    assert!(rt; found.ended == Ending::Answered);
+    assert!(rt; found.text.as_slice() == FOUND.as_bytes());
+    let none = ask(
+        &alloc,
+        "find KK zugzwang 3 40",
+        "",
+        &spans,
+        bytes.as_slice(),
+    );
+    assert!(rt; none.text.as_slice() == b"to 40 of 1280\n".as_slice());
+    let longest = ask(
+        &alloc,
+        "find KK longest black 0 2000",
+        "",
+        &spans,
+        bytes.as_slice(),
+    );
+    assert!(rt; longest.text.as_slice() == b"to 1280 of 1280\n".as_slice());
+    Ok(())
+}
+
+const GAME: &str = r#"[Event "e"]
+[FEN "8/8/8/4k3/8/4K3/4P3/8 w - - 0 1"]
+[Result "*"]
+
+1. Kd3 *
+"#;
+
+/// By an independent program.
+const BLOCK: &str = "position 8/8/8/4k3/8/4K3/4P3/8 w - - 0 1
+stipulate white draw
+tag Event e
+tag Site ?
+tag Date ????.??.??
+tag Round ?
+tag White ?
+tag Black ?
+insert root Kd3
+pgn
+
+# games 1, studies 1
+";
+
+/// Games come in as PGN; one that says no stipulation wants one.
+#[test]
+fn games_come_in(rt: HostRuntime) -> Result<(), Fail> {
+    let alloc = rt.alloc();
+    let without = ask(&alloc, "import", GAME, &[], &[]);
+    assert!(rt; without.ended == Ending::Answered);
+    let want = b"# game 1, line 1: NoStipulation\n\n# games 1, studies 0\n";
+    assert!(rt; without.text.as_slice() == want.as_slice());
+    let given = ask(&alloc, "import white draw", GAME, &[], &[]);
+    assert!(rt; given.ended == Ending::Answered);
+    assert!(rt; given.text.as_slice().ends_with(BLOCK.as_bytes()));
+    Ok(())
 }

@@ -10,8 +10,8 @@ pub returns : goal.returns
 returns g c =
     let asked = c.args.asked.now in
     let made = c.new-store.ensures in
-    let spans = c.args.spans.now in
-    let bytes = c.args.bytes.now in
+    let spans = c.args.files.now.spans.now in
+    let bytes = c.args.files.now.bytes.now in
     whole_told c.survey_of.result (λ v. v.items) (λ text. AreAllRight spans bytes → IsSurvey asked.start.position asked.square asked.stipulation text)
     (IsSurveyDenial (IsOfFileValues spans bytes asked.start.position) asked.start asked.square) IsNoMemory c.told.result.text.items c.told.result.ended c.told.ensures.text c.told.ensures.none
     (if_right c.survey_of.result (λ v. v.items) (AreAllRight spans bytes) (IsSurvey asked.start.position asked.square asked.stipulation)

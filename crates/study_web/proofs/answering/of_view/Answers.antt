@@ -11,8 +11,8 @@ use Rattle.study_web.proofs.answering.of_view.Goals as goal
 pub returns : goal.returns
 returns g c =
     let made = c.new-store.ensures in
-    let spans = c.args.spans.now in
-    let bytes = c.args.bytes.now in
+    let spans = c.args.files.now.spans.now in
+    let bytes = c.args.files.now.bytes.now in
     let script = c.args.script.now in
     let steps = steps_of c.args.path.now in
     whole_told c.view_of.result (λ v. v.items) (λ text. AreAllRight spans bytes → OverFiles spans bytes (IsViewOver script steps text))

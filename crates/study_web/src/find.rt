@@ -1,0 +1,66 @@
+//! The positions of a class that have a theme, piece by piece.
+ghost use Rattle.std.specs.Prelude.{◌≡◌, ◌≤◌, true, false, IfSome, IfOk, IfErr, IsErrOf};
+ghost use Rattle.study_material.specs.declared.class.Class.{Class as AClass};
+ghost use Rattle.study_listing.specs.Pieces.{IsPiece};
+ghost use Rattle.study_listing.specs.Stops.{StopsUndamaged};
+ghost use Rattle.study_web.specs.Answers.{MayEnd, IsNoMemory};
+ghost use Rattle.study_web.specs.Found.{of_stop};
+ghost use Rattle.study_web.specs.Opened.{IsOfSearch};
+
+use crate::denial::Denial;
+use crate::reply::NoText;
+use crate::tables::open_tables;
+use std::alloc::Allocator;
+use study_listing::{Piece, Stop, write_piece};
+use study_reply::{Refusal, of_probe};
+use study_script::TableStore;
+use study_values::{ProbeFault, Values};
+
+/// Why nothing is found. What is written into memory stops for want of it alone.
+fn of_stop(stop: Stop) -> Denial
+    ensures { result ≡ of_stop stop }
+{
+    match stop {
+        Stop::Values(fault) => Denial::Refused(of_probe(fault)),
+        Stop::TooManyStudies => Denial::Refused(Refusal::OutOfMemory),
+        Stop::WriteDevice => Denial::Refused(Refusal::OutOfMemory),
+    }
+}
+
+/// A piece of a list, or why it is not known.
+fn piece_text<'a, V: Values, A: Allocator>(
+    alloc: &'a A,
+    piece: &Piece,
+    values: &mut V,
+) -> Result<Vec<u8, &'a A>, Stop>
+    ensures text { V.is_honest values.old → IfOk result (λ text. IsPiece piece.now text.items) }
+    ensures no_table { (c : AClass) → IsErrOf result (Stop.Values (ProbeFault.NoTable c)) → V.held values.old c ≡ false }
+    ensures no_damage { V.is_honest values.old → IfErr result StopsUndamaged }
+{
+    let mut text = Vec::new(alloc);
+    match write_piece(piece, values, &mut text) {
+        Err(stop) => Err(stop),
+        Ok(()) => Ok(text),
+    }
+}
+
+/// A piece of a list, over all files of a store.
+#[tactic(auto, using(crate::proofs::Denials::search_over))]
+pub fn found_of<'a, S: TableStore, A: Allocator>(
+    alloc: &'a A,
+    piece: &Piece,
+    store: &mut S,
+    pages: Option<u16>,
+) -> Result<Vec<u8, &'a A>, NoText>
+    requires { IfSome pages (λ n. (1 ≤ n) × (n ≤ 4096)) }
+    ensures text { ((c : AClass) → S.honest store.old true c) → IfOk result (λ text. IsPiece piece.now text.items) }
+    ensures none { IfErr result (MayEnd (IsOfSearch (S.headers store.old) (S.faults store.old) ((c : AClass) → S.honest store.old true c)) IsNoMemory) }
+{
+    match open_tables(alloc, store, pages) {
+        Err(denial) => Err(NoText::Denied(denial)),
+        Ok(mut tables) => match piece_text(alloc, piece, &mut tables) {
+            Err(stop) => Err(NoText::Denied(of_stop(stop))),
+            Ok(text) => Ok(text),
+        },
+    }
+}
