@@ -61,6 +61,12 @@ whole_told (Err (no_text.Denied d)) items IsIt May Stops text ended done untold 
     whole_denied IsIt May Stops d text ended untold may stops
 whole_told (Err (no_text.Stopped fault)) items IsIt May Stops text ended done (e, t) is may stops = rw (e, t) (may, refl)
 
+-- there is no text, for this reason
+pub untold_end : (May : Denial → Type 0) (Stops : RunFault → Type 0) (why : NoText) (text : List ℕ) (ended : Ending) → IsUntold why text ended
+    → MayEnd May Stops why → Stops run_fault.OutOfMemory → IsWhole (λ t. ⊥) May Stops text ended
+untold_end May Stops (no_text.Denied d) text ended untold may stops = whole_denied (λ t. ⊥) May Stops d text ended untold may stops
+untold_end May Stops (no_text.Stopped fault) text ended (e, t) may stops = rw (e, t) (may, refl)
+
 -- ---- why the values of an opened store cannot be read
 
 abbrev Known : Type 0

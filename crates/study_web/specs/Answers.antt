@@ -19,7 +19,7 @@ use Rattle.study_script.specs.Stores.{AreTrusted}
 use Rattle.study_report.specs.Outcome.{Outcome as ReportOutcome, Shape}
 use Rattle.study_review.specs.Review.{IsReviewOf}
 use Rattle.study_print.specs.Pages.{IsFile}
-use Rattle.study_view.specs.Setup.{passed_squares}
+use Rattle.study_view.specs.Setup.{passed_squares, AreClassesNeeded}
 use Rattle.study_view.specs.Survey.{IsSurvey}
 use Rattle.study_listing.specs.declared.piece_words.Piece.{Piece}
 use Rattle.study_listing.specs.Pieces.{AreLookedAt, IsPiece}
@@ -37,7 +37,7 @@ use Rattle.study_web.specs.Spans.{spans_for}
 use Rattle.study_web.specs.Making.{IsRightFileOf, IsMakeFault, HasRightNeeds}
 use Rattle.study_web.specs.Opened.{AreAllRight, IsOfFiles, IsOfFileValues, IsOfFileSearch}
 use Rattle.study_web.specs.Asked.{Asked, Asks, run, review, report, tables, make, view, survey, passed, find, unread, bring}
-use Rattle.study_web.specs.Setup.{AreTables, squares_text}
+use Rattle.study_web.specs.Setup.{AreTables, positions_in, squares_text}
 use Rattle.study_web.specs.Store.{IsShelf, AreRightFiles}
 use Rattle.study_web.specs.Told.{denial_text, ending_of, IsDenied}
 use Rattle.study_web.specs.Views.{refused_line, over_files, IsViewOver, IsUntoldOver, LacksNodeOver, OverFiles}
@@ -60,6 +60,9 @@ MayEnd May Stops (no_text.Stopped fault) = Stops fault
 abbrev pub IsNoMemory : RunFault → Type 0
 IsNoMemory fault = fault ≡ run_fault.OutOfMemory
 
+abbrev pub IsOutOfMemory : Denial → Type 0
+IsOutOfMemory d = d ≡ denial.Refused OutOfMemory
+
 -- Why a run stops that reads bytes which are handed in and writes into memory: neither fails but for want of memory.
 abbrev pub IsOwn : RunFault → Type 0
 IsOwn run_fault.ReadDevice = ⊥
@@ -76,6 +79,18 @@ IsUnread script fault = IsOwn fault × (left : Option (List ℕ)) × Shape scrip
 
 abbrev pub IsNever : RunFault → Type 0
 IsNever fault = ⊥
+
+-- ---- the files that are looked at
+
+-- those of the classes that the script's positions need
+abbrev pub AreNeeded : List Span → List ℕ → List Span → Type 0
+AreNeeded spans script those =
+    (classes : List Class) × AreClassesNeeded (positions_in (script_lines script)) classes × (those ≡ spans_for classes spans)
+
+-- it is so over these, and no other is looked at; or the script is not read to its end, or there is no memory
+abbrev pub OverNeeded : List Span → List ℕ → (List Span → List ℕ → Ending → Type 0) → List ℕ → Ending → Type 0
+OverNeeded spans script IsIt text ended =
+    IsWhole (λ t. ⊥) IsOutOfMemory (IsUnread script) text ended ⊎ ((those : List Span) × AreNeeded spans script those × IsIt those text ended)
 
 -- ---- each request
 
@@ -163,8 +178,11 @@ IsSurveyed spans bytes square st start =
     IsWhole (λ text. AreAllRight spans bytes → IsSurvey start.position square st text) (IsSurveyDenial (IsOfFileValues spans bytes start.position) start square)
     IsNoMemory
 
-abbrev pub IsOutOfMemory : Denial → Type 0
-IsOutOfMemory d = d ≡ denial.Refused OutOfMemory
+-- the same over the files that the position needs; no other is looked at
+abbrev pub IsSurveyedTo : List Span → List ℕ → ℕ → Stipulation → Start → List ℕ → Ending → Type 0
+IsSurveyedTo spans bytes square st start text ended =
+    (classes : List Class) × AreClassesNeeded (start.position ∷ []) classes
+    × IsSurveyed (spans_for classes spans) bytes square st start text ended
 
 -- the tables that the script's positions need
 abbrev pub IsTableList : List ℕ → List ℕ → Ending → Type 0
@@ -193,10 +211,10 @@ IsImported pgn given = IsWhole (λ text. text ≡ script_of (all_games given) pg
 abbrev pub IsAnswerTo : List Span → List ℕ → Bool → List ℕ → Asked → List ℕ → Ending → Type 0
 IsAnswerTo spans bytes by_pages script run text ended = IsRun spans bytes by_pages script text ended
 IsAnswerTo spans bytes by_pages script (make c) text ended = IsMade spans bytes c text ended
-IsAnswerTo spans bytes by_pages script (view steps) text ended = IsViewed spans bytes script steps text ended
-IsAnswerTo spans bytes by_pages script review text ended = IsReviewed spans bytes script text ended
-IsAnswerTo spans bytes by_pages script report text ended = IsPrinted spans bytes script text ended
-IsAnswerTo spans bytes by_pages script (survey square st start) text ended = IsSurveyed spans bytes square st start text ended
+IsAnswerTo spans bytes by_pages script (view steps) text ended = OverNeeded spans script (λ those. IsViewed those bytes script steps) text ended
+IsAnswerTo spans bytes by_pages script review text ended = OverNeeded spans script (λ those. IsReviewed those bytes script) text ended
+IsAnswerTo spans bytes by_pages script report text ended = OverNeeded spans script (λ those. IsPrinted those bytes script) text ended
+IsAnswerTo spans bytes by_pages script (survey square st start) text ended = IsSurveyedTo spans bytes square st start text ended
 IsAnswerTo spans bytes by_pages script tables text ended = IsTableList script text ended
 IsAnswerTo spans bytes by_pages script (passed start) text ended = IsPassedList start text ended
 IsAnswerTo spans bytes by_pages script (find piece) text ended = IsFoundTo spans bytes piece text ended

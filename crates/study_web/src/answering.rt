@@ -2,7 +2,7 @@
 ghost use Rattle.std.specs.Prelude.{◌≡◌, ◌≤◌, true, is_some, IfSome, IfOk, IfErr};
 ghost use Rattle.study_command.specs.Paths.{steps_of, is_path_word};
 ghost use Rattle.study_web.specs.Answers.{IsAnswer, IsMade, IsMadeFile, IsMakeDenial, IsNoMemory, IsPassedList, IsPrinted, IsReviewed, IsRun, of_make};
-ghost use Rattle.study_web.specs.Answers.{IsFoundTo, IsImported, IsSurveyed, IsTableList, IsViewed, MayEnd};
+ghost use Rattle.study_web.specs.Answers.{IsFoundTo, IsImported, AreNeeded, IsOutOfMemory, IsSurveyedTo, IsTableList, IsUnread, IsViewed, MayEnd, OverNeeded};
 ghost use Rattle.study_web.specs.Request.{request_of};
 
 use crate::chosen::spans_for;
@@ -16,7 +16,7 @@ use crate::reply::{NoText, Reply, denied, ran, told};
 use crate::request::{Request, Surveyed, read_request};
 use crate::saved::Saved;
 use crate::script::{review_of, view_of};
-use crate::setup::{passed_of, tables_of};
+use crate::setup::{passed_of, positions_in, tables_of};
 use crate::spans::{Span, TableFiles};
 use crate::store::SpanStore;
 use crate::surveyed::survey_of;
@@ -26,13 +26,15 @@ use study_marks::Stipulation;
 use study_material::Class;
 use study_notation::Start;
 use study_reply::Refusal;
+use study_view::classes_needed;
 
 /// Answers a request for a script, over the files that are handed in.
 ///
 /// Requests are lines of words: `run`, `make CLASS`, `view PATH`, `review`, `report`, `survey SQUARE SIDE GOAL FEN`, `tables`,
 /// `passed FEN`, `find CLASS THEME [FILTER ..] FROM TO`, `import`, `import SIDE GOAL`. For `import` the script is PGN, as Latin-1 or
-/// UTF-8. For `view`, `review`, `report` and `survey` each file that is handed in is opened by pages, and must be a table; for `find`
-/// those of the class and of what it needs, and no others. What `run` saves is put into the cells, one for each class.
+/// UTF-8. Files are opened by pages, and must be tables: for `view`, `review` and `report` those that the script's positions need, for
+/// `survey` and `find` those that the position or the class needs, and no others. What `run` saves is put into the cells, one for each
+/// class.
 pub fn answer<'f, 'a, A: Allocator>(
     alloc: &'a A,
     request: &[u8],
@@ -112,7 +114,7 @@ fn of_make<'a, A: Allocator>(
     told(alloc, file_of(alloc, class, spans, bytes))
 }
 
-fn of_view<'f, 'a, A: Allocator>(
+fn view_over<'f, 'a, A: Allocator>(
     alloc: &'a A,
     path: &[u8],
     script: &[u8],
@@ -126,7 +128,7 @@ fn of_view<'f, 'a, A: Allocator>(
     told(alloc, view_of(alloc, path, script, &mut store, files.pages))
 }
 
-fn of_review<'f, 'a, A: Allocator>(
+fn review_over<'f, 'a, A: Allocator>(
     alloc: &'a A,
     script: &[u8],
     files: &TableFiles<'f>,
@@ -141,7 +143,7 @@ fn of_review<'f, 'a, A: Allocator>(
     }
 }
 
-fn of_report<'f, 'a, A: Allocator>(
+fn report_over<'f, 'a, A: Allocator>(
     alloc: &'a A,
     script: &[u8],
     files: &TableFiles<'f>,
@@ -156,16 +158,101 @@ fn of_report<'f, 'a, A: Allocator>(
     }
 }
 
-fn of_survey<'f, 'a, A: Allocator>(
+/// The files that the script's positions need, or why they are not known.
+fn files_for<'a, A: Allocator>(
+    alloc: &'a A,
+    script: &[u8],
+    spans: &[Span],
+) -> Result<Vec<Span, &'a A>, NoText>
+    ensures some { IfOk result (λ those. AreNeeded spans.now script.now those.items) }
+    ensures none { IfErr result (MayEnd IsOutOfMemory (IsUnread script.now)) }
+{
+    match positions_in(alloc, script) {
+        Err(fault) => Err(NoText::Stopped(fault)),
+        Ok(positions) => {
+            let classes = classes_needed(positions.as_slice());
+            match spans_for(alloc, classes.as_slice(), spans) {
+                Err(_) => Err(NoText::Denied(Denial::Refused(Refusal::OutOfMemory))),
+                Ok(those) => Ok(those),
+            }
+        }
+    }
+}
+
+fn of_view<'a, A: Allocator>(
+    alloc: &'a A,
+    path: &[u8],
+    script: &[u8],
+    files: &TableFiles<'_>,
+) -> Reply<'a, A>
+    requires pages { IfSome files.now.pages (λ n. (1 ≤ n) × (n ≤ 4096)) }
+    requires path { is_path_word path.now ≡ true }
+    ensures { OverNeeded files.now.spans.now script.now (λ those. IsViewed those files.now.bytes.now script.now (steps_of path.now)) result.text.items result.ended }
+{
+    match files_for(alloc, script, files.spans) {
+        Err(why) => told(alloc, Err(why)),
+        Ok(those) => {
+            let needed = TableFiles {
+                spans: those.as_slice(),
+                bytes: files.bytes,
+                pages: files.pages,
+            };
+            view_over(alloc, path, script, &needed)
+        }
+    }
+}
+
+fn of_review<'a, A: Allocator>(alloc: &'a A, script: &[u8], files: &TableFiles<'_>) -> Reply<'a, A>
+    requires { IfSome files.now.pages (λ n. (1 ≤ n) × (n ≤ 4096)) }
+    ensures { OverNeeded files.now.spans.now script.now (λ those. IsReviewed those files.now.bytes.now script.now) result.text.items result.ended }
+{
+    match files_for(alloc, script, files.spans) {
+        Err(why) => told(alloc, Err(why)),
+        Ok(those) => {
+            let needed = TableFiles {
+                spans: those.as_slice(),
+                bytes: files.bytes,
+                pages: files.pages,
+            };
+            review_over(alloc, script, &needed)
+        }
+    }
+}
+
+fn of_report<'a, A: Allocator>(alloc: &'a A, script: &[u8], files: &TableFiles<'_>) -> Reply<'a, A>
+    requires { IfSome files.now.pages (λ n. (1 ≤ n) × (n ≤ 4096)) }
+    ensures { OverNeeded files.now.spans.now script.now (λ those. IsPrinted those files.now.bytes.now script.now) result.text.items result.ended }
+{
+    match files_for(alloc, script, files.spans) {
+        Err(why) => told(alloc, Err(why)),
+        Ok(those) => {
+            let needed = TableFiles {
+                spans: those.as_slice(),
+                bytes: files.bytes,
+                pages: files.pages,
+            };
+            report_over(alloc, script, &needed)
+        }
+    }
+}
+
+/// Of the files those that the position needs are looked at.
+fn of_survey<'a, A: Allocator>(
     alloc: &'a A,
     asked: &Surveyed,
-    files: &TableFiles<'f>,
+    files: &TableFiles<'_>,
 ) -> Reply<'a, A>
     requires { IfSome files.now.pages (λ n. (1 ≤ n) × (n ≤ 4096)) }
-    ensures { IsSurveyed files.now.spans.now files.now.bytes.now asked.now.square asked.now.stipulation asked.now.start result.text.items result.ended }
+    ensures { IsSurveyedTo files.now.spans.now files.now.bytes.now asked.now.square asked.now.stipulation asked.now.start result.text.items result.ended }
 {
-    let mut store = SpanStore::new(alloc, files.spans, files.bytes, &[]);
-    told(alloc, survey_of(alloc, asked, &mut store, files.pages))
+    let classes = classes_needed(&[asked.start.position.copied()]);
+    match spans_for(alloc, classes.as_slice(), files.spans) {
+        Err(_) => denied(alloc, Denial::Refused(Refusal::OutOfMemory)),
+        Ok(those) => {
+            let mut store = SpanStore::new(alloc, those.as_slice(), files.bytes, &[]);
+            told(alloc, survey_of(alloc, asked, &mut store, files.pages))
+        }
+    }
 }
 
 fn of_tables<'a, A: Allocator>(alloc: &'a A, script: &[u8]) -> Reply<'a, A>

@@ -40,7 +40,7 @@ fn add_position<'a, A: Allocator>(
 }
 
 /// The positions of the lines of a script, in their order.
-fn positions_in<'a, A: Allocator>(
+pub fn positions_in<'a, A: Allocator>(
     alloc: &'a A,
     script: &[u8],
 ) -> Result<Vec<Position, &'a A>, RunFault>

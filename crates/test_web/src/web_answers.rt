@@ -329,7 +329,8 @@ fn refused_by_name(rt: HostRuntime) -> Result<(), Fail> {
     Ok(())
 }
 
-/// Spans that lie outside the bytes are no files; one that cuts a file short, or has another class's file, refuses what is asked.
+/// Spans that lie outside the bytes are no files; one that cuts a file short, or has another class's file, refuses what needs the file,
+/// and nothing else.
 #[test]
 fn files_that_are_none(rt: HostRuntime) -> Result<(), Fail> {
     let alloc = rt.alloc();
@@ -344,8 +345,11 @@ fn files_that_are_none(rt: HostRuntime) -> Result<(), Fail> {
     let text = refusal(&alloc, request, "", &outside, bytes.as_slice())?;
     assert!(rt; text.as_slice() == b"NoTable KK\n".as_slice());
     let other = [at(Class::KRK, 0, bytes.len())];
-    let text = refusal(&alloc, request, "", &other, bytes.as_slice())?;
+    let rook = "survey a1 white win 4k3/8/8/8/8/8/8/R3K3 w - -";
+    let text = refusal(&alloc, rook, "", &other, bytes.as_slice())?;
     assert!(rt; text.as_slice() == b"KRK OtherClass KK\n".as_slice());
+    let text = refusal(&alloc, request, "", &other, bytes.as_slice())?;
+    assert!(rt; text.as_slice() == b"NoTable KK\n".as_slice());
     let short = [at(Class::KK, 0, 63)];
     let text = refusal(&alloc, request, "", &short, bytes.as_slice())?;
     assert!(rt; text.as_slice() == b"KK TableRead Short\n".as_slice());

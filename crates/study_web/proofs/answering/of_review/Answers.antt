@@ -1,18 +1,22 @@
-use Rattle.study_web.proofs.Reviews.{reviewed_as, reviewed_denied, review_made}
-use Rattle.study_web.proofs.Shelves.{right_made, tables_made}
+use Rattle.std.proofs.Common.{List, subst, inl, inr}
+use Rattle.study_web.specs.declared.spans.Span.{Span}
+use Rattle.study_web.specs.Answers.{IsReviewed, IsOutOfMemory, IsUnread}
+use Rattle.study_web.proofs.Denials.{untold_end}
+use Rattle.study_web.proofs.Unread.{no_memory}
 use Rattle.study_web.proofs.answering.of_review.Goals as goal
-
-pub returns-in-Ok : goal.returns-in-Ok
-returns-in-Ok g c =
-    let made = c.new-store.ensures in
-    let told = c.in-Ok.told in
-    reviewed_as c.args.files.now.spans.now c.args.files.now.bytes.now c.args.script.now told.text.items c.ran.result.text.items told.summary c.ran.result.ended
-    c.ran.ensures.text c.ran.ensures.ended c.in-Ok.ensures.own
-    (λ right. review_made made.spans made.bytes made.written c.args.script.now told.text.items told.summary
-    (c.in-Ok.ensures.review (right_made made.spans made.bytes right)) right)
 
 pub returns-in-Err : goal.returns-in-Err
 returns-in-Err g c =
-    let made = c.new-store.ensures in
-    reviewed_denied c.args.files.now.spans.now c.args.files.now.bytes.now c.args.script.now c.in-Err.denial c.denied.result.text.items c.denied.result.ended
-    (tables_made made.spans made.bytes made.written c.in-Err.denial c.in-Err.ensures.denied) c.denied.ensures
+    let script = c.args.script.now in
+    inl (untold_end IsOutOfMemory (IsUnread script) c.in-Err.why c.told.result.text.items c.told.result.ended c.told.ensures.none
+    c.in-Err.ensures.none (no_memory script))
+
+pub returns-in-Ok : goal.returns-in-Ok
+returns-in-Ok g c =
+    let reply = c.review_over.result in
+    inr (
+      c.in-Ok.those.items,
+      c.in-Ok.ensures.some,
+      subst (λ (those : List Span). IsReviewed those c.args.files.now.bytes.now c.args.script.now reply.text.items reply.ended)
+          c.as_slice.ensures.value c.review_over.ensures,
+    )

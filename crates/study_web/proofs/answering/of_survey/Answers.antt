@@ -1,20 +1,48 @@
-use Rattle.std.proofs.Common.{refl}
+use Rattle.std.proofs.Common.{◌≡◌, ◌∷◌, [], List, refl, ap, subst, ◌∙◌, inl}
+use Rattle.study_board.specs.Position.{Position}
+use Rattle.study_material.specs.declared.class.Class.{Class}
+use Rattle.study_view.specs.Setup.{AreClassesNeeded}
 use Rattle.study_view.specs.Survey.{IsSurvey}
+use Rattle.study_reply.specs.declared.refusal.Refusal.TheVariants.{OutOfMemory}
+use Rattle.study_web.specs.declared.denial.Denial.TheVariants as denial
 use Rattle.study_web.specs.Answers.{IsNoMemory, IsSurveyDenial}
 use Rattle.study_web.specs.Opened.{AreAllRight, IsOfFileValues}
-use Rattle.study_web.proofs.Denials.{whole_told, if_right, survey_denial}
+use Rattle.study_web.specs.Spans.{spans_for}
+use Rattle.study_web.proofs.Denials.{whole_told, whole_denied, if_right, survey_denial}
 use Rattle.study_web.proofs.Shelves.{right_made, values_made}
 use Rattle.study_web.proofs.answering.of_survey.Goals as goal
 
-pub returns : goal.returns
-returns g c =
+pub returns-in-Err : goal.returns-in-Err
+returns-in-Err g c =
     let asked = c.args.asked.now in
-    let made = c.new-store.ensures in
-    let spans = c.args.files.now.spans.now in
+    let p = asked.start.position in
     let bytes = c.args.files.now.bytes.now in
-    whole_told c.survey_of.result (λ v. v.items) (λ text. AreAllRight spans bytes → IsSurvey asked.start.position asked.square asked.stipulation text)
-    (IsSurveyDenial (IsOfFileValues spans bytes asked.start.position) asked.start asked.square) IsNoMemory c.told.result.text.items c.told.result.ended c.told.ensures.text c.told.ensures.none
-    (if_right c.survey_of.result (λ v. v.items) (AreAllRight spans bytes) (IsSurvey asked.start.position asked.square asked.stipulation)
-    (λ right. c.survey_of.ensures.text (right_made made.spans made.bytes right)))
-    (survey_denial _ (IsOfFileValues spans bytes asked.start.position) asked.start asked.square (values_made made.spans made.bytes made.written asked.start.position)
-    c.survey_of.result c.survey_of.ensures.none) refl
+    let classes = c.classes_needed-classes.result.items in
+    let those = spans_for classes c.args.files.now.spans.now in (
+      classes,
+      subst (λ (q : Position). AreClassesNeeded (q ∷ []) classes) c.copied.ensures c.classes_needed-classes.ensures,
+      whole_denied (λ text. AreAllRight those bytes → IsSurvey p asked.square asked.stipulation text)
+          (IsSurveyDenial (IsOfFileValues those bytes p) asked.start asked.square) IsNoMemory (denial.Refused OutOfMemory)
+          c.denied.result.text.items c.denied.result.ended c.denied.ensures (inl refl) refl,
+    )
+
+pub returns-in-Ok : goal.returns-in-Ok
+returns-in-Ok g c =
+    let asked = c.args.asked.now in
+    let p = asked.start.position in
+    let made = c.new-store.ensures in
+    let bytes = c.args.files.now.bytes.now in
+    let classes = c.classes_needed-classes.result.items in
+    let those = spans_for classes c.args.files.now.spans.now in
+    let spans = made.spans ∙ c.as_slice-in-Ok.ensures.value ∙ c.in-Ok.ensures
+    ∙ ap (λ (cs : List Class). spans_for cs c.args.files.now.spans.now) c.as_slice.ensures.value in (
+      classes,
+      subst (λ (q : Position). AreClassesNeeded (q ∷ []) classes) c.copied.ensures c.classes_needed-classes.ensures,
+      whole_told c.survey_of.result (λ v. v.items) (λ text. AreAllRight those bytes → IsSurvey p asked.square asked.stipulation text)
+          (IsSurveyDenial (IsOfFileValues those bytes p) asked.start asked.square) IsNoMemory
+          c.told.result.text.items c.told.result.ended c.told.ensures.text c.told.ensures.none
+          (if_right c.survey_of.result (λ v. v.items) (AreAllRight those bytes) (IsSurvey p asked.square asked.stipulation)
+          (λ right. c.survey_of.ensures.text (right_made spans made.bytes right)))
+          (survey_denial _ (IsOfFileValues those bytes p) asked.start asked.square (values_made spans made.bytes made.written p)
+          c.survey_of.result c.survey_of.ensures.none) refl,
+    )
