@@ -1,5 +1,5 @@
 -- What a game comes to depends on no number.
-use Rattle.std.proofs.Common.{◌≡◌, ℕ, Bool, true, false, List, length, Option, Some, None, Result, Ok, Err, refl}
+use Rattle.std.proofs.Common.{◌≡◌, ℕ, Bool, true, false, List, length, Option, Some, None, Result, Ok, Err, refl, ap}
 use Rattle.std.specs.Prelude.{◌==◌, codes, if◌then◌else◌}
 use Rattle.study_notation.specs.declared.start.Start.{Start}
 use Rattle.study_notation.specs.declared.fault.FenFault.{FenFault}
@@ -10,8 +10,9 @@ use Rattle.study_games.specs.declared.header.HeaderFault.{HeaderFault}
 use Rattle.study_import.specs.declared.aims.Aim.{Aim}
 use Rattle.study_import.specs.declared.movetext.MovesFault.{MovesFault}
 use Rattle.study_import.specs.Movetext.{Ended}
-use Rattle.study_import.specs.Blocks.{Block, Told, told_of, block_lines, no_study, left_out, aim_of_game, aimed_block, read_block, game_read, fen_in, start_block, fen_block, header_block, block_of}
-use Rattle.study_import.specs.Laws.{entry_of, AreAlike}
+use Rattle.study_import.specs.Blocks.{Block, Told, told_of, block_lines, no_study, left_out, aim_of_game, aimed_block, read_block, game_read, fen_in, start_block, fen_block, header_block, block_of, tail_of, tail_line, under_remark, block_or_tail}
+use Rattle.study_import.specs.Tails.{Tail, position_text}
+use Rattle.study_import.specs.Laws.{entry_of, remark_above, text_read, AreAlike}
 
 module _ (given : Option Stipulation) (text : List ℕ) where
   abbrev Alike : (ℕ → ℕ → Block) → Type 0
@@ -50,6 +51,20 @@ module _ (given : Option Stipulation) (text : List ℕ) where
   header_alike (Some fault) m k e = absurd cc
   header_alike None m k e = tagged_alike (length (tags_of text) == 0) m k e
 
-pub alike : AreAlike
+own_alike : (given : Option Stipulation) (text : List ℕ) (m k : ℕ) → (block_of given m (record { line = k; text = Some text })).is_study ≡ true
+    → Alike given text (λ number line. block_of given number (record { line = line; text = Some text }))
 unfolding block_of
-alike given text m k e = header_alike given text (header_fault text) m k e
+own_alike given text m k e = header_alike given text (header_fault text) m k e
+
+by_alike : (given : Option Stipulation) (text : List ℕ) (tail : Option Tail) (m k : ℕ)
+    → (block_or_tail given m (record { line = k; text = Some text }) tail).is_study ≡ true
+    → (start : Start) × (aim : Aim) × (told : Told)
+    × ((number line : ℕ) → block_or_tail given number (record { line = line; text = Some text }) tail
+    ≡ under_remark (remark_above tail) (record { text = block_lines (entry_of number line (text_read text tail)) start aim told; is_study = true }))
+by_alike given text None m k e = own_alike given text m k e
+by_alike given text (Some t) m k e =
+    let (start, aim, told, same) = start_alike given t.text (position_text t.position) (start_of (position_text t.position)) m k e in
+    (start, aim, told, λ number line. ap (under_remark (tail_line t.skipped)) (same number line))
+
+pub alike : AreAlike
+alike c text m k e = by_alike c.given text (tail_of c.tails (Some text)) m k e

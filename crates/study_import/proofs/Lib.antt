@@ -24,6 +24,8 @@ mod TagsTrimmed
 mod Soundness
 mod Placed
 mod Whole
+pub mod TailFound
+mod AllRead
 mod Blanks
 mod TreeHoles
 mod SanSymbols

@@ -37,7 +37,7 @@ use Rattle.study_import.specs.declared.aims.AimSource.TheVariants.{Comment, Stip
 use Rattle.study_import.specs.declared.notes.Notes.{Notes}
 use Rattle.study_import.specs.declared.places.Place.{Place}
 use Rattle.study_import.specs.Aims.{source_words}
-use Rattle.study_import.specs.Blocks.{Entry, Told, place_in, text_at, token_name, move_name, line_name, reason_name, stop_name, symbol_words, left_out, place_words, fault_words, counts_words, counts_line, move_counts, counted_words, behind_line, six_names, shown, tag_text, was_of, was_line, head_line, remark_lines, other_tags, stopped_block, men_in, fen_words, at_most, last_line}
+use Rattle.study_import.specs.Blocks.{Entry, Told, place_in, text_at, token_name, move_name, line_name, reason_name, stop_name, symbol_words, left_out, place_words, fault_words, counts_words, counts_line, move_counts, counted_words, behind_line, six_names, shown, tag_text, was_of, was_line, head_line, remark_lines, other_tags, stopped_block, men_in, fen_words, at_most, last_line, tail_line}
 use Rattle.study_import.proofs.Ink.{Ink, decimal_ink, decimal_few}
 use Rattle.study_import.proofs.CommandLines.{remark_asked, empty_asked}
 
@@ -451,3 +451,15 @@ last_is games studies =
     (joined 7 (64 + (10 + 64)) (codes " games ") _ (record { shown = refl; few = omega arith })
     (joined 64 (10 + 64) (decimal games) _ (number_part games)
     (joined 10 64 (codes ", studies ") (decimal studies) (record { shown = refl; few = omega arith }) (number_part studies))))))
+
+tail_is_line : (a : List ℕ) → codes "# a tail: moves before " ++ (a ++ codes "; its position is another program's word\n")
+    ≡ hashed (codes " a tail: moves before " ++ (a ++ codes "; its position is another program's word")) ++ 10 ∷ []
+tail_is_line a = simp append_assoc
+
+pub tail_is : (skipped : ℕ) → AreLines IsRemark (tail_line skipped)
+unfolding tail_line
+tail_is skipped =
+    one_line IsRemark _ _ (tail_is_line (decimal skipped))
+    (remark_line _ (wider (22 + (64 + 40)) 1000 _ (omega arith)
+    (joined 22 (64 + 40) (codes " a tail: moves before ") _ (record { shown = refl; few = omega arith })
+    (joined 64 40 (decimal skipped) (codes "; its position is another program's word") (number_part skipped) (record { shown = refl; few = omega arith })))))

@@ -39,10 +39,11 @@ use Rattle.study_import.specs.declared.movetext.MovesFault.{MovesFault}
 use Rattle.study_import.specs.Movetext.{Ended}
 use Rattle.study_import.specs.Reading.{insert_line}
 use Rattle.study_import.specs.Insertions.{Insertion, made_by, AllAccepted, AllReadAgain, lines_for}
-use Rattle.study_import.specs.Blocks.{Entry, Block, no_study, left_out, token_name, Told, told_of, head_line, remark_lines, position_line, stipulation_line, tag_line, tag_value_text, six_names, study_lines, block_lines, aim_of_game, aimed_block, stopped_block, read_block, no_moves, game_read, fen_in, start_block, fen_block, header_block, sized_block, block_of, place_in, last_line, is_chosen, Tally, tallied, told_text, blocks}
+use Rattle.study_import.specs.Blocks.{Entry, Block, no_study, left_out, token_name, Told, told_of, head_line, remark_lines, position_line, stipulation_line, tag_line, tag_value_text, six_names, study_lines, block_lines, aim_of_game, aimed_block, stopped_block, read_block, no_moves, game_read, fen_in, start_block, fen_block, header_block, sized_block, block_of, tail_of, tail_line, under_remark, block_or_tail, block_by, place_in, last_line, is_chosen, Tally, tallied, told_text, blocks}
+use Rattle.study_import.specs.Tails.{Tail, position_text}
 use Rattle.study_import.specs.Documents.{Document, empty, placed, composed, with_start, after_position, new_study, after_stipulate, unless_refused, after_move, after_line, after_lines}
-use Rattle.study_import.specs.Meant.{tag_texts, study_aimed, study_read, study_begun, study_with_fen, study_behind_header, study_in, study_of_game}
-use Rattle.study_import.specs.Laws.{IsCounted, IsGiven, HasSixTags, document_then, document_behind, IsShort as IsShortLine, AreRead, AreScriptsRead}
+use Rattle.study_import.specs.Meant.{tag_texts, study_aimed, study_read, study_begun, study_with_fen, study_behind_header, study_in, study_of_game, study_of_tail, study_by}
+use Rattle.study_import.specs.Laws.{IsCounted, IsGiven, asks_pgn, IsNoPgn, IsWritten, HasSixTags, document_then, document_behind, IsShort as IsShortLine, AreRead, AreScriptsRead}
 use Rattle.study_import.proofs.Ink.{Print}
 use Rattle.study_import.proofs.Spelling.{IsShort, IsFen, AllBelow, move_short, move_some, fen_is, path_short, path_some}
 use Rattle.study_import.proofs.PathAgain.{path_again}
@@ -54,7 +55,7 @@ use Rattle.study_import.proofs.TagsTrimmed.{text_trimmed, text_prints, text_few}
 use Rattle.study_import.proofs.AimsCounted.{aim_counted}
 use Rattle.study_import.proofs.Openings.{opening_given}
 use Rattle.study_import.proofs.CommandLines.{side_words, goal_words, stipulate_words, insert_words, tag_words, position_asked, stipulate_asked, stipulate_prints, insert_asked, insert_prints, tag_asked, tag_prints, pgn_asked, empty_asked, position_prints}
-use Rattle.study_import.proofs.Remarks.{shows, IsLine, IsRemark, fed, AreLines, each_append, IsPart, number_part, joined, tag_part, head_remark, remarks_are, left_out_is, fault_words_are, token_part, stopped_lines, fen_words_part, last_is}
+use Rattle.study_import.proofs.Remarks.{shows, IsLine, IsRemark, fed, AreLines, each_append, IsPart, number_part, joined, tag_part, head_remark, remarks_are, left_out_is, fault_words_are, token_part, stopped_lines, fen_words_part, last_is, tail_is}
 
 -- ---- lines are found where they are written
 
@@ -357,6 +358,53 @@ module _ (e : Entry) (start : Start) (aim : Stipulation) (is : List Insertion) w
       (inserts_done aim (tag_texts tags) bare is (record { valid = r.valid; playable = tt; distinct = tt }) h k)
       ∙ pgn_done (framed (made_by bare is) aim (tag_texts tags))
 
+-- ---- the line that asks for the PGN is the last, and the only one
+
+no_pgn_by : (line : List ℕ) (a : Asks) → command_of line ≡ a → asks_pgn a ≡ false → IsNoPgn line
+no_pgn_by line a e h = ap asks_pgn e ∙ h
+
+no_pgn_remarks : (lines : List (List ℕ)) → AllByRecursion IsRemark lines → AllByRecursion IsNoPgn lines
+no_pgn_remarks [] h = tt
+no_pgn_remarks (line ∷ lines) h = (no_pgn_by line (Ok None) h.0.silent refl, no_pgn_remarks lines h.1)
+
+no_pgn_tags : (tags : List Pair) (names : List TagName) → AllByRecursion IsNoPgn (tag_lines tags names)
+unfolding tag_lines
+no_pgn_tags tags [] = tt
+no_pgn_tags tags (name ∷ names) =
+    (no_pgn_by (tag_words name (text_of tags name)) (Ok (Some (tag name (text_of tags name)))) (tag_read tags name) refl, no_pgn_tags tags names)
+
+no_pgn_inserts : (s : Plainly) (is : List Insertion) → IsNarrow s → AllAccepted (Unit {0}) s is → AllByRecursion IsNoPgn (insert_lines s is)
+unfolding insert_lines
+no_pgn_inserts s [] n h = tt
+no_pgn_inserts s (i ∷ later) n h =
+    let o = is_open (Unit {0}) s i.0 i.1 h.0 in (
+      no_pgn_by (insert_words_of s i) (Ok (Some (insert i.0 (move_text (position_at s i.0) i.1)))) (insert_read s i (is_insert s i n o)) refl,
+      no_pgn_inserts (inserted s i.0 i.1) later (narrow_inserted s i.0 i.1 n o) h.1,
+    )
+
+pgn_behind : (xs ys : List (List ℕ)) → AllByRecursion IsNoPgn xs → IsWritten true ys → IsWritten true (xs ++ ys)
+pgn_behind xs ys h (front, e, k) =
+    (xs ++ front, ap (λ (ls : List (List ℕ)). xs ++ ls) e ∙ sym (append_assoc xs front (codes "pgn" ∷ [] ∷ [])), each_append IsNoPgn xs front h k)
+
+-- lines in front of a block
+lines_before : (is_study : Bool) (xs ys : List (List ℕ)) → AllByRecursion IsNoPgn xs → IsWritten is_study ys → IsWritten is_study (xs ++ ys)
+lines_before true xs ys h k = pgn_behind xs ys h k
+lines_before false xs ys h k = each_append IsNoPgn xs ys h k
+
+study_written : (e : Entry) (start : Start) (aim : Stipulation) (is : List Insertion) → IsStart start → IsCounted aim.goal
+    → AllAccepted (Unit {0}) (no_moves start).reading.study is → IsWritten true (lines_of_study e start aim is)
+unfolding lines_of_study
+study_written e start aim is r counted h =
+    let s = (no_moves start).reading.study in
+    let tags = tag_lines (tags_of e.text) six_names in
+    let inserts = insert_lines s is in
+    pgn_behind (position_words start ∷ []) (stipulate_words aim ∷ (tags ++ (inserts ++ codes "pgn" ∷ [] ∷ [])))
+    (no_pgn_by (position_words start) (Ok (Some (fen_command PositionWord (fen_text start)))) (position_asked (fen_text start) (fen_is start r)) refl, tt)
+    (pgn_behind (stipulate_words aim ∷ []) (tags ++ (inserts ++ codes "pgn" ∷ [] ∷ []))
+    (no_pgn_by (stipulate_words aim) (Ok (Some (stipulate aim))) (stipulate_asked aim counted) refl, tt)
+    (pgn_behind tags (inserts ++ codes "pgn" ∷ [] ∷ []) (no_pgn_tags (tags_of e.text) six_names)
+    (pgn_behind inserts (codes "pgn" ∷ [] ∷ []) (no_pgn_inserts s is (record { valid = r.valid; playable = tt; distinct = tt }) h) ([], refl, tt))))
+
 -- ---- a block
 
 -- a block that comes to this study, or to none
@@ -364,6 +412,7 @@ record Reads (block : Block) (o : Option Plainly) : Type 0 where
   is_study : block.is_study ≡ is_some o
   lines : List (List ℕ)
   spelled : Spelled block.text lines
+  written : IsWritten block.is_study lines
   six : (d : Document) → HasSixTags d → HasSixTags (document_then d o)
   study : (d : Document) → HasSixTags d → after_lines (Some d) lines ≡ Some (document_then d o)
 
@@ -372,6 +421,7 @@ remarks_read t h = record {
   is_study = refl;
   lines = h.lines;
   spelled = remarks_spelled t h;
+  written = no_pgn_remarks h.lines h.each;
   six = λ d six. six;
   study = λ d six. after_remarks h.lines h.each d;
 }
@@ -401,6 +451,8 @@ block_reads e start aim t is tree r counted h k made inserts =
       is_study = refl;
       lines = whole;
       spelled = all;
+      written = pgn_behind head.lines (remarks.lines ++ lines) (no_pgn_remarks head.lines head.each)
+          (pgn_behind remarks.lines lines (no_pgn_remarks remarks.lines remarks.each) (study_written e start aim.stipulation is r counted h));
       six = λ d six. refl;
       study = λ d six.
           after_append (Some d) head.lines (remarks.lines ++ lines)
@@ -463,13 +515,38 @@ game_reads : (given : Option Stipulation) (number : ℕ) (game : Game) → IsGiv
 unfolding block_of
 game_reads given number game g = sized_reads given number game.line game.text g
 
+-- ---- a tail
+
+under_reads : (remark : List ℕ) (block : Block) (o : Option Plainly) → AreLines IsRemark remark → Reads block o → Reads (under_remark remark block) o
+under_reads remark block o h r = record {
+  is_study = r.is_study;
+  lines = h.lines ++ r.lines;
+  spelled = both remark block.text h.lines r.lines (remarks_spelled remark h) r.spelled;
+  written = lines_before block.is_study h.lines r.lines (no_pgn_remarks h.lines h.each) r.written;
+  six = r.six;
+  study = λ d six.
+      after_append (Some d) h.lines r.lines ∙ ap (λ (x : Option Document). after_lines x r.lines) (after_remarks h.lines h.each d) ∙ r.study d six;
+}
+
+tail_reads : (given : Option Stipulation) (number : ℕ) (game : Game) (tail : Option Tail) → IsGiven given
+    → Reads (block_or_tail given number game tail) (study_of_tail given game.text tail)
+tail_reads given number game None g = game_reads given number game g
+tail_reads given number game (Some t) g =
+    let fen = position_text t.position in
+    under_reads (tail_line t.skipped) _ _ (tail_is t.skipped)
+    (start_reads given g (record { number = number; line = game.line; text = t.text }) fen (start_of fen) refl)
+
+by_reads : (c : Choice) (number : ℕ) (game : Game) → IsGiven c.given → Reads (block_by c number game) (study_by c game.text)
+by_reads c number game g = tail_reads c.given number game (tail_of c.tails game.text) g
+
 pub are_read : AreRead
-are_read given g number game =
-    let r = game_reads given number game g in
-    let f = found (block_of given number game).text r.lines r.spelled in
+are_read c g number game =
+    let r = by_reads c number game g in
+    let f = found (block_by c number game).text r.lines r.spelled in
     record {
       is_study = r.is_study;
       short = subst (λ (ls : List (List ℕ)). AllByRecursion IsShortLine ls) (sym f) (all_short r.lines r.spelled.each);
+      written = subst (λ (ls : List (List ℕ)). IsWritten (block_by c number game).is_study ls) (sym f) r.written;
       study = λ d six. ap (after_lines (Some d)) f ∙ r.study d six;
     }
 
@@ -488,13 +565,13 @@ last_leads games studies =
 
 -- a game that is not chosen has no block
 told_leads : (c : Choice) (g : Game) (number : ℕ) (chosen : Bool) → IsGiven c.given
-    → LeadsTo (if chosen then (block_of c.given number g).text else []) (λ d. if chosen then document_then d (study_of_game c.given g.text) else d)
-told_leads c g number true given = let r = game_reads c.given number g given in record { lines = r.lines; spelled = r.spelled; study = r.study }
+    → LeadsTo (if chosen then (block_by c number g).text else []) (λ d. if chosen then document_then d (study_by c g.text) else d)
+told_leads c g number true given = let r = by_reads c number g given in record { lines = r.lines; spelled = r.spelled; study = r.study }
 told_leads c g number false given = record { lines = []; spelled = record { text = refl; each = tt }; study = λ d six. refl }
 
 six_then : (c : Choice) (g : Game) (number : ℕ) (chosen : Bool) → IsGiven c.given → (d : Document) → HasSixTags d
-    → HasSixTags (if chosen then document_then d (study_of_game c.given g.text) else d)
-six_then c g number true given d six = (game_reads c.given number g given).six d six
+    → HasSixTags (if chosen then document_then d (study_by c g.text) else d)
+six_then c g number true given d six = (by_reads c number g given).six d six
 six_then c g number false given d six = six
 
 met_if : (b : Bool) (x y : Tally) (n : ℕ) → x.met ≡ n → y.met ≡ n → (u : Tally) → u ≡ (if b then x else y) → u.met ≡ n
@@ -510,7 +587,7 @@ blocks_lead c t (g ∷ gs) given =
     let number = one_more t.met in
     let here = told_leads c g number (is_chosen c number) given in
     let later = blocks_lead c (tallied c t g) gs given in
-    let next = λ (d : Document). if is_chosen c number then document_then d (study_of_game c.given g.text) else d in
+    let next = λ (d : Document). if is_chosen c number then document_then d (study_by c g.text) else d in
     record {
       lines = here.lines ++ later.lines;
       spelled = both (told_text c t g) (blocks c (tallied c t g) gs) here.lines later.lines here.spelled later.spelled;

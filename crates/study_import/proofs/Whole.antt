@@ -6,13 +6,11 @@ use Rattle.study_games.specs.declared.token.TokenFault.TheVariants.{OpenComment,
 use Rattle.study_games.specs.declared.header.HeaderFault.{HeaderFault}
 use Rattle.study_games.specs.Bytes.{is_blank, is_gap, is_letter, is_digit, is_name_byte, is_sign, begins_symbol, is_symbol_byte, is_glyph}
 use Rattle.study_games.specs.Tokens.{Lexed, front, behind, closed, is_inside, comment_at, is_in_line, value_end, without_first, behind_value, valued, quoted, named, tag_at, lexed, blank, aside, opening, closing, star, tag, comment, rest, sign, symbol}
-use Rattle.study_games.specs.Header.{Pair, Step, on, no_tag, ended, step_of, with_tags, tags_in, with_fault, fault_in, tags_of, header_fault}
+use Rattle.study_games.specs.Header.{Pair, Step, on, no_tag, ended, step_of, with_tags, tags_in, with_fault, fault_in}
 use Rattle.study_import.specs.declared.taking.Reason.{Reason}
 use Rattle.study_import.specs.declared.movetext.MovesFault.{MovesFault}
 use Rattle.study_import.specs.Notes.{GameRead, GameTaken, game_taken}
 use Rattle.study_import.specs.Movetext.{Ended, goes_on, on_token, read_moves}
-use Rattle.study_import.specs.Blocks.{no_moves, game_read}
-use Rattle.study_import.specs.Laws.{AreWhole}
 
 -- what follows a token has so many bytes at most
 abbrev pub Within : ℕ → Lexed → Type 0
@@ -168,11 +166,3 @@ fault_same (suc n) zero fresh (b ∷ bs) h k = absurd (omega arith)
 fault_same (suc n) (suc m) fresh (b ∷ bs) h k =
     same_fault (fault_in n (b == 10)) (fault_in m (b == 10)) (length (b ∷ bs)) (length bs) (step_of (lexed fresh b bs))
     (within_step (length bs) (lexed fresh b bs) (within_lexed fresh b bs)) (λ rest le. fault_same n m (b == 10) rest (omega arith) (omega arith))
-
-pub are_whole : AreWhole
-unfolding game_read tags_of header_fault
-are_whole text n le = record {
-  moves = λ start. moves_same n (length text) true text (no_moves start) le (omega arith);
-  tags = tags_same n (length text) true text le (omega arith);
-  fault = fault_same n (length text) true text le (omega arith);
-}

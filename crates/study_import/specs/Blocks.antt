@@ -1,5 +1,5 @@
 -- What is written of a game.
-use Rattle.std.specs.Prelude.{ℕ, ◌+◌, ◌-◌, ◌^◌, min, Bool, true, false, ◌&&◌, ◌||◌, ◌==◌, nat_le, List, [], ◌∷◌, ◌++◌, length, take, drop, map, codes, decimal, count_by}
+use Rattle.std.specs.Prelude.{ℕ, ◌+◌, ◌-◌, ◌^◌, min, Bool, true, false, not, ◌&&◌, ◌||◌, ◌==◌, nat_le, List, [], ◌∷◌, ◌++◌, length, take, drop, map, codes, decimal, count_by}
 use Rattle.std.specs.Prelude.{Option, Some, None, Result, Ok, Err, if◌then◌else◌}
 use Rattle.std.specs.List.{flat_map}
 use Rattle.std.specs.Str.{bytes_eq}
@@ -50,6 +50,7 @@ use Rattle.study_import.specs.Aims.{from_source, or_aim, aim_of_result, aim_of_t
 use Rattle.study_import.specs.Notes.{GameRead, none_yet}
 use Rattle.study_import.specs.Taken.{reading_of}
 use Rattle.study_import.specs.Movetext.{Ended, read_moves}
+use Rattle.study_import.specs.Tails.{Tail, position_text, tail_in}
 
 -- ---- places
 
@@ -365,11 +366,52 @@ sized_block given number line None = no_study (fault_words number (record { line
 sized_block given number line (Some text) =
     header_block given (record { number = number; line = line; text = text }) (header_fault text)
 
--- what is written of the game with this number
+-- what is written of the game with this number, which begins with at most four men
 unfoldable pub block_of : Option Stipulation → ℕ → Game → Block
 block_of given number game = sized_block given number game.line game.text
 
+-- ---- a game with more men, from a position on that a comment names
+
+abbrev pub has_more : Result Start FenFault → Bool
+has_more (Err fen.TooManyMen) = true
+has_more other = false
+
+-- more than four men: by its FEN, or 32 without one
+abbrev pub has_more_men : Option (List ℕ) → Bool
+has_more_men None = true
+has_more_men (Some value) = has_more (start_of (fen_in value))
+
+-- text that has no tags is no game
+unfoldable pub tail_of_game : List ℕ → Option Tail
+tail_of_game text = if not (length (tags_of text) == 0) && has_more_men (value_of (codes "FEN") (tags_of text)) then tail_in text else None
+
+-- of a game that may have too many bytes; tails: whether tails are taken
+abbrev pub tail_of : Bool → Option (List ℕ) → Option Tail
+tail_of true (Some text) = tail_of_game text
+tail_of tails text = None
+
+-- whose word the position is, and how many moves stand before it
+unfoldable pub tail_line : ℕ → List ℕ
+tail_line skipped = codes "# a tail: moves before " ++ (decimal skipped ++ codes "; its position is another program's word\n")
+
+abbrev pub under_remark : List ℕ → Block → Block
+under_remark remark block = record { text = remark ++ block.text; is_study = block.is_study }
+
+-- the block of the tail as of a game that begins there
+abbrev pub tail_block : Option Stipulation → ℕ → ℕ → Tail → Block
+tail_block given number line t =
+    under_remark (tail_line t.skipped)
+    (start_block given (record { number = number; line = line; text = t.text }) (position_text t.position) (start_of (position_text t.position)))
+
+abbrev pub block_or_tail : Option Stipulation → ℕ → Game → Option Tail → Block
+block_or_tail given number game None = block_of given number game
+block_or_tail given number game (Some t) = tail_block given number game.line t
+
 -- ---- a file
+
+-- what is written of the game with this number
+abbrev pub block_by : Choice → ℕ → Game → Block
+block_by c number game = block_or_tail c.given number game (tail_of c.tails game.text)
 
 unfoldable pub last_line : ℕ → ℕ → List ℕ
 last_line games studies = codes "# games " ++ (decimal games ++ (codes ", studies " ++ (decimal studies ++ codes "\n")))
@@ -394,13 +436,13 @@ tallied c t g =
     then record {
       met = one_more t.met;
       told = one_more t.told;
-      studies = one_if (block_of c.given (one_more t.met) g).is_study t.studies;
+      studies = one_if (block_by c (one_more t.met) g).is_study t.studies;
     }
     else record { met = one_more t.met; told = t.told; studies = t.studies }
 
 -- what is written of it
 abbrev pub told_text : Choice → Tally → Game → List ℕ
-told_text c t g = if is_chosen c (one_more t.met) then (block_of c.given (one_more t.met) g).text else []
+told_text c t g = if is_chosen c (one_more t.met) then (block_by c (one_more t.met) g).text else []
 
 -- what is written of these games, and the last line
 abbrev pub blocks : Choice → Tally → List Game → List ℕ

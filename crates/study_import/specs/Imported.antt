@@ -1,5 +1,5 @@
 -- The script of a file.
-use Rattle.std.specs.Prelude.{◌≡◌, ℕ, ◌-◌, ◌^◌, List, [], ◌∷◌, ◌++◌, Option, Some, None}
+use Rattle.std.specs.Prelude.{◌≡◌, ℕ, ◌-◌, ◌^◌, false, List, [], ◌∷◌, ◌++◌, Option, Some, None}
 use Rattle.study_marks.specs.declared.stipulation.Stipulation.{Stipulation}
 use Rattle.study_games.specs.Games.{Game, Begun, Gathered, games_from, games_of, lines_behind}
 use Rattle.study_import.specs.declared.importer.Choice.{Choice}
@@ -21,9 +21,9 @@ tally_behind c t (g ∷ gs) = tally_behind c (tallied c t g) gs
 unfoldable pub tally_of : Choice → List ℕ → Tally
 tally_of c text = tally_behind c no_game (games_of text)
 
--- all games; given: the stipulation of those that say none
+-- all games, without tails; given: the stipulation of those that say none
 abbrev pub all_games : Option Stipulation → Choice
-all_games given = record { given = given; from = 1; to = 2 ^ 32 - 1 }
+all_games given = record { given = given; from = 1; to = 2 ^ 32 - 1; tails = false }
 
 -- what an import holds: the bytes of the line at hand, the game at hand, and what came before
 pub record Held : Type 0 where

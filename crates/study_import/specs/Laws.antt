@@ -1,5 +1,5 @@
 -- Laws of an import.
-use Rattle.std.specs.Prelude.{◌≡◌, ℕ, ◌≤◌, List, [], ◌∷◌, ◌++◌, length, Option, Some, None, is_some, Ok, Err, true, if◌then◌else◌}
+use Rattle.std.specs.Prelude.{◌≡◌, ℕ, ◌≤◌, Bool, List, [], ◌∷◌, ◌++◌, length, codes, Option, Some, None, is_some, Ok, Err, true, false, if◌then◌else◌}
 use Rattle.std.specs.List.{AllByRecursion}
 use Rattle.study_board.specs.Position.{IsValid}
 use Rattle.study_notation.specs.declared.start.Start.{Start}
@@ -10,11 +10,12 @@ use Rattle.study_marks.specs.declared.tag.TagName.{TagName}
 use Rattle.study_marks.specs.Study.{tag_name}
 use Rattle.study_marks.specs.Edits.{Plainly, tag_refusal}
 use Rattle.study_command.specs.Lines.{script_lines}
+use Rattle.study_command.specs.Parser.{Asks, pgn, command_of}
 use Rattle.study_games.specs.Header.{Pair, tags_in, fault_in, tags_of, header_fault, value_of}
 use Rattle.study_games.specs.Games.{Game, games_of, games_from, one_more}
 use Rattle.study_games.specs.Laws.{number_behind, EndsWithMoves, BeginsWithTag, lines_of}
 use Rattle.study_import.specs.declared.importer.Choice.{Choice}
-use Rattle.study_import.specs.Blocks.{Tally, is_chosen, tallied, told_text, blocks, no_moves, game_read, tag_value_text, Entry, Told, block_lines, block_of}
+use Rattle.study_import.specs.Blocks.{Tally, is_chosen, tallied, told_text, blocks, no_moves, game_read, tag_value_text, Entry, Told, block_lines, tail_of, tail_line, under_remark, block_by}
 use Rattle.study_import.specs.Insertions.{Leads, AllReadAgain}
 use Rattle.study_import.specs.declared.aims.Aim.{Aim}
 use Rattle.study_import.specs.declared.lines.LineFault.TheVariants as line_fault
@@ -26,7 +27,8 @@ use Rattle.study_import.specs.declared.movetext.Stop.TheVariants as stop
 use Rattle.study_import.specs.Movetext.{Ended, read_moves}
 use Rattle.study_import.specs.Imported.{no_game, script_of, tally_of}
 use Rattle.study_import.specs.Documents.{Document, composed, after_lines}
-use Rattle.study_import.specs.Meant.{study_of_game}
+use Rattle.study_import.specs.Tails.{Tail, tail_from, not_begun, tail_in}
+use Rattle.study_import.specs.Meant.{study_by}
 
 -- the blocks of these games behind a tally, without the last line
 abbrev pub told_texts : Choice → Tally → List Game → List ℕ
@@ -56,14 +58,24 @@ AreTaken = (tags : List Pair) → (name : TagName) → tag_refusal {A = Unit {0}
 abbrev pub entry_of : ℕ → ℕ → List ℕ → Entry
 entry_of number line text = record { number = number; line = line; text = text }
 
+-- the remark above the block of a tail, and the text that is read
+abbrev pub remark_above : Option Tail → List ℕ
+remark_above None = []
+remark_above (Some t) = tail_line t.skipped
+
+abbrev pub text_read : List ℕ → Option Tail → List ℕ
+text_read text None = text
+text_read text (Some t) = t.text
+
 -- a game that comes to a study comes to the same one under every number and at every line: its start, its stipulation and what was read
 -- are those of its text
 abbrev pub AreAlike : Type 0
 AreAlike =
-    (given : Option Stipulation) → (text : List ℕ) → (m k : ℕ) → (block_of given m (record { line = k; text = Some text })).is_study ≡ true
+    (c : Choice) → (text : List ℕ) → (m k : ℕ) → (block_by c m (record { line = k; text = Some text })).is_study ≡ true
     → (start : Start) × (aim : Aim) × (told : Told)
-    × ((number line : ℕ) → block_of given number (record { line = line; text = Some text })
-    ≡ record { text = block_lines (entry_of number line text) start aim told; is_study = true })
+    × ((number line : ℕ) → block_by c number (record { line = line; text = Some text })
+    ≡ under_remark (remark_above (tail_of c.tails (Some text)))
+    (record { text = block_lines (entry_of number line (text_read text (tail_of c.tails (Some text)))) start aim told; is_study = true }))
 
 -- a mate within 1 to 127 moves
 abbrev pub IsCounted : Goal → Type 0
@@ -87,22 +99,36 @@ document_then d (Some s) = composed s
 abbrev pub IsShort : List ℕ → Type 0
 IsShort line = length line ≤ 1024
 
+-- a line that does not ask for the PGN
+abbrev pub asks_pgn : Asks → Bool
+asks_pgn (Ok (Some pgn)) = true
+asks_pgn other = false
+
+abbrev pub IsNoPgn : List ℕ → Type 0
+IsNoPgn line = asks_pgn (command_of line) ≡ false
+
+-- the lines of a study end with the one that asks for its PGN, and an empty one; those of another block do not ask for it
+abbrev pub IsWritten : Bool → List (List ℕ) → Type 0
+IsWritten true lines = (front : List (List ℕ)) × (lines ≡ front ++ (codes "pgn" ∷ [] ∷ [])) × AllByRecursion IsNoPgn front
+IsWritten false lines = AllByRecursion IsNoPgn lines
+
 -- the block of a game, as its bytes are, is read line by line as a script that no rule refuses, whatever is held before it: where the game
--- comes to a study, that study is held then, and else what was held; tables and memory apart
-pub record IsRead (given : Option Stipulation) (number : ℕ) (game : Game) : Type 0 where
-  pub is_study : (block_of given number game).is_study ≡ is_some (study_of_game given game.text)
-  pub short : AllByRecursion IsShort (script_lines (block_of given number game).text)
+-- or its tail comes to a study, that study is held then, and else what was held; tables and memory apart
+pub record IsRead (c : Choice) (number : ℕ) (game : Game) : Type 0 where
+  pub is_study : (block_by c number game).is_study ≡ is_some (study_by c game.text)
+  pub short : AllByRecursion IsShort (script_lines (block_by c number game).text)
+  pub written : IsWritten (block_by c number game).is_study (script_lines (block_by c number game).text)
   pub study : (d : Document) → HasSixTags d
-      → after_lines (Some d) (script_lines (block_of given number game).text) ≡ Some (document_then d (study_of_game given game.text))
+      → after_lines (Some d) (script_lines (block_by c number game).text) ≡ Some (document_then d (study_by c game.text))
 
 abbrev pub AreRead : Type 0
-AreRead = (given : Option Stipulation) → IsGiven given → (number : ℕ) → (game : Game) → IsRead given number game
+AreRead = (c : Choice) → IsGiven c.given → (number : ℕ) → (game : Game) → IsRead c number game
 
 -- what is held behind the blocks of these games, of which so many came before
 abbrev pub document_behind : Choice → ℕ → Document → List Game → Document
 document_behind c met d [] = d
 document_behind c met d (g ∷ gs) =
-    document_behind c (one_more met) (if is_chosen c (one_more met) then document_then d (study_of_game c.given g.text) else d) gs
+    document_behind c (one_more met) (if is_chosen c (one_more met) then document_then d (study_by c g.text) else d) gs
 
 -- the whole script likewise
 pub record IsScriptRead (c : Choice) (text : List ℕ) : Type 0 where
@@ -122,9 +148,10 @@ IsListed other = Unit {0}
 abbrev pub AreListed : Type 0
 AreListed = (text : List ℕ) → (start : Start) → (fault : MovesFault) → game_read text start ≡ Err fault → IsListed fault.why
 
--- a game is read to its end: who allows more tokens reads no more of its moves and of its header
+-- a game is read to its end: who allows more tokens reads no more of its moves and of its header, and finds the same tail
 pub record IsWhole (text : List ℕ) (n : ℕ) : Type 0 where
   pub moves : (start : Start) → read_moves n true text (no_moves start) ≡ game_read text start
+  pub tail : tail_from n true text (not_begun []) ≡ tail_in text
   pub tags : tags_in n true text ≡ tags_of text
   pub fault : fault_in n true text ≡ header_fault text
 

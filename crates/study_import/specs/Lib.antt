@@ -6,6 +6,7 @@ pub mod Aims
 pub mod Notes
 pub mod Movetext
 pub mod MovesRead
+pub mod Tails
 pub mod Blocks
 pub mod BlocksRead
 pub mod Imported

@@ -11,7 +11,9 @@ use Rattle.study_games.specs.declared.header.HeaderFault.{HeaderFault}
 use Rattle.study_import.specs.declared.aims.Aim.{Aim}
 use Rattle.study_import.specs.declared.movetext.MovesFault.{MovesFault}
 use Rattle.study_import.specs.Movetext.{Ended}
-use Rattle.study_import.specs.Blocks.{six_names, tag_value_text, aim_of_game, game_read, fen_in}
+use Rattle.study_import.specs.declared.importer.Choice.{Choice}
+use Rattle.study_import.specs.Tails.{Tail, position_text}
+use Rattle.study_import.specs.Blocks.{six_names, tag_value_text, aim_of_game, game_read, fen_in, tail_of}
 
 -- the texts of the six tags; each is known, if only as `?`
 abbrev pub tag_texts : List Pair → List (Option (List ℕ))
@@ -46,3 +48,11 @@ study_in given text = study_behind_header given text (header_fault text)
 abbrev pub study_of_game : Option Stipulation → Option (List ℕ) → Option Plainly
 study_of_game given None = None
 study_of_game given (Some text) = study_in given text
+
+-- of a tail it is the same, but for its start
+abbrev pub study_of_tail : Option Stipulation → Option (List ℕ) → Option Tail → Option Plainly
+study_of_tail given text None = study_of_game given text
+study_of_tail given text (Some t) = study_begun given t.text (start_of (position_text t.position))
+
+abbrev pub study_by : Choice → Option (List ℕ) → Option Plainly
+study_by c text = study_of_tail c.given text (tail_of c.tails text)

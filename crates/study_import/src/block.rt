@@ -450,7 +450,7 @@ fn add_fen_words<A: Allocator>(
 }
 
 /// Adds the block of a game with this FEN, or why there is none.
-fn add_start<'a, A: Allocator>(
+pub fn add_start<'a, A: Allocator>(
     alloc: &'a A,
     out: &mut Text<'_, A>,
     setting: &Setting<'_>,
@@ -490,7 +490,7 @@ fn add_printed<A: Allocator>(out: &mut Text<'_, A>, bytes: &[u8]) -> Result<(), 
 
 /// The FEN that a tag's value spells.
 #[tactic(auto, using(crate::proofs::Printed::all_printed))]
-fn fen_in<'a, A: Allocator>(alloc: &'a A, raw: &[u8]) -> Result<Text<'a, A>, AllocError>
+pub fn fen_in<'a, A: Allocator>(alloc: &'a A, raw: &[u8]) -> Result<Text<'a, A>, AllocError>
     ensures text { IfOk result (λ fen. fen ≡ fen_in raw.now) }
     ensures prints { IfOk result (λ fen. list_all is_printable fen ≡ true) }
 {
@@ -542,7 +542,7 @@ fn add_entry<'a, A: Allocator>(
     add_tagged(alloc, out, setting)
 }
 
-/// Adds the block of a game, or the line that tells why there is none; tells which.
+/// Adds the block of a game that begins with at most four men, or the line that tells why there is none; tells which.
 #[tactic(auto, unfolding(crate::specs::Blocks::block_of))]
 pub fn add_game<'a, A: Allocator>(
     alloc: &'a A,

@@ -5,7 +5,7 @@ ghost use Rattle.study_import.specs.Blocks.{tallied, told_text, last_line};
 ghost use Rattle.study_import.specs.Imported.{script_of, all_games, nothing_held, still_written, still_tallied, written_of, tally_ahead, put_away, text_at_hand, TakesByte, KeepsTally, EndsLine, EndsLineTallied};
 ghost use Rattle.study_import.specs.ImportedSeen.{tally_seen};
 
-use crate::block::add_game;
+use crate::tail_block::add_chosen;
 use std::alloc::{AllocError, Allocator};
 use std::marker::Model;
 use study_games::{Game, Gathering, LONGEST_LINE, LineKind, kind_of, unmarked};
@@ -18,6 +18,8 @@ pub struct Choice {
     pub given: Option<Stipulation>,
     pub from: u32,
     pub to: u32,
+    /// Of a game with more than four men its tail is taken, where it has one.
+    pub tails: bool,
 }
 
 /// How many games came before, how many of them were told, and how many of these came to a study.
@@ -183,7 +185,7 @@ fn tell_game<'a, A: Allocator>(
             studies: tally.studies,
         });
     }
-    let is_study = add_game(alloc, out, choice.given, number, game)?;
+    let is_study = add_chosen(alloc, out, choice, number, game)?;
     Ok(Imported {
         met: number,
         told: tally.told.saturating_add(1),
@@ -239,6 +241,7 @@ pub fn import<'a, A: Allocator>(
         given,
         from: 1,
         to: u32::MAX,
+        tails: false,
     };
     import_chosen(alloc, text, choice)
 }

@@ -17,6 +17,7 @@ const LINES: &str =
     "Each game that begins with two to four men becomes a block of lines; of each other game one line tells why there is none.
 The stipulation of a game is the first of these that says one: the comment before its first move, as {White to win}, its tag
 Stipulation, its tag Result, the result behind its moves, --stipulate.
+With --tails the positions are the word of the program that wrote the comments: pgn-extract -s --fencomments.
 
 Exit status: 0 each game has its block; 1 some has not; 2 the command line was refused; 3 the run stopped at a fault.";
 
@@ -48,7 +49,12 @@ pub fn read_words(alloc: Global, words: &[String]) -> Result<Option<Options>, Er
             matches.get_one::<u32>("to").unwrap_or(u32::MAX),
         ),
     };
-    let choice = Choice { given, from, to };
+    let choice = Choice {
+        given,
+        from,
+        to,
+        tails: matches.get_flag("tails"),
+    };
     let progress = matches.get_flag("progress");
     Ok(Some(Options { choice, progress }))
 }
@@ -64,6 +70,10 @@ fn command<'a>(alloc: Global) -> Result<Command<'a>, Error> {
     let game = number(alloc, "game", "N", "Takes game N alone, counted from 1")
         .conflicts_with("from")?
         .conflicts_with("to")?;
+    let tails = Arg::new(alloc, "tails")
+        .long("tails")
+        .action(ArgAction::SetTrue)
+        .help("Takes a game with more than four men from the first position of at most four that a comment of its main line names");
     let progress = Arg::new(alloc, "progress")
         .long("progress")
         .action(ArgAction::SetTrue)
@@ -77,6 +87,7 @@ fn command<'a>(alloc: Global) -> Result<Command<'a>, Error> {
             .arg(game)?
             .arg(number(alloc, "from", "N", "Takes the games from N on"))?
             .arg(number(alloc, "to", "M", "Takes the games up to M"))?
+            .arg(tails)?
             .arg(progress)?,
     )
 }

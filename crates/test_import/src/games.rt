@@ -77,6 +77,7 @@ fn a_file_may_come_in_byte_by_byte(rt: HostRuntime) -> Result<(), Fail> {
         given: None,
         from: 1,
         to: u32::MAX,
+        tails: false,
     };
     let mut importer = Importer::new(&alloc, choice);
     let mut script = Text::new(&alloc);
@@ -98,6 +99,7 @@ fn games_may_be_chosen(rt: HostRuntime) -> Result<(), Fail> {
         given: None,
         from: 2,
         to: 2,
+        tails: false,
     };
     let mut importer = Importer::new(&alloc, choice);
     let mut script = Text::new(&alloc);

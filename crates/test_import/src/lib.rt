@@ -5,3 +5,5 @@
 mod games;
 #[cfg(test)]
 mod program;
+#[cfg(test)]
+mod tails;

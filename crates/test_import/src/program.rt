@@ -41,6 +41,7 @@ fn chosen(from: u32, to: u32) -> Options {
             given: None,
             from,
             to,
+            tails: false,
         },
         progress: false,
     }

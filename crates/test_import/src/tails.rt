@@ -1,0 +1,106 @@
+//! Tails of games. What each comes to was written down by hand, by the rules of docs/IMPORT.md.
+
+use std::test::Fail;
+use study_import::{Choice, Importer, import};
+use study_text::Text;
+
+/// A tail with variations around its position, one whose mate is counted from the game's start, one with a fault, and a game whose main
+/// line names no position.
+const GAMES: &[u8] = b"[Event \"five\"]
+[FEN \"7K/8/k1P5/6r1/8/7B/8/8 w - - 0 1\"]
+[Result \"1/2-1/2\"]
+
+{White to draw} 1. Bg4 {7K/8/k1P5/6r1/6B1/8/8/8 b - - 1 1} (1. c7 Rg8+ 2. Kxg8) 1... Rxg4
+{7K/8/k1P5/8/6r1/8/8/8 w -
+- 0 2} $1 (1... Kb6 2. Kh7) 2. Kh7 Kb6 3. c7 {well} Kxc7 1/2-1/2
+
+[Event \"mate\"]
+[FEN \"7K/8/k1P5/6r1/8/7B/8/8 w - - 0 1\"]
+[Stipulation \"#5\"]
+[Result \"0-1\"]
+
+{White to mate in 5} 1. Bg4 Rxg4 {7K/8/k1P5/8/6r1/8/8/8 w - - 0 2} (1... Kb5) 2. Kh7 0-1
+
+[Event \"fault\"]
+[FEN \"7K/8/k1P5/6r1/8/7B/8/8 w - - 0 1\"]
+[Result \"1/2-1/2\"]
+
+1. Bg4 Rxg4 {7K/8/k1P5/8/6r1/8/8/8 w - - 0 2} 2. Kh7 Kc6 3. c7 1/2-1/2
+
+[Event \"no word\"]
+[FEN \"7K/8/k1P5/6r1/8/7B/8/8 w - - 0 1\"]
+
+1. Bg4 Rxg4 (1... Kb6 {7K/8/1kP5/8/8/8/8/8 w - - 0 2}) 2. Kh7 1/2-1/2
+";
+
+const TAILS: &[u8] = b"# a tail: moves before 7; its position is another program's word
+# game 1, line 1: stipulated by its comment
+# not taken over: comments 2, NAGs 1
+position 7K/8/k1P5/8/6r1/8/8/8 w - - 0 2
+stipulate white draw
+tag Event five
+tag Site ?
+tag Date ????.??.??
+tag Round ?
+tag White ?
+tag Black ?
+insert root Kh7
+insert 0 Kb6
+insert 0.0 c7
+insert 0.0.0 Kxc7
+pgn
+
+# a tail: moves before 3; its position is another program's word
+# game 2, line 9: stipulated by its tag Result
+position 7K/8/k1P5/8/6r1/8/8/8 w - - 0 2
+stipulate black win
+tag Event mate
+tag Site ?
+tag Date ????.??.??
+tag Round ?
+tag White ?
+tag Black ?
+insert root Kh7
+pgn
+
+# a tail: moves before 2; its position is another program's word
+# game 3, line 20, column 54: NoSuchMove at Kc6
+
+# game 4, line 22: left out: 5 men
+
+# games 4, studies 2
+";
+
+const LEFT_OUT: &[u8] = b"# game 1, line 1: left out: 5 men
+
+# game 2, line 9: left out: 5 men
+
+# game 3, line 16: left out: 5 men
+
+# game 4, line 22: left out: 5 men
+
+# games 4, studies 0
+";
+
+/// A game with more than four men comes to its tail with `tails`, and is left out without.
+#[test]
+fn games_come_to_their_tails(rt: HostRuntime) -> Result<(), Fail> {
+    let alloc = rt.alloc();
+    let choice = Choice {
+        given: None,
+        from: 1,
+        to: u32::MAX,
+        tails: true,
+    };
+    let mut importer = Importer::new(&alloc, choice);
+    let mut script = Text::new(&alloc);
+    for byte in GAMES {
+        importer.take(*byte, &mut script)?;
+    }
+    let imported = importer.finish(&mut script)?;
+    assert!(rt; script.as_slice() == TAILS);
+    assert!(rt; imported.told == 4 && imported.studies == 2);
+    let script = import(&alloc, GAMES, None)?;
+    assert!(rt; script.as_slice() == LEFT_OUT);
+    Ok(())
+}
