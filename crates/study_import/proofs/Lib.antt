@@ -35,3 +35,5 @@ mod Singles
 mod OpeningRead
 mod HeaderRead
 mod RoundTrip
+mod PlainText
+mod CutOut

@@ -71,7 +71,7 @@ use Rattle.study_import.proofs.HeaderRead.{value_again, Named, written, AllNamed
 
 -- ---- texts of tags
 
-abbrev Prints : List ℕ → Type 0
+abbrev pub Prints : List ℕ → Type 0
 Prints t = list_all is_printable t ≡ true
 
 ascii_same : (b : ℕ) → 32 ≤ b → b ≤ 126 → ascii_of b ≡ b ∷ []
@@ -94,14 +94,14 @@ spelled_same utf8 (b ∷ bs) h =
     ∙ ap (λ (t : List ℕ). t ++ spelled_in (length bs) utf8 bs) (ascii_same b low high) ∙ ap (λ (t : List ℕ). b ∷ t) (spelled_same utf8 bs a.1)
 
 -- a text that a script can hold
-record IsText (t : List ℕ) : Type 0 where
-  first : ℕ
-  rest : List ℕ
-  begins : t ≡ first ∷ rest
-  inked : is_space first ≡ false
-  ends : ended t ≡ t
-  prints : Prints t
-  few : length t ≤ 60
+pub record IsText (t : List ℕ) : Type 0 where
+  pub first : ℕ
+  pub rest : List ℕ
+  pub begins : t ≡ first ∷ rest
+  pub inked : is_space first ≡ false
+  pub ends : ended t ≡ t
+  pub prints : Prints t
+  pub few : length t ≤ 60
 
 no_spaces : (b : ℕ) (bs : List ℕ) → is_space b ≡ false → without_spaces (b ∷ bs) ≡ b ∷ bs
 no_spaces b bs h = rw h refl
@@ -169,7 +169,7 @@ trimmed_is t same h =
     first_byte [] same h = absurd (omega arith)
     first_byte (b ∷ bs) same h = let i = first_inked b bs (is_space b) refl same in (b, bs, refl, i.0, i.1)
 
-tag_texts_are : (s : Study Mark) → CanBeMade s → (name : TagName) → IsText (text_or_unknown name (tag_of s.tags name))
+pub tag_texts_are : (s : Study Mark) → CanBeMade s → (name : TagName) → IsText (text_or_unknown name (tag_of s.tags name))
 tag_texts_are s c name = go (tag_of s.tags name) (c.tags name)
   where
     go : (o : Option (List ℕ)) → IsTagged o → IsText (text_or_unknown name o)
@@ -178,7 +178,7 @@ tag_texts_are s c name = go (tag_of s.tags name) (c.tags name)
 
 -- ---- the header
 
-abbrev header_of : Study Mark → List Named
+abbrev pub header_of : Study Mark → List Named
 header_of s =
     (codes "Event", text_or_unknown name_of.Event (tag_of s.tags name_of.Event)) ∷ (codes "Site", text_or_unknown name_of.Site (tag_of s.tags name_of.Site))
     ∷ (codes "Date", text_or_unknown name_of.Date (tag_of s.tags name_of.Date)) ∷ (codes "Round", text_or_unknown name_of.Round (tag_of s.tags name_of.Round))
@@ -189,15 +189,15 @@ won_prints : (side : Side) → Prints (won_by side)
 won_prints White = refl
 won_prints Black = refl
 
-result_prints : (side : Side) (v : Value) → Prints (result_text side v)
+pub result_prints : (side : Side) (v : Value) → Prints (result_text side v)
 result_prints side Draw = refl
 result_prints side (Win n) = won_prints side
 result_prints side (Loss n) = won_prints (other_side side)
 
-start_read : (s : Study Mark) → CanBeMade s → IsStart s.start
+pub start_read : (s : Study Mark) → CanBeMade s → IsStart s.start
 start_read s c = record { valid = c.valid; clock = c.clock; positive = c.positive; number = c.number }
 
-header_named : (s : Study Mark) → CanBeMade s → AllNamed (header_of s)
+pub header_named : (s : Study Mark) → CanBeMade s → AllNamed (header_of s)
 header_named s c =
     let fen = fen_is s.start (start_read s c) in (
       record { first = 69; more = codes "vent"; text = refl; letter = refl; gap = refl; all = refl },
@@ -237,11 +237,11 @@ header_named s c =
       ),
     )
 
-lines_behind : Study Mark → List ℕ
-lines_behind s = 10 ∷ (lines_text (words (movetext s)) ++ 10 ∷ [])
+unfoldable pub text_behind : Study Mark → List ℕ
+text_behind s = 10 ∷ (lines_text (words (movetext s)) ++ 10 ∷ [])
 
-header_is : (s : Study Mark) → pgn_text s ≡ written (header_of s) (lines_behind s)
-unfolding pgn_text tags_text user_lines lines_behind
+pub header_is : (s : Study Mark) → pgn_text s ≡ written (header_of s) (text_behind s)
+unfolding pgn_text tags_text user_lines text_behind
 header_is s =
     nine (user_line s name_of.Event) (user_line s name_of.Site) (user_line s name_of.Date) (user_line s name_of.Round) (user_line s name_of.White) (user_line s name_of.Black)
     (tag_line (codes "Result") (result_text s.start.position.to_move s.tree.label.value)) (tag_line (codes "FEN") (fen_text s.start)) (tag_line (codes "SetUp") (codes "1"))
@@ -277,7 +277,7 @@ opening_aim s t counted h = aim_read s.stipulation (verdict_text (verdict s) ++ 
 
 -- ---- the result
 
-abbrev Ending : Study Mark → List ℕ
+abbrev pub Ending : Study Mark → List ℕ
 Ending s = 32 ∷ (result_text s.start.position.to_move s.tree.label.value ++ 10 ∷ 10 ∷ [])
 
 record IsResult (w : List ℕ) : Type 0 where
@@ -384,15 +384,15 @@ tree_ends s c o t h g at fresh =
     last_gap (b ∷ bs) h = (b, bs, refl, feed_gap b h.0)
 
 -- the opening comment, cut into lines, and what follows it
-record Opened (s : Study Mark) (t : List ℕ) : Type 0 where
-  words : List ℕ
-  back : List ℕ
-  text : t ≡ 123 ∷ (words ++ (125 ∷ back))
-  inside : list_all is_inside words ≡ true
-  aim : aim_in words ≡ Some s.stipulation
-  rest : Same (following s.start s.tree.below ++ Ending s) back
+pub record Opened (s : Study Mark) (t : List ℕ) : Type 0 where
+  pub words : List ℕ
+  pub back : List ℕ
+  pub text : t ≡ 123 ∷ (words ++ (125 ∷ back))
+  pub inside : list_all is_inside words ≡ true
+  pub aim : aim_in words ≡ Some s.stipulation
+  pub rest : Same (following s.start s.tree.below ++ Ending s) back
 
-opened : (s : Study Mark) → CanBeMade s → Opened s (lines_text (words (movetext s)) ++ 10 ∷ [])
+pub opened : (s : Study Mark) → CanBeMade s → Opened s (lines_text (words (movetext s)) ++ 10 ∷ [])
 unfolding movetext opening_text
 opened s c =
     let fo = following s.start s.tree.below in
@@ -416,8 +416,8 @@ opened s c =
     regroup : (a b c : List ℕ) → (((codes "{" ++ (a ++ codes "}")) ++ (b ++ (codes " " ++ c))) ++ 10 ∷ []) ++ 10 ∷ [] ≡ 123 ∷ (a ++ (125 ∷ (b ++ (32 ∷ (c ++ 10 ∷ 10 ∷ [])))))
     regroup a b c = simp append_assoc
 
-moves_end : (s : Study Mark) → CanBeMade s → (fresh : Bool) → EndsWith (reads fresh (lines_behind s) (no_moves s.start)) (on_tree (start_study s.start) (plainly s.tree.below)) (Some s.stipulation)
-unfolding lines_behind
+moves_end : (s : Study Mark) → CanBeMade s → (fresh : Bool) → EndsWith (reads fresh (text_behind s) (no_moves s.start)) (on_tree (start_study s.start) (plainly s.tree.below)) (Some s.stipulation)
+unfolding text_behind
 moves_end s c fresh =
     let g = no_moves s.start in
     let t = lines_text (words (movetext s)) ++ 10 ∷ [] in
@@ -498,8 +498,8 @@ tree_fault s st (more m mark b r) t fresh h =
     regroup : (a b c d e : List ℕ) → (32 ∷ (((a ++ b) ++ c) ++ d)) ++ e ≡ 32 ∷ (a ++ (b ++ (c ++ (d ++ e))))
     regroup a b c d e = simp append_assoc
 
-lines_fault : (s : Study Mark) → CanBeMade s → (fresh : Bool) → fault_from fresh (lines_behind s) ≡ None
-unfolding lines_behind
+lines_fault : (s : Study Mark) → CanBeMade s → (fresh : Bool) → fault_from fresh (text_behind s) ≡ None
+unfolding text_behind
 lines_fault s c fresh =
     let t = lines_text (words (movetext s)) ++ 10 ∷ [] in
     let o = opened s c in
@@ -534,14 +534,14 @@ fen_again s c = ap (map printed) (value_again (fen_text s.start)) ∙ printed_sa
 pub read_back : AreReadBack
 unfolding study_in tags_of header_fault game_read
 read_back s c =
-    let lines = lines_read (header_of s) (lines_behind s) true (no_moves s.start) (header_named s c) in
+    let lines = lines_read (header_of s) (text_behind s) true (no_moves s.start) (header_named s c) in
     let text = header_is s in
     let fault : header_fault (pgn_text s) ≡ None = ap (fault_from true) text ∙ lines.fault ∙ lines_fault s c lines.then_fresh in
-    let tags : tags_of (pgn_text s) ≡ pairs_of (header_of s) ++ tags_from lines.then_fresh (lines_behind s) = ap (tags_from true) text ∙ lines.tags in
+    let tags : tags_of (pgn_text s) ≡ pairs_of (header_of s) ++ tags_from lines.then_fresh (text_behind s) = ap (tags_from true) text ∙ lines.tags in
     let moves = moves_end s c lines.then_fresh in
     let read : game_read (pgn_text s) s.start ≡ Ok moves.ended_by = ap (λ (t : List ℕ). reads true t (no_moves s.start)) text ∙ lines.moves refl ∙ moves.is in
     let start : start_of (fen_in (flat_map escaped (fen_text s.start))) ≡ Ok s.start = ap start_of (fen_again s c) ∙ start_again s.start c.valid c.clock c.positive c.number in
-    let all = pairs_of (header_of s) ++ tags_from lines.then_fresh (lines_behind s) in
+    let all = pairs_of (header_of s) ++ tags_from lines.then_fresh (text_behind s) in
     ap (study_behind_header None (pgn_text s)) fault
     ∙ ap (λ (ps : List Pair). study_with_fen None (pgn_text s) (value_of (codes "FEN") ps)) tags
     ∙ ap (study_begun None (pgn_text s)) start
@@ -549,5 +549,5 @@ read_back s c =
     ∙ ap (study_read None all s.start) read
     ∙ ap (study_aimed s.start all moves.ended_by) (by_comment s all s.start.position.to_move moves.ended_by.game.notes moves.opening)
     ∙ ap (λ (ts : List (Option (List ℕ))). Some (record { start = s.start; stipulation = s.stipulation; tags = ts; tree = moves.ended_by.game.reading.study.tree }))
-    (tags_again s c (tags_from lines.then_fresh (lines_behind s)))
+    (tags_again s c (tags_from lines.then_fresh (text_behind s)))
     ∙ ap (λ (p : Plainly). Some (record { start = s.start; stipulation = s.stipulation; tags = (unmarked_study s).tags; tree = p.tree })) moves.study

@@ -90,11 +90,11 @@ move_runs a st m mark valid legal =
     (both false false false (glyph_text mark.on_move) (codes " " ++ comment_text side mark) (glyph_runs mark.on_move)
     (both false true false (codes " ") (comment_text side mark) refl (comment_runs side mark)))))
 
-after_valid : (st : Start) (m : Move) → IsValid st.position → is_legal st.position m ≡ true → IsValid (start_after st m).position
+pub after_valid : (st : Start) (m : Move) → IsValid st.position → is_legal st.position m ≡ true → IsValid (start_after st m).position
 unfolding start_after
 after_valid st m valid legal = IsValid-after st.position m valid legal
 
-after_playable : (st : Start) (m : Move) (f : Forest Mark) → IsPlayable (after st.position m) (plainly f) → IsPlayable (start_after st m).position (plainly f)
+pub after_playable : (st : Start) (m : Move) (f : Forest Mark) → IsPlayable (after st.position m) (plainly f) → IsPlayable (start_after st m).position (plainly f)
 unfolding start_after
 after_playable st m f h = h
 

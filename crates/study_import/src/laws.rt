@@ -1,6 +1,6 @@
 //! Laws of an import.
 ghost use Rattle.study_import.specs.Laws.{IsIsolated, AreAlike, AreAccepted, AreTaken, AreRead, AreScriptsRead, AreListed, AreWhole};
-ghost use Rattle.study_import.specs.Written.{AreReadBack};
+ghost use Rattle.study_import.specs.Written.{AreReadBack, AreFilesReadBack};
 
 /// The blocks of a text that ends with a line of moves stay as they are, whatever file follows it; and what is written of that file
 /// depends on the text before it by numbers of games and of lines alone.
@@ -49,4 +49,9 @@ pub fn games_are_read_whole()
 /// The PGN that is written of a study comes to that study again: its start, its stipulation, its tags and its tree, in order.
 pub fn studies_are_read_back()
     ensures { AreReadBack }
+{}
+
+/// A file of such studies, one behind the other, is cut into their texts again, in order, and each comes to its study.
+pub fn files_are_read_back()
+    ensures { AreFilesReadBack }
 {}

@@ -28,6 +28,7 @@ mod values;
 
 pub use importer::{Choice, Imported, Importer, import};
 pub use laws::{
-    blocks_are_isolated, blocks_are_read, faults_are_listed, games_are_read_whole,
-    moves_are_accepted, scripts_are_read, studies_are_alike, studies_are_read_back, tags_are_taken,
+    blocks_are_isolated, blocks_are_read, faults_are_listed, files_are_read_back,
+    games_are_read_whole, moves_are_accepted, scripts_are_read, studies_are_alike,
+    studies_are_read_back, tags_are_taken,
 };

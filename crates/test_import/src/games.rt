@@ -6,7 +6,7 @@ use std::test::Fail;
 use study_board::Side;
 use study_import::{
     Choice, Importer, blocks_are_isolated, blocks_are_read, faults_are_listed,
-    games_are_read_whole, import, moves_are_accepted, scripts_are_read, studies_are_alike,
+    files_are_read_back, games_are_read_whole, import, moves_are_accepted, scripts_are_read, studies_are_alike,
     studies_are_read_back, tags_are_taken,
 };
 use study_marks::{Goal, Stipulation};
@@ -125,6 +125,7 @@ fn laws_are_called(_rt: HostRuntime) -> Result<(), Fail> {
     faults_are_listed();
     games_are_read_whole();
     studies_are_read_back();
+    files_are_read_back();
     Ok(())
 }
 
