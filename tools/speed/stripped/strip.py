@@ -76,4 +76,5 @@ def main(top, out):
             (folder / name).write_text(as_plain(source.read_text(), crate, is_root))
 
 
-main(*sys.argv[1:])
+if __name__ == "__main__":
+    main(*sys.argv[1:])

@@ -1,0 +1,249 @@
+//! The kit's containers as far as the crates that read PGN call them, and memory that is asked of an allocator.
+use std::io;
+use std::marker::PhantomData;
+use std::mem::MaybeUninit;
+use std::ops::{Deref, DerefMut};
+
+#[derive(Clone, Copy, Debug, PartialEq, Eq)]
+pub struct AllocError;
+
+pub struct AllocFailed<T>(pub T);
+
+impl<T> From<AllocFailed<T>> for AllocError {
+    fn from(_failed: AllocFailed<T>) -> AllocError {
+        AllocError
+    }
+}
+
+impl From<AllocError> for io::Error {
+    fn from(_error: AllocError) -> io::Error {
+        io::ErrorKind::OutOfMemory.into()
+    }
+}
+
+impl From<AllocFailed<u8>> for io::Error {
+    fn from(_failed: AllocFailed<u8>) -> io::Error {
+        io::ErrorKind::OutOfMemory.into()
+    }
+}
+
+pub trait Allocator {}
+
+#[derive(Clone, Copy)]
+pub struct Global;
+
+impl Allocator for Global {}
+
+/// Where the proof says that nothing comes.
+#[inline(always)]
+pub fn never() -> ! {
+    unsafe { std::hint::unreachable_unchecked() }
+}
+
+type List<T> = std::vec::Vec<T>;
+
+pub struct Vec<T, A>(List<T>, PhantomData<A>);
+
+impl<T, A> Vec<T, A> {
+    pub fn new(_alloc: A) -> Self {
+        Vec(List::new(), PhantomData)
+    }
+
+    pub fn with_capacity(_alloc: A, count: usize) -> Result<Self, AllocError> {
+        Ok(Vec(List::with_capacity(count), PhantomData))
+    }
+
+    pub fn push(&mut self, item: T) -> Result<(), AllocFailed<T>> {
+        self.0.push(item);
+        Ok(())
+    }
+
+    pub fn push_reserved(&mut self, item: T) {
+        self.0.push(item)
+    }
+
+    pub fn reserve_exact(&mut self, count: usize) -> Result<(), AllocError> {
+        self.0.reserve_exact(count);
+        Ok(())
+    }
+
+    pub fn extend_from_slice(&mut self, items: &[T]) -> Result<(), AllocError>
+    where
+        T: Clone,
+    {
+        self.0.extend_from_slice(items);
+        Ok(())
+    }
+}
+
+impl<T, A> Deref for Vec<T, A> {
+    type Target = List<T>;
+
+    fn deref(&self) -> &List<T> {
+        &self.0
+    }
+}
+
+impl<T, A> DerefMut for Vec<T, A> {
+    fn deref_mut(&mut self) -> &mut List<T> {
+        &mut self.0
+    }
+}
+
+/// The first N places in the value itself.
+pub struct SmallVec<T, const N: usize, A>(ArrayVec<T, N>, List<T>, PhantomData<A>);
+
+impl<T: Copy, const N: usize, A> SmallVec<T, N, A> {
+    pub fn new(_alloc: A) -> Self {
+        SmallVec(ArrayVec::new(), List::new(), PhantomData)
+    }
+
+    pub fn push(&mut self, item: T) -> Result<(), AllocError> {
+        if self.1.is_empty() && self.0.len() < N {
+            self.0.push(item);
+        } else {
+            if self.1.is_empty() {
+                self.1.extend_from_slice(self.0.as_slice());
+            }
+            self.1.push(item);
+        }
+        Ok(())
+    }
+
+    pub fn as_slice(&self) -> &[T] {
+        if self.1.is_empty() { self.0.as_slice() } else { &self.1 }
+    }
+}
+
+pub struct ArrayVec<T, const N: usize> {
+    len: u32,
+    items: [MaybeUninit<T>; N],
+}
+
+impl<T: Copy, const N: usize> Clone for ArrayVec<T, N> {
+    fn clone(&self) -> Self {
+        *self
+    }
+}
+
+impl<T: Copy, const N: usize> Copy for ArrayVec<T, N> {}
+
+impl<T, const N: usize> ArrayVec<T, N> {
+    #[inline]
+    pub fn new() -> Self {
+        ArrayVec { len: 0, items: [const { MaybeUninit::uninit() }; N] }
+    }
+
+    #[inline]
+    pub fn push(&mut self, item: T) {
+        self.items[self.len as usize] = MaybeUninit::new(item);
+        self.len += 1;
+    }
+
+    #[inline]
+    pub fn pop(&mut self) -> Option<T> {
+        self.len = self.len.checked_sub(1)?;
+        Some(unsafe { self.items[self.len as usize].assume_init_read() })
+    }
+
+    #[inline]
+    pub fn insert(&mut self, at: usize, item: T) {
+        self.push(item);
+        self.items[at..self.len as usize].rotate_right(1);
+    }
+
+    #[inline]
+    pub fn truncate(&mut self, count: usize) {
+        self.len = self.len.min(count as u32);
+    }
+
+    #[inline]
+    pub fn as_slice(&self) -> &[T] {
+        unsafe { std::slice::from_raw_parts(self.items.as_ptr() as *const T, self.len as usize) }
+    }
+}
+
+impl<T, const N: usize> Deref for ArrayVec<T, N> {
+    type Target = [T];
+
+    #[inline]
+    fn deref(&self) -> &[T] {
+        self.as_slice()
+    }
+}
+
+impl<T, const N: usize> DerefMut for ArrayVec<T, N> {
+    #[inline]
+    fn deref_mut(&mut self) -> &mut [T] {
+        unsafe { std::slice::from_raw_parts_mut(self.items.as_mut_ptr() as *mut T, self.len as usize) }
+    }
+}
+
+impl<T: PartialEq, const N: usize> PartialEq for ArrayVec<T, N> {
+    fn eq(&self, other: &Self) -> bool {
+        self.as_slice() == other.as_slice()
+    }
+}
+
+impl<T: Eq, const N: usize> Eq for ArrayVec<T, N> {}
+
+impl<T: std::fmt::Debug, const N: usize> std::fmt::Debug for ArrayVec<T, N> {
+    fn fmt(&self, out: &mut std::fmt::Formatter<'_>) -> std::fmt::Result {
+        self.as_slice().fmt(out)
+    }
+}
+
+#[derive(Clone, Copy, Debug, PartialEq, Eq)]
+pub struct ArrayString<const N: usize>(ArrayVec<u8, N>);
+
+impl<const N: usize> ArrayString<N> {
+    pub fn new() -> Self {
+        ArrayString(ArrayVec::new())
+    }
+
+    pub fn from(text: &str) -> Result<Self, ()> {
+        if text.len() > N {
+            return Err(());
+        }
+        let mut string = Self::new();
+        string.push_str(text);
+        Ok(string)
+    }
+
+    pub fn push(&mut self, letter: char) {
+        self.0.push(letter as u8)
+    }
+
+    pub fn push_str(&mut self, text: &str) {
+        for byte in text.bytes() {
+            self.0.push(byte);
+        }
+    }
+
+    pub fn as_str(&self) -> &str {
+        unsafe { std::str::from_utf8_unchecked(self.0.as_slice()) }
+    }
+}
+
+/// A number in decimal digits.
+pub struct Buffer([u8; 20]);
+
+impl Buffer {
+    pub fn new() -> Self {
+        Buffer([0; 20])
+    }
+
+    pub fn format<T: TryInto<u64>>(&mut self, number: T) -> &str {
+        let mut left = number.try_into().unwrap_or(0);
+        let mut at = self.0.len();
+        loop {
+            at -= 1;
+            self.0[at] = b'0' + (left % 10) as u8;
+            left /= 10;
+            if left == 0 {
+                break;
+            }
+        }
+        unsafe { std::str::from_utf8_unchecked(&self.0[at..]) }
+    }
+}
