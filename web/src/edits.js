@@ -142,15 +142,6 @@ export function wholeDate(text) {
 /** @param {string} text */
 export const isDate = text => /^([\d?]{4})\.(0[1-9]|1[0-2]|\?\?)\.(0[1-9]|[12]\d|3[01]|\?\?)$/.test(text);
 /**
- * Text without accents, as a tag can hold it.
- * @param {string} text
- */
-export const withoutAccents = text => text.normalize('NFD')
-                                          .replace(/[\u0300-\u036f]/g, '')
-                                          .replace(/ß/g, 'ss')
-                                          .replace(/[łŁ]/g, c => (c === 'ł' ? 'l' : 'L'))
-                                          .replace(/[øØ]/g, c => (c === 'ø' ? 'o' : 'O'));
-/**
  * The remark above a position that keeps the text of a tag in its own letters.
  * @param {string[]} lines
  * @param {Study} study

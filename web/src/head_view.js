@@ -4,8 +4,9 @@ import { h } from './dom.js';
 import { gbr, numbered, other, sideOf } from './fen.js';
 import { app, change, doc, go, judgeAgain, parts, say } from './app.js';
 import { insert } from './board.js';
-import { isDate, isKnown, setTag, stipulate, wholeDate, withoutAccents } from './edits.js';
+import { isDate, isKnown, setTag, stipulate, wholeDate } from './edits.js';
 import { nameOf, stampOf } from './entries.js';
+import { plainText } from './opening.js';
 import { nodeAt, written } from './replies.js';
 import { guess } from './setup.js';
 import { kept, promote, remove } from './node_view.js';
@@ -26,7 +27,7 @@ export function headView(s) {
   const by = [nameOf(s, 'White'), nameOf(s, 'Site'), isKnown(year) && year, isKnown(t.Round) && 'entry ' + t.Round].filter(Boolean).join(' · ');
   const old = Object.keys(t).filter(name => s.place[name] === undefined && isKnown(t[name]));
   return [
-    h('h1', {}, nameOf(s, 'Event') || 'Untitled'), by && h('p', {class: 'by'}, by),
+    h('h1', {}, isKnown(t.Event) ? nameOf(s, 'Event') : 'Untitled'), by && h('p', {class: 'by'}, by),
     old.length > 0 && h('p', {class: 'note'}, `Set for an earlier study and not since: ${old.map(name => LABELS[name]).join(', ')}. `,
       h('button', {type: 'button', class: 'chip act', id: 'clearOld', title: 'not known for this study', onclick: () => cleared(old)}, 'Clear')),
     h('div', {class: 'row'},
@@ -69,7 +70,7 @@ const tagView = (name, text) => [h('label', { for: 'tag' + name
  * @param {string} typed
  */
 async function tagged(name, typed) {
-  const before = app.history, plain = withoutAccents(typed), text = name === 'Date' ? wholeDate(plain) : plain;
+  const before = app.history, plain = await plainText(typed), text = name === 'Date' ? wholeDate(plain) : plain;
   if (name === 'Date' && text && !isDate(text)) {
     say('head', `${typed}: a date is a year, or a year, a month and a day, as 1921 or 1921.05.12.`);
     Object.assign(app.say || {}, { field: 'tagDate', typed });

@@ -1,7 +1,7 @@
 // @ts-check
-// A script that studyimport made of a PGN: blocks of lines with remarks above them, and for each game that has none a remark
+// What the program makes of a PGN: blocks of lines with remarks above them, and for each game that has none a remark
 // that says why.
-import { reason } from './words.js';
+import { counted, reason } from './words.js';
 /**
  * A game that was left out: where in the PGN, why, and at which text.
  * @typedef {{game: number, line: number, column: number, why: string, text: string}} LeftOut
@@ -21,7 +21,7 @@ export function decoded(bytes) {
     return new TextDecoder('utf-8', { fatal: true }).decode(bytes);
   } catch { return new TextDecoder('latin1').decode(bytes); }
 }
-const GAME = /^# game (\d+), line (\d+)(?:, column (\d+))?: (.*)$/;
+const GAME = /^# game (\d+), line (\d+)(?:, column (\d+))?: (.*)$/, COUNTS = /^# games (\d+), studies (\d+)$/;
 /**
  * The game that a remark says was left out.
  * @param {string} line
@@ -53,6 +53,55 @@ const FAULTS = /** @type {Record<string, string>} */ ({
 export function whyLeftOut({ why, text }) {
   const words = FAULTS[why] || (/^[A-Z]\w+$/.test(why) ? reason('error ' + why) : why);
   return text ? `${text}: ${words}` : words;
+}
+/** @param {LeftOut} game */
+const placeOf = ({ game, line, column }) => `game ${game}, line ${line}${column ? `, column ${column}` : ''}`;
+const GONE = /** @type {Record<string, [string, string]>} */ ({
+  repeated: ['repeated move', 'repeated moves'],
+  'null moves': ['null move', 'null moves'],
+  'moves behind': ['move behind a null move', 'moves behind null moves']
+});
+/**
+ * What of a PGN is not in the script, in no form: its comments, NAGs and other tags are kept as remarks.
+ * @param {string[]} lines
+ */
+export function notKept(lines) {
+  const sums = /** @type {Map<string, number>} */ (new Map());
+  for (const line of lines) {
+    const m = /^# not taken over: (.*)$/.exec(line);
+    for (const [, name, n] of m ? m[1].matchAll(/([A-Za-z ]+?) (\d+)(?:, |$)/g) : [])
+      if (GONE[name]) sums.set(name, (sums.get(name) || 0) + Number(n));
+  }
+  const list = [...sums].map(([name, n]) => counted(n, ...GONE[name]));
+  return list.length ? `Not kept of this PGN: ${list.join(', ')}.` : '';
+}
+/** @param {string[]} lines */
+export const leftOut = lines => /** @type {LeftOut[]} */ (lines.map(leftOutBy).filter(Boolean));
+/**
+ * The games of an import that only lack a stipulation.
+ * @param {string[]} lines
+ */
+export const withoutAim = lines => leftOut(lines).filter(game => game.why === 'NoStipulation').length;
+/**
+ * How many games and studies there were, and the first of those that were left out, with the reason.
+ * @param {string[]} lines
+ */
+export function importNote(lines) {
+  const counts = lines.map(line => COUNTS.exec(line)).find(Boolean), out = leftOut(lines), MOST = 5;
+  if (!counts) return '';
+  const first = out.slice(0, MOST).map(game => `${placeOf(game)}: ${whyLeftOut(game)}`),
+        more = out.length > MOST ? `; and ${out.length - MOST} more` : '';
+  return `${counted(Number(counts[1]), 'game')}, ${counted(Number(counts[2]), 'study', 'studies')}.` +
+      (out.length ? ` Left out: ${first.join('; ')}${more}.` : '');
+}
+/**
+ * The lines of an import as a document: without the counts at its end, which the next change would make wrong.
+ * @param {string[]} lines
+ */
+export function documentOf(lines) {
+  const kept = lines.filter(line => !COUNTS.test(line));
+  while (kept.length && kept[kept.length - 1] === '') kept.pop();
+  return kept;
 }
 const ORIGINAL = /^# (Event|White|Black|Site|Date|Round) was: (.*)$/;
 /**

@@ -5,6 +5,7 @@ import { app, doc, go, goStudy, node, redo, undo } from './app.js';
 import { closeChoice, flip, focusBoard, setupKey, showBoard } from './board.js';
 import { close } from './documents_view.js';
 import { close as closeEarlier } from './earlier_view.js';
+import { close as closeFinding } from './finding_view.js';
 import { endOf, remove } from './node_view.js';
 import { draftFen, hideSurvey, stepDraft } from './setup.js';
 
@@ -60,7 +61,7 @@ function escaped() {
 /** @param {KeyboardEvent} e */
 function pressed(e) {
   const target = /** @type {Element} */ (e.target), ctrl = e.ctrlKey || e.metaKey, n = node();
-  if (e.key === 'Escape' && (close() || closeEarlier())) return;
+  if (e.key === 'Escape' && (close() || closeFinding() || closeEarlier())) return;
   if (/INPUT|TEXTAREA|SELECT/.test(target.tagName)) return inField(e, target);
   if (ctrl && /^[zy]$/i.test(e.key)) {
     e.preventDefault();

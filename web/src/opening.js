@@ -1,34 +1,65 @@
 // @ts-check
-// A file or a text becomes the document: a script as it stands, a PGN by its games.
-import { $ } from './dom.js';
-import { app, change, counting, doc, opened, parts, say } from './app.js';
-import { decoded, looksLikePgn } from './imported.js';
+// A file or a text becomes the document: a script as it stands, a PGN by way of the program.
+import { $, button, h } from './dom.js';
+import { app, change, counting, doc, opened, parts, say, work } from './app.js';
+import { decoded, documentOf, importNote, looksLikePgn, notKept, withoutAim } from './imported.js';
 import { freshId } from './keep.js';
-import { fromPgn, notKept } from './pgn.js';
-import { isCommand, isSilent, linesOf } from './script.js';
+import { gamesIn, remarksOf } from './notes.js';
+import { replace } from './past.js';
+import { gamesOf, isCommand, isSilent, linesOf } from './script.js';
+import { aimText, counted, endedReason, readAim } from './words.js';
 
-/**
- * A script or a PGN takes the place of the document; undo brings the old one back.
- * @param {string} text
- * @param {string} where
- * @param {string} name      of its file
- */
-export const openText = (text, where = 'script', name = '') => counting(looksLikePgn(text) ? openPgn(text, where, name) : openScript(text, where, name));
-/**
- * A file, in whatever letters it is written.
- * @param {File} file
- */
-export const openFile = file => counting(file.arrayBuffer().then(buffer => openText(decoded(new Uint8Array(buffer)), 'board', file.name)));
-/**
- * Nothing is changed, and what was typed stays where it was.
- * @param {string} why
- * @param {string} text
- * @param {string} where
- */
-function refused(why, text, where) {
-  say(where, `${why} Nothing was changed.`);
-  if (where === 'script') Object.assign(app.say || {}, { field: 'script', typed: text });
+/** What was opened as a PGN last, so that it can be read again with a stipulation. */
+let source = /** @type {{bytes: Uint8Array, name: string, id: string, waiting: number} | null} */ (null);
+/** Where the games of a document are the PGN that was opened, byte for byte, nothing of it was lost. */
+export function checkWhole() {
+  const d = doc();
+  if (!source || source.id !== d.id || !d.note || !d.judged) return;
+  if (decoded(source.bytes).replace(/\r\n/g, '\n') !== gamesOf(d)) return;
+  app.history = replace(app.history, { ...d, note: '', name: source.name.replace(/\.\w+$/, '') });
+  parts.keep();
   parts.show();
+}
+/**
+ * The lines that the program makes of a PGN, each in the letters in which it came.
+ * @param {Uint8Array} bytes
+ * @param {string} aim      words of a stipulation for games that say none, or nothing
+ */
+async function imported(bytes, aim) {
+  const told = await parts.core.ask(aim ? 'import ' + aim : 'import', bytes, 0), lines = /** @type {string[]} */ ([]);
+  if (told.ended !== 'done') throw new Error(endedReason(told.ended));
+  for (let at = 0; at < told.bytes.length;) {
+    const end = told.bytes.indexOf(10, at), next = end < 0 ? told.bytes.length : end;
+    lines.push(decoded(told.bytes.subarray(at, next)));
+    at = next + 1;
+  }
+  return lines;
+}
+/**
+ * The lines of an import, with what its games say beside their moves as remarks above each position.
+ * @param {string[]} lines
+ * @param {string} text
+ */
+function withRemarks(lines, text) {
+  const games = gamesIn(text);
+  let game = 0;
+  return lines.flatMap(line => {
+    const m = /^# game (\d+), /.exec(line);
+    if (m) game = Number(m[1]);
+    return line.startsWith('position ') && games[game - 1] ? [...remarksOf(games[game - 1]), line] : [line];
+  });
+}
+/** A position for a game that is there for a tag alone. */
+const KINGS = '4k3/8/8/8/8/8/8/4K3 w - - 0 1';
+/**
+ * The text of a tag in the letters that a script can have, at most 60 of them, as the program writes them.
+ * @param {string} typed
+ */
+export async function plainText(typed) {
+  if (/^[ -~]{0,60}$/.test(typed)) return typed;
+  const pgn = `[FEN "${KINGS}"]\n[White "${typed.replace(/["\\]/g, '\\$&')}"]\n\n*\n`;
+  const lines = await imported(new TextEncoder().encode(pgn), 'white win');
+  return (lines.find(line => line.startsWith('tag White ')) || 'tag White ?').slice('tag White '.length);
 }
 /**
  * A PGN is saved under another name than the one it was opened by, since not all of it is kept.
@@ -36,16 +67,40 @@ function refused(why, text, where) {
  */
 const checkedName = name => (name ? name.replace(/\.\w+$/, '').replace(/\.checked$/, '') + '.checked' : '');
 /**
- * @param {string} text
+ * @param {Uint8Array} bytes
  * @param {string} where
  * @param {string} name
  */
-async function openPgn(text, where, name) {
-  const lines = fromPgn(text);
-  if (!lines.length) return refused('No game with a FEN was found in this text.', text, where);
-  await take(lines, where, checkedName(name), notKept(text));
-  typedAgain(text, where);
+async function openPgn(bytes, where, name, aim = '') {
+  let lines = /** @type {string[]} */ ([]);
+  await work(async () => { lines = await imported(bytes, aim); }, where);
+  if (!lines.length) return;
+  source = { bytes, name, id: '', waiting: withoutAim(lines) };
+  if (!lines.some(line => line.startsWith('position '))) {
+    say(where, `No study was found in this PGN. ${importNote(lines)} Nothing was changed.`);
+    return parts.show();
+  }
+  await take(withRemarks(documentOf(lines), decoded(bytes)), where, checkedName(name), [importNote(lines), notKept(lines)].filter(Boolean).join(' '));
+  source.id = doc().id;
+  parts.show();
+  checkWhole();
 }
+/**
+ * A script or a PGN takes the place of the document; undo brings the old one back.
+ * @param {string} text
+ * @param {string} where
+ * @param {string} name      of its file
+ */
+export const openText = (text, where = 'script', name = '') => counting(
+    looksLikePgn(text) ? openPgn(new TextEncoder().encode(text), where, name) : openScript(text, where, name));
+/**
+ * A file, in whatever letters it is written.
+ * @param {File} file
+ */
+export const openFile = file => counting(file.arrayBuffer().then(buffer => {
+  const bytes = new Uint8Array(buffer), text = decoded(bytes);
+  return looksLikePgn(text) ? openPgn(bytes, 'board', file.name) : openScript(text, 'board', file.name);
+}));
 /**
  * @param {string} text
  * @param {string} where
@@ -53,19 +108,16 @@ async function openPgn(text, where, name) {
  */
 async function openScript(text, where, name) {
   const lines = linesOf(text);
-  if (!lines.every(isSilent) && !lines.some(isCommand)) return refused('This is neither a script nor a PGN.', text, where);
+  if (!lines.every(isSilent) && !lines.some(isCommand)) {
+    say(where, 'This is neither a script nor a PGN. Nothing was changed.');
+    if (where === 'script') Object.assign(app.say || {}, { field: 'script', typed: text });
+    return parts.show();
+  }
   await take(lines, where, name.replace(/\.\w+$/, ''), where === 'script' ? doc().note : '');
-  typedAgain(text, where);
-}
-/**
- * A text that was refused stands in its field.
- * @param {string} text
- * @param {string} where
- */
-function typedAgain(text, where) {
-  if (!app.say || app.say.where !== where || app.say.good) return;
-  Object.assign(app.say, { field: 'script', typed: text });
-  parts.show();
+  if (app.say && app.say.where === where && !app.say.good) {
+    Object.assign(app.say, { field: 'script', typed: text });
+    parts.show();
+  }
 }
 /**
  * Lines become the document: a new one, or what the script's own field has as the next state of this one.
@@ -86,4 +138,23 @@ async function take(lines, where, name, note) {
     lenient: true
   }), where);
   if (where !== 'script' && doc() !== before) opened(before);
+}
+const AIMS = ['white win', 'white draw', 'black win', 'black draw'];
+/** What of a PGN was left out and is not kept; and where games only lack a stipulation, the four that they can have. */
+export function importView() {
+  const note = doc().note, again = source && (source.id === doc().id || !source.id) ? source : null;
+  const waiting = again ? again.waiting : 0, mine = again && again.id === doc().id;
+  if (!note && !waiting) return null;
+  return [
+    note && (!again || mine) &&
+        h('p', { class: 'note', id: 'notKept' },
+            `${note} Save PGN writes ${doc().name || 'a file of another name'}${doc().name && '.pgn'}.`),
+    again && waiting > 0 &&
+        h('p', { class: 'row', id: 'aims', role: 'group', 'aria-label': 'The stipulation of games that say none' },
+            `${counted(waiting, 'game')} of this PGN ${waiting === 1 ? 'does' : 'do'} not say what is to be done. Read ${
+                waiting === 1 ? 'it' : 'them'} as: `,
+            AIMS.map(words => button(aimText(readAim(words)), 'read the PGN again, with this stipulation where none is said',
+                () => counting(openPgn(again.bytes, 'board', again.name, words)),
+                { class: 'chip act', 'data-import': words })))
+  ];
 }

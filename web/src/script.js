@@ -229,19 +229,6 @@ export function savedScript(script, classes) {
  */
 export const gamesOf = script => script.studies.flatMap(study => study.games).join('');
 /**
- * A game with the texts of its tags in their own letters.
- * @param {Study} study
- * @param {string} game
- */
-const inOwnLetters = ({ originals }, game) => game.replace(
-    /^\[(\w+) ".*"\]$/gm,
-    (tag, name) => (originals[name] ? `[${name} "${originals[name].replace(/["\\]/g, '\\$&')}"]` : tag));
-/**
- * The games as they are saved, with names in their own letters.
- * @param {Script} script
- */
-export const savedGames = script => script.studies.flatMap(study => study.games.map(game => inOwnLetters(study, game))).join('');
-/**
  * The lines of the saved script that tell them.
  * @param {Script} script
  */

@@ -13,7 +13,7 @@ import { isKnown } from './edits.js';
 import { PAWN, SAAVEDRA } from './samples.js';
 import { joined } from './script.js';
 import { redrawJudged, setupView } from './setup_view.js';
-import { openText } from './opening.js';
+import { checkWhole, importView, openText } from './opening.js';
 import { listFrom, listView as entriesView } from './list_view.js';
 import { later, listed } from './list_facts.js';
 import { stampOf, studyName } from './entries.js';
@@ -95,6 +95,7 @@ export function show() {
   $('sayBoard').hidden = !said;
   $('sayBoard').className = said && said.good ? 'say good' : 'say';
   $('sayBoard').textContent = said ? said.text : '';
+  put('import', importView());
   const anew = app.setup && app.setup.anew;
   put('setup', app.setup && setupView());
   put('nav', !app.setup && n && navView(n));
@@ -109,7 +110,10 @@ export function show() {
   drawFacts();
   part('texts', [d.lines, d.studies, d.at, app.view !== null, ...saying()], () => textsView(s));
   showDocuments();
-  if (isNew('list facts', [d.lines, d.judged])) later(d);
+  if (isNew('list facts', [d.lines, d.judged])) {
+    later(d);
+    setTimeout(checkWhole);
+  }
   refocus(kept);
   speak();
   hint();

@@ -17,9 +17,6 @@ let unrun = /** @type {{text: string, lines: string[]} | null} */ (null);
 /** @param {Study | undefined} s */
 export function textsView(s) {
   return [
-    doc().note &&
-        h('p', { class: 'note', id: 'notKept' },
-            `${doc().note} Save PGN writes ${doc().name || 'a file of another name'}${doc().name && '.pgn'}.`),
     doc().refused.length > 0 && refusedView(),
     h('p', { class: 'row act' }, diagramView(), s && studyButtons()), s && s.pgn && pgnView(s), scriptView(s)
   ];

@@ -161,6 +161,8 @@ const REASONS = /** @type {Record<string, string>} */ ({
   TagText: 'a text has at most 60 characters', NoFile: 'there is no file of this table', Cut: 'the file is cut short',
   NotATable: 'the file is no table', HeaderDamaged: 'the head of the file is damaged', TrailingBytes: 'the file is too long',
   OutOfMemory: 'no memory is left', NoMan: 'no man stands there', Device: 'it could not be written',
+  NoSuchTheme: 'no such theme', NoSuchFilter: 'a word that names no square of a man: write Kf7, or Pa2-h4 for any square between',
+  NoKeyMove: 'positions of this theme have no one first move',
 });
 /**
  * A reply `error NAME ARGUMENT` as words.

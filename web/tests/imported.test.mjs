@@ -1,8 +1,9 @@
 // What the program makes of a PGN, as the page reads it; the lines are those of an independent reference.
 import test from 'node:test';
 import assert from 'node:assert/strict';
-import { decoded, leftOutBy, looksLikePgn, originalsIn, whyLeftOut } from '../src/imported.js';
-import { readScript, savedGames, supposed } from '../src/script.js';
+import { decoded, documentOf, importNote, leftOut, looksLikePgn, notKept, originalsIn, whyLeftOut, withoutAim } from '../src/imported.js';
+import { savedGames } from '../src/notes.js';
+import { readScript, supposed } from '../src/script.js';
 
 const LINES = [
   '# game 1, line 1: stipulated by its comment', '# not taken over: comments 9, NAGs 4, tags 1, repeated 1, moves behind 2',
@@ -20,11 +21,20 @@ test('a file is UTF-8, else Latin 1', () => {
   assert.equal(decoded(Uint8Array.from([82, 0xe9, 116, 105])), 'Réti');
 });
 test('games that were left out, and why', () => {
-  assert.deepEqual(LINES.map(leftOutBy).filter(Boolean).map(whyLeftOut), ['7 men', 'Kb6: not legal here', 'it does not say what is to be done']);
-  assert.deepEqual(leftOutBy(LINES[10]), { game: 3, line: 31, column: 17, why: 'NoSuchMove', text: 'Kb6' });
+  assert.deepEqual(leftOut(LINES).map(whyLeftOut), ['7 men', 'Kb6: not legal here', 'it does not say what is to be done']);
+  assert.deepEqual(leftOut(LINES)[1], { game: 3, line: 31, column: 17, why: 'NoSuchMove', text: 'Kb6' });
+  assert.equal(withoutAim(LINES), 1);
+  assert.equal(importNote(LINES), '5 games, 2 studies. Left out: game 2, line 14: 7 men; game 3, line 31, column 17: Kb6: not legal here; ' +
+    'game 4, line 40: it does not say what is to be done.');
+  assert.equal(importNote(['# game 1, line 1: stipulated by its result', '', '# games 1, studies 1']), '1 game, 1 study.');
+});
+test('what a script has no place for', () => {
+  assert.equal(notKept(LINES), 'Not kept of this PGN: 1 repeated move, 2 moves behind null moves.');
+  assert.equal(notKept(['# game 1, line 1: stipulated by its result']), '');
 });
 test('remarks above a position are the study\'s, and names stay in their letters', () => {
-  const lines = LINES.slice(0, -2), { studies } = supposed(lines);
+  const lines = documentOf(LINES), { studies } = supposed(lines);
+  assert.equal(lines.length, LINES.length - 2);
   assert.deepEqual(studies.map(s => [s.head, s.from, s.end]), [[0, 3, 14], [14, 16, lines.length]]);
   assert.deepEqual(studies.map(s => s.originals), [{ White: 'Троицкий' }, {}]);
   assert.deepEqual(originalsIn(['# Site was:  a b ']), { Site: 'a b' });

@@ -4,7 +4,6 @@ import assert from 'node:assert/strict';
 import { readFileSync } from 'node:fs';
 import * as edits from '../src/edits.js';
 import { advance, begin, redo, undo } from '../src/past.js';
-import { fromPgn, notKept } from '../src/pgn.js';
 import { readView } from '../src/replies.js';
 import { editsTo, fensOf, gameLines, gamesOf, joined, linesOf, oneGame, overLimit, readScript, repliesOf, savedScript, supposed, toldBefore, toRun } from '../src/script.js';
 import { isListed, progressText } from '../src/shelf.js';
@@ -224,30 +223,6 @@ test('undo and redo', () => {
   assert.equal(undo(undo(undo(undo(h)))).now, 0);
   assert.deepEqual(redo(h), h);
   assert.deepEqual(advance(back, 9).future, []);
-});
-test('a game is read as lines that make it again', () => {
-  const { replies, script } = gallery('reti_1921'), pgn = replies.find(r => r.startsWith('[Event'));
-  const lines = fromPgn(pgn), own = editsTo(script.lines, script.studies[0]);
-  assert.equal(lines[0], own[0]);
-  const moves = list => list.filter(l => l.startsWith('insert')).length;
-  assert.equal(moves(lines), script.lines.slice(script.studies[0].from, script.lines.indexOf('pgn')).filter(l => l.startsWith('insert')).length);
-  assert.deepEqual(fromPgn('[Event "x"]\n\n1. e4 *\n'), []);
-  assert.equal(notKept(pgn), '');
-});
-test('what is not kept of a PGN is counted', () => {
-  const head =
-      '[Event "L\'Echiquier"]\n[White "Réti, R."]\n[Annotator "A"]\n[ECO "x"]\n[FEN "8/8/1KP5/3r4/8/8/8/k7 w - - 0 1"]\n[SetUp "1"]\n[Result "1-0"]\n\n';
-  assert.equal(notKept(head + '{A study.} 1. c7! $14 (1. Kb7? {[%cal Gb6b7] weak}) Rd6+ ; and so on\n2. Kb5 $1 1-0\n'),
-    'Not kept of this PGN: 3 comments, 4 symbols, 2 tags.');
-  const own =
-      '{White to win: unsound 3, White mates in 26} 1. c7 $1 {White mates in 25} (1. Kb7 $4 {draw} Rd6 {draw; dual 2}) 1-0\n';
-  assert.equal(notKept(head.replace(/\[(Annotator|ECO).*\n/g, '').replace('é', 'e') + own), '');
-  assert.equal(notKept(head.replace(/\[(Annotator|ECO).*\n/g, '').replace('é', 'e') +
-                   own.replace('$4', '$2').replace('25}', '25} {a fine key}')),
-      'Not kept of this PGN: 1 comment, 1 symbol.');
-  const lines = fromPgn('[Event "L\'Échiquier"]\n[White "Троицкий"]\n[FEN "8/8/1KP5/3r4/8/8/8/k7 w - - 0 1"]\n\n*\n');
-  assert.deepEqual(lines.slice(0, 2), ['# Event was: L\'Échiquier', '# White was: Троицкий']);
-  assert.deepEqual(lines.slice(4), ['tag Event L\'Echiquier', '']);
 });
 test('a study before it is judged', () => {
   const lines = [

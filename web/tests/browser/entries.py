@@ -1,4 +1,4 @@
-"""Entries and their list, and composing: in headless Chromium, by mouse and keys.
+"""Entries that come in as PGN, lists, what is found in tables, and composing: in headless Chromium, by mouse and keys.
 
     entries.py TABLES [NAME ..]
 
@@ -25,6 +25,7 @@ GAME = """[Event "{event}"]
 {moves} {result}
 
 """
+BAD = "8/8/8/6k1/8/8/1PPP3K/7R w - - 0 1"
 
 
 def game(event, author, moves, result="1-0", fen=FEN):
@@ -48,30 +49,39 @@ def opened(user, name, text, waited="document.getElementById('stamp')"):
 
 
 def test_ten_entries_are_ten_rows(user):
-    """A script as studyimport makes it, with games that were left out, and slips of its own."""
     user.open_tables(TABLES, SMALL)
-    one = f"position {FEN}\nstipulate white win\n"
-    blocks = ["# game 1, line 1: stipulated by its comment\n# White was: Réti, Richard\n" + one + "tag White Reti, Richard\ninsert root Kg3\ninsert 0 Kf5\npgn\n",
-              "# game 2, line 9: left out: 6 men\n", one + "tag White A\ninsert root Kh9\npgn\n", "position 8/8\ntag White Kasparyan, G.\npgn\n",
-              one + "tag White C\npgn\n", one + "tag White D\ninsert root b4\ninsert 0 Kf6\npgn\n", "# game 7, line 40, column 3: NoSuchMove at Kb6\n",
-              f"position {FEN}\nstipulate black win\ntag White E\ninsert root Kg3\npgn\n", one + "tag White F\ninsert root Kg3\npgn\n",
-              one + "tag White G\ninsert root Kg3\npgn\n"]
-    opened(user, "entries.script", "\n".join(blocks))
+    pgn = "% made by hand\n" + "".join((
+        game("One", "Réti, Richard", "1. Kg3 Kf5 2. Kf3"), game("Two", "Троицкий", "1. Kg3! {The only move} Kf5"), game("Three", "A", "1. Kh9"),
+        game("Four", "B", "1. Kg3", fen=BAD), game("Five", "C", "", "1-0"), game("Six", "D", "1. Kg3 --"), game("Seven", "E", "1. b4 Kf6"),
+        game("Eight", "F", "1. Kg3", "*"), game("Nine", "G", "1. Kg3", "0-1"), game("Ten", "H", "1. Kg3 Kf5 2. Kf3 (2. Kg2) Ke5")))
+    opened(user, "entries.pgn", pgn)
     list_ = rows(user)
-    assert [row[4].split(" ")[0] for row in list_] == "sound left not left holds unsound left wrong sound sound".split(), list_
-    assert list_[0][2] == "Réti, Richard" and list_[3][2] == "Kasparyan, G." and "6 men" in list_[1][4] and list_[2][4] == "not read: Kh9", list_
+    assert len(list_) == 10, list_
+    assert [row[4].split(":")[0].split(" ")[0] for row in list_] == "sound sound left left holds sound unsound left wrong sound".split(), list_
+    assert list_[0][2] == "Réti, Richard" and list_[1][2] == "Троицкий"
+    assert "Kh9" in list_[2][4] and "6 men" in list_[3][4], list_
+    note = user.text("import")
+    assert "10 games, 7 studies" in note and "game 3, line" in note and "Not kept of this PGN: 1 null move." in note, note
     counts = user.js("return [...document.querySelectorAll('#list [data-kind]')].map(b => b.innerText)")
-    assert counts == ["3 sound", "1 unsound", "1 wrong", "1 holds", "1 not read", "3 left out"], counts
+    assert counts == ["4 sound", "1 unsound", "1 wrong", "1 holds", "3 left out"], counts
     user.js("document.querySelector('#list [data-kind=wrong]').click()")
-    assert [row[0] for row in rows(user)] == ["8"]
+    assert [row[0] for row in rows(user)] == ["9"]
     user.js("document.querySelector('#list [data-kind=wrong]').click()")
     user.promise("new Promise(on => setTimeout(on, 3000))")
     name, text = user.download("saveList")
     table = list(csv.reader(io.StringIO(text)))
-    assert name == "entries.csv" and len(table) == 11 and table[1][2] == "Réti, Richard" and table[1][5] == "sound", table
-    assert int(table[1][8]) > 0 and table[2][5].startswith("left out")
-    assert '[White "Réti, Richard"]' in user.download("savePgn")[1]
+    assert name == "entries.checked.csv" and len(table) == 11 and table[2][2] == "Троицкий" and table[1][5] == "sound", table
+    assert table[7][5].startswith("unsound") and int(table[7][6]) + 1 >= 1 and int(table[1][8]) > 0
+    name, saved = user.download("savePgn")
+    assert name == "entries.checked.pgn" and '[White "Троицкий"]' in saved and '[Annotator "an editor"]' in saved
+    assert "{The only move}" in saved.replace("\n", " ")
+    user.d.find_element(By.CSS_SELECTOR, '[data-import="white draw"]').click()
+    user.settle()
+    assert len(rows(user)) == 10 and rows(user)[7][4].startswith(("sound", "wrong", "unsound")), rows(user)
     user.picture("entries")
+    user.click("undo")
+    user.settle()
+    assert rows(user)[7][4].startswith("left out")
 
 
 def test_letters_of_another_code(user):
@@ -83,14 +93,14 @@ def test_letters_of_another_code(user):
     user.until("document.getElementById('stamp')", 60)
     user.settle()
     assert "Léger" in user.text("head") and "Réti" in user.text("head") and "tag White Reti" in script(user)
-    assert '[White "Réti"]' in user.download("savePgn")[1]
+    user.fill("tagWhite", "Л. Каспарян")
+    user.until("document.getElementById('head').innerText.includes('Л. Каспарян')", 20)
+    assert re.search(r"^tag White [ -~]+$", script(user), re.M) and "# White was: Л. Каспарян" in script(user)
     user.d.refresh()
     user.idle()
-    assert "Réti" in user.text("head")
-    user.fill("tagWhite", "Prokeš")
-    assert "# White was: Prokeš" in script(user) and "tag White Prokes\n" in script(user)
+    assert "Л. Каспарян" in user.text("head")
     user.fill("tagWhite", "Prokes")
-    assert "was: P" not in script(user)
+    assert "was: Л" not in script(user)
 
 
 def test_neither_script_nor_pgn(user):
@@ -102,6 +112,17 @@ def test_neither_script_nor_pgn(user):
         user.until("document.body.textContent.includes('Nothing was changed')", 20)
         user.settle()
         assert script(user) == before
+
+
+def test_our_own_pgn_is_kept_whole(user):
+    user.open_tables(TABLES, SMALL)
+    user.set_up(FEN, "white win")
+    for san in ("Kg3", "Kf5", "Kf3"):
+        user.play(san)
+    own = user.promise("studyboard.pgn()")
+    opened(user, "own.pgn", own, "document.getElementById('stamp')")
+    user.until("!document.getElementById('notKept')", 20)
+    assert user.download("savePgn") == ("own.pgn", own)
 
 
 def test_studies_are_copied_and_moved(user):
@@ -186,6 +207,27 @@ def test_a_diagram_is_saved(user):
     user.set_up(FEN, "white win")
     name, text = user.download("saveSvg")
     assert name.endswith(".svg") and text.startswith("<svg") and text.count("<use") == 3 and "<symbol" in text
+
+
+def test_find_all_zugzwangs_of_king_and_pawn(user):
+    user.open_tables(TABLES, SMALL)
+    user.click("findButton")
+    user.choose("findClass", "KPK")
+    user.choose("findTheme", "zugzwang")
+    user.click("findGo")
+    user.until("document.getElementById('findState').innerText.includes('all there are')", 120)
+    assert user.text("findState").startswith("KPK zugzwang: 80 positions found"), user.text("findState")
+    assert user.js("return document.querySelectorAll('#foundList li').length") == 80
+    user.picture("find", whole=False)
+    user.choose("findTheme", "win N")
+    user.js("const e = document.getElementById('findN'); e.value = '6'; e.dispatchEvent(new Event('input', {bubbles: true}))")
+    user.click("findGo")
+    user.until("document.getElementById('findState').innerText.includes('all there are')", 120)
+    assert "KPK win 6: 15 positions found" in user.text("findState"), user.text("findState")
+    user.d.find_element(By.CSS_SELECTOR, "#foundList [data-found]").click()
+    user.settle()
+    user.until("document.getElementById('stamp')", 60)
+    assert user.text("stamp") == "sound" and len(re.findall("insert", script(user))) == 1
 
 
 def test_zugzwangs_of_a_study(user):

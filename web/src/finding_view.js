@@ -1,0 +1,117 @@
+// @ts-check
+// The panel 'Find': a class, a theme and squares; what is found while it searches; a press opens one.
+import { $, button, h, put } from './dom.js';
+import { app, counting, parts } from './app.js';
+import { CLASSES } from './core_host.js';
+import { control, sideOf } from './fen.js';
+import { THEMES, search } from './finding.js';
+import { openText } from './opening.js';
+import { joined } from './script.js';
+import { draftFen } from './setup.js';
+import { counted, valueText, winner } from './words.js';
+/** @typedef {import('./finding.js').Search} Search @typedef {import('./finding.js').Found} Found */
+
+const MOST = 300;
+const form = { name: 'KPK', theme: 'zugzwang', n: '4', side: '', squares: '', quiet: false };
+/** @type {{spawn: () => import('./engine.js').Core, search: Search | null, going: boolean, fault: string, shown: string}} */
+const state = { spawn: () => parts.core, search: null, going: false, fault: '', shown: '' };
+/** @param {() => import('./engine.js').Core} spawn */
+export function startFinding(spawn) { state.spawn = spawn; }
+
+/** The material of the set-up or the study at hand, as a class; or nothing where there is no such class. */
+function classHere() {
+  const fen = app.setup ? draftFen() : app.view ? app.view.fen : '', letters = (/** @type {RegExp} */ of) => [...'QRBNP'].flatMap(
+      letter => (fen.split(' ')[0].match(of) || []).filter(c => c.toUpperCase() === letter).map(() => letter)).join('');
+  const white = letters(/[QRBNP]/g), black = letters(/[qrbnp]/g);
+  return [`K${white}K${black}`, `K${black}K${white}`].find(name => CLASSES.includes(name)) || '';
+}
+/**
+ * @param {string} id
+ * @param {string} label
+ * @param {[string, string][]} options
+ * @param {string} now
+ * @param {(value: string) => void} done
+ */
+const choice = (id, label, options, now, done) => h('select', { id, 'aria-label': label, onchange: (/** @type {any} */ e) => { done(e.target.value); showFinding(); } },
+  options.map(([value, text]) => h('option', { value, selected: value === now }, text)));
+/**
+ * @param {string} id
+ * @param {string} label
+ * @param {'n' | 'squares'} field
+ * @param {any} props
+ */
+const field = (id, label, field, props) => h('input', { id, 'aria-label': label, title: label, value: form[field], autocomplete: 'off', spellcheck: 'false',
+  oninput: (/** @type {any} */ e) => { form[field] = e.target.value; }, ...props });
+function formView() {
+  const here = classHere(), takesNumber = form.theme.endsWith('N');
+  return h('div', { class: 'row' },
+    choice('findClass', 'The men', CLASSES.map(name => [name, name]), form.name, value => { form.name = value; }),
+    here && here !== form.name && button('these men', `the class ${here}`, () => { form.name = here; showFinding(); }, { class: 'chip act', id: 'findHere' }),
+    choice('findTheme', 'What is sought', THEMES, form.theme, value => { form.theme = value; }),
+    takesNumber && field('findN', 'How many only moves in a row, 1 to 12', 'n', { type: 'number', min: 1, max: 12, class: 'num' }),
+    choice('findSide', 'The side to move', [['', 'either side to move'], ['white', 'White to move'], ['black', 'Black to move']], form.side,
+           value => { form.side = value; }),
+    field('findSquares', 'Squares, as Kf7 or Pa2-h4, small letters for Black; the board is turned as it fits', 'squares', { placeholder: 'squares', size: 14 }),
+    form.theme !== 'zugzwang' && !form.theme.startsWith('longest') && h('label', { class: 'note' }, h('input', { type: 'checkbox', id: 'findQuiet', checked: form.quiet,
+      onchange: (/** @type {any} */ e) => { form.quiet = e.target.checked; } }), ' begins with a quiet move'),
+    state.going ? button('Stop', 'keep what was found', stop, { id: 'findStop', class: 'main' }) : button('Find', 'search the table', find, { id: 'findGo', class: 'main' }));
+}
+function find() {
+  const quiet = form.quiet && form.theme !== 'zugzwang' && !form.theme.startsWith('longest') ? 'no-capture no-check' : '';
+  const wanted = { name: form.name, theme: form.theme.replace('N', form.n), filters: [form.side, quiet, form.squares.trim()].filter(Boolean).join(' '), most: MOST };
+  Object.assign(state, { search: null, going: true, fault: '', shown: `${wanted.name} ${wanted.theme}` });
+  showFinding();
+  return counting(search(wanted, state.spawn, now => { state.search = now; showFinding(); return state.going; }).catch(fault => { state.fault = fault.message; })
+    .finally(() => { state.going = false; showFinding(); }));
+}
+function stop() { state.going = false; }
+function soFar() {
+  const now = state.search;
+  if (state.fault) return `Not found: ${state.fault}.`;
+  if (!now) return state.going ? 'Its tables are being read, or built …' : '';
+  const end = { all: 'all there are', enough: `the first ${now.found.length}; narrow it down by squares`, stopped: 'stopped' }[now.ended] || 'searching …';
+  const part = now.ended === 'all' || !now.of ? '' : `; ${Math.floor(100 * now.at / now.of)} % looked at`;
+  return `${state.shown}: ${counted(now.found.length, 'position')} found${part}: ${end}.`;
+}
+/** @param {Found} found */
+function linesOf({ fen, values, key }) {
+  const mover = sideOf(fen), won = winner(mover, values[0]), hero = (won || 'White').toLowerCase();
+  return joined([`position ${fen}`, `stipulate ${hero} ${won ? 'win' : 'draw'}`, ...(key ? [`insert root ${key}`] : [])]);
+}
+/** @param {Found} found */
+function rowView(found) {
+  const mover = sideOf(found.fen), [first, second] = found.values;
+  const words = second ? `White to move: ${valueText('White', first)}; Black to move: ${valueText('Black', second)}` : valueText(mover, first);
+  return h('li', {}, button(control(found.fen), 'open it as a study', () => { close(); openText(linesOf(found), 'board'); }, { class: 'link', 'data-found': found.fen }),
+    ` ${second ? '' : `${mover} to move: `}${found.key && `${found.key}, `}${words}`);
+}
+/** The panel, drawn again as it searches; what is typed in it stays. */
+export function showFinding() {
+  if ($('finding').hidden) return;
+  const focus = document.activeElement, id = focus && $('finding').contains(focus) ? focus.id : '', found = state.search ? state.search.found : [];
+  put('finding',
+      h('div', { class: 'row' }, h('h2', {}, 'Find'), h('span', { class: 'gap' }), button('Close', 'Escape', close, { id: 'closeFinding' })),
+      h('p', { class: 'note' }, 'All positions of these men that have the theme, each once up to symmetry, none missing: proved. A press opens one as a study.'),
+      formView(), h('p', { role: 'status', id: 'findState' }, soFar()), h('ol', { class: 'found', id: 'foundList' }, found.map(rowView)));
+  const again = id && $(id);
+  if (again) again.focus({ preventScroll: true });
+}
+export function openFinding() {
+  const panel = $('finding');
+  if (!panel.hidden) return close();
+  panel.hidden = false;
+  const here = classHere();
+  if (here && !state.going && !state.search) form.name = here;
+  $('findButton').setAttribute('aria-expanded', 'true');
+  showFinding();
+  $('findClass').focus();
+  return true;
+}
+/** Whether it was open. */
+export function close() {
+  const panel = $('finding'), open = !panel.hidden;
+  panel.hidden = true;
+  $('findButton').setAttribute('aria-expanded', 'false');
+  if (open && panel.contains(document.activeElement)) $('findButton').focus();
+  return open;
+}

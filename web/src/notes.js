@@ -1,0 +1,131 @@
+// @ts-check
+// What a PGN says beside its moves - comments, NAGs, tags that a script has no place for - kept as remarks of the script,
+// each at the moves that lead to it, and written into the saved PGN again where these moves still stand there.
+import { TAGS } from './script.js';
+/** @typedef {import('./types.js').Study} Study @typedef {import('./types.js').Script} Script */
+
+const OWN_TAGS = new Set([...TAGS, 'Result', 'FEN', 'SetUp']), MOST = 900;
+const TOKEN = /\{([^}]*)\}|;([^\n]*)|(\$\d+)|([()])|([!?]{1,2})|([^\s(){};$!?]+)/g;
+/** @param {string} text */
+const oneLine = text => text.replace(/\s+/g, ' ').trim();
+/** @param {string} symbol */
+const plain = symbol => symbol.replace(/^\d+\.+/, '').replace(/[+#]+$/, '').replace(/[x:=]/g, '').replace(/e\.?p\.?$/, '');
+const RESULT = /^(1-0|0-1|1\/2-1\/2|1\/2|\*)$/, SIGNS = /** @type {Record<string, string>} */ ({ '!': '$1', '?': '$2', '!!': '$3', '??': '$4', '!?': '$5', '?!': '$6' });
+/**
+ * The moves of a game, one after the other: for each token the moves from the start that lead to it.
+ * @param {string} movetext
+ * @param {(kind: 'comment' | 'nag' | 'move', text: string, path: string[], end: number) => void} tell
+ */
+function walk(movetext, tell) {
+  const outer = /** @type {[string[], string[]][]} */ ([]);
+  let at = /** @type {string[]} */ ([]), before = at;
+  for (const m of movetext.matchAll(TOKEN)) {
+    const [token, brace, line, nag, bracket, sign, symbol] = m, end = (m.index || 0) + token.length;
+    if (bracket === '(') { outer.push([at, before]); at = before; } else if (bracket === ')') [at, before] = outer.pop() || [at, before];
+    else if (nag || sign) tell('nag', nag || SIGNS[sign] || '', at, end);
+    else if (brace !== undefined || line !== undefined) tell('comment', oneLine(brace ?? line), at, end);
+    else if (symbol && RESULT.test(symbol)) { if (!outer.length) return; } else if (symbol && /[a-hO0]/.test(plain(symbol))) {
+      [before, at] = [at, [...at, plain(symbol)]];
+      tell('move', symbol, at, end);
+    }
+  }
+}
+/**
+ * Header and moves of a game.
+ * @param {string} game
+ * @returns {[Record<string, string>, string]}
+ */
+function parts(game) {
+  const tags = Object.fromEntries([...game.matchAll(/^\[(\w+) "(.*)"\]\s*$/gm)].map(m => [m[1], m[2]]));
+  return [tags, game.replace(/^\[\w+ ".*"\]\s*$/gm, '').replace(/^%.*$/gm, '')];
+}
+/**
+ * The games of a PGN, cut as the program cuts them: a line of a tag begins one behind a line of moves, and a second Event.
+ * @param {string} text
+ */
+export function gamesIn(text) {
+  const games = /** @type {string[][]} */ ([]);
+  let moved = true, event = false;
+  for (const line of text.replace(/^\ufeff/, '').replace(/\r\n?/g, '\n').split('\n')) {
+    const tag = /^\[(\w+)[ \t]*"/.exec(line), silent = /^\s*$|^[%;]/.test(line);
+    if (!games.length || (tag && (moved || (event && tag[1] === 'Event')))) { games.push([]); moved = event = false; }
+    if (tag) event = event || tag[1] === 'Event';
+    else if (!silent) moved = true;
+    games[games.length - 1].push(line);
+  }
+  return games.map(lines => lines.join('\n') + '\n');
+}
+/**
+ * A line of a script has at most 1,024 bytes.
+ * @param {string} line
+ */
+const short = line => line.slice(0, new TextEncoder().encode(line).length > MOST ? MOST / 3 : MOST);
+/**
+ * What a game says beside its moves, as remarks: `# tag NAME TEXT`, `# note MOVES: TEXT`.
+ * @param {string} game
+ */
+export function remarksOf(game) {
+  const [tags, movetext] = parts(game), own = isOwn(movetext), out = /** @type {string[]} */ ([]);
+  for (const [name, text] of Object.entries(tags)) if (!OWN_TAGS.has(name)) out.push(`# tag ${name} ${text}`);
+  walk(movetext, (kind, text, path) => {
+    if (kind === 'move' || !text || (own && (kind === 'nag' ? /^\$[14]$/.test(text) : isOurs(text)))) return;
+    out.push(`# note ${path.join(' ') || '-'}: ${text}`);
+  });
+  return out.map(short);
+}
+const VERDICT = /^(White|Black) to (win|draw|mate in \d+): /, OURS = /^(draw|mate|(White|Black) mates in \d+)(; dual \d+)?$/;
+/** @param {string} comment */
+const isOurs = comment => VERDICT.test(comment) || OURS.test(comment);
+/** @param {string} movetext */
+const isOwn = movetext => VERDICT.test(oneLine((/\{([^}]*)\}/.exec(movetext) || [])[1] || ''));
+
+/**
+ * A game as the program writes it, with the tags and notes of remarks put in, each behind what the program says there.
+ * @param {string} game
+ * @param {string[]} remarks
+ */
+export function withNotes(game, remarks) {
+  const tags = remarks.map(line => /^# tag (\w+) (.*)$/.exec(line)).filter(Boolean), notes = /** @type {Map<string, string[]>} */ (new Map());
+  for (const line of remarks) {
+    const m = /^# note ([^:]*): (.*)$/.exec(line), key = m && (m[1] === '-' ? '' : m[1]);
+    if (m && key !== null) notes.set(key, [...(notes.get(key) || []), /^\$\d+$/.test(m[2]) ? m[2] : `{${m[2]}}`]);
+  }
+  if (!tags.length && !notes.size) return game;
+  const cut = game.indexOf('\n\n') + 1, head = game.slice(0, cut), movetext = game.slice(cut), puts = /** @type {Map<number, string[]>} */ (new Map());
+  let last = '\n';
+  const ends = /** @type {Map<string, number>} */ (new Map());
+  walk(movetext, (kind, _, path, end) => { last = path.join(' '); if (kind === 'move' || ends.has(last) || !last) ends.set(last, end); });
+  for (const [key, list] of notes) if (ends.has(key)) puts.set(/** @type {number} */ (ends.get(key)), list);
+  const text = [...puts].sort(([x], [y]) => y - x).reduce((done, [at, list]) => `${done.slice(0, at)} ${list.join(' ')}${done.slice(at)}`, movetext);
+  const lines = tags.map(m => `[${/** @type {any} */ (m)[1]} "${/** @type {any} */ (m)[2]}"]\n`).join('');
+  return head + lines + '\n' + wrapped(text) + '\n\n';
+}
+/**
+ * Words in lines of at most 79 letters.
+ * @param {string} text
+ */
+function wrapped(text) {
+  const lines = [''];
+  for (const word of text.trim().split(/\s+/)) {
+    const last = lines[lines.length - 1];
+    if (last && last.length + 1 + word.length > 79) lines.push(word); else lines[lines.length - 1] = last ? `${last} ${word}` : word;
+  }
+  return lines.join('\n');
+}
+
+/**
+ * The games as they are saved: names in their own letters, and what a PGN said beside the moves.
+ * @param {Script} script
+ */
+export const savedGames = script => script.studies.flatMap(study => {
+  const remarks = script.lines.slice(study.head, study.from);
+  return study.games.map(game => withNotes(inOwnLetters(study, game), remarks));
+}).join('');
+/**
+ * A game with the texts of its tags in their own letters.
+ * @param {Study} study
+ * @param {string} game
+ */
+const inOwnLetters = ({ originals }, game) => game.replace(
+    /^\[(\w+) ".*"\]$/gm,
+    (tag, name) => (originals[name] ? `[${name} "${originals[name].replace(/["\\]/g, '\\$&')}"]` : tag));

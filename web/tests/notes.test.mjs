@@ -1,0 +1,44 @@
+// What a PGN says beside its moves is kept, and written again.
+import test from 'node:test';
+import assert from 'node:assert/strict';
+import { gamesIn, remarksOf, withNotes } from '../src/notes.js';
+
+const GAME = `[Event "Rigaer Tageblatt"]
+[White "Reti"]
+[Annotator "an editor"]
+[FEN "8/8/8/6k1/8/8/1P5K/8 w - - 0 1"]
+
+{A study for practice.} 1. Kg3! {The only move} (1. b4? $4 Kf6 {draws
+[%cal Gg5f6]}) 1... Kf5 2. Kf3 $1 1-0
+`;
+const OURS = `[Event "Rigaer Tageblatt"]
+[White "Reti"]
+[FEN "8/8/8/6k1/8/8/1P5K/8 w - - 0 1"]
+[SetUp "1"]
+
+{White to win: sound, White mates in 28} 1. Kg3 $1 {White mates in 28} (1. b4 $4
+{draw} Kf6 {draw}) 1... Kf5 {White mates in 27} 2. Kf3 $1 {White mates in 27}
+1-0
+
+`;
+test('remarks of a game, at the moves that lead to them', () => {
+  assert.deepEqual(remarksOf(GAME), [
+    '# tag Annotator an editor', '# note -: A study for practice.', '# note Kg3: $1', '# note Kg3: The only move', '# note b4: $2', '# note b4: $4',
+    '# note b4 Kf6: draws [%cal Gg5f6]', '# note Kg3 Kf5 Kf3: $1'
+  ]);
+  assert.deepEqual(remarksOf(OURS), []);
+});
+test('they are written behind what the program says there', () => {
+  const text = withNotes(OURS, remarksOf(GAME));
+  assert.match(text, /\[SetUp "1"\]\n\[Annotator "an editor"\]\n\n/);
+  const words = text.slice(text.indexOf('\n\n')).replace(/\s+/g, ' ');
+  assert.ok(words.includes('White mates in 28} {A study for practice.} 1. Kg3 $1 {White mates in 28} $1 {The only move} (1. b4'), words);
+  assert.ok(words.includes('Kf6 {draw} {draws [%cal Gg5f6]})'));
+  assert.equal(withNotes(OURS, []), OURS);
+  assert.equal(withNotes(OURS, ['# note Kh1: gone']).replace(/\s+/g, ' '), OURS.replace(/\s+/g, ' '));
+});
+test('games are cut as the program cuts them', () => {
+  assert.equal(gamesIn(GAME + '\n' + OURS).length, 2);
+  assert.equal(gamesIn('[Event "a"]\n[Event "b"]\n\n1. e4 *\n').length, 2);
+  assert.equal(gamesIn('prose\n[Event "a"]\n').length, 2);
+});
