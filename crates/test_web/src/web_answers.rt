@@ -359,6 +359,34 @@ fn files_that_are_none(rt: HostRuntime) -> Result<(), Fail> {
     Ok(())
 }
 
+const KINGS: &str =
+    "position k7/8/8/8/8/8/8/K7 w - - 0 1\nstipulate white draw\ninsert root Ka2\npgn\n";
+
+/// A file that no position of the script needs is not looked at, though it is damaged.
+#[test]
+fn files_that_are_not_needed(rt: HostRuntime) -> Result<(), Fail> {
+    let alloc = rt.alloc();
+    let bytes = make_file(&alloc, Class::KK, &[], &[])?;
+    let whole = Span {
+        class: Class::KK as usize,
+        start: 0,
+        length: bytes.len(),
+    };
+    let cut = Span {
+        class: Class::KRK as usize,
+        start: 0,
+        length: 63,
+    };
+    for request in ["view 0", "review", "report"] {
+        let alone = ask(&alloc, request, KINGS, &[whole], bytes.as_slice());
+        let beside = ask(&alloc, request, KINGS, &[cut, whole], bytes.as_slice());
+        assert!(rt; alone.text.len() > 100, "{request}");
+        assert!(rt; alone.text.as_slice() == beside.text.as_slice());
+        assert!(rt; alone.ended == beside.ended);
+    }
+    Ok(())
+}
+
 /// In heaps of growing size a request is refused or stopped for want of memory, until it is answered.
 #[test]
 fn memory_for_an_answer(rt: HostRuntime) -> Result<(), Fail> {
