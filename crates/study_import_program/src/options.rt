@@ -73,7 +73,9 @@ fn command<'a>(alloc: Global) -> Result<Command<'a>, Error> {
     let tails = Arg::new(alloc, "tails")
         .long("tails")
         .action(ArgAction::SetTrue)
-        .help("Takes a game with more than four men from the first position of at most four that a comment of its main line names");
+        .help(
+            "Takes a game with more than four men from the first position of at most four that a comment of its main line names",
+        );
     let progress = Arg::new(alloc, "progress")
         .long("progress")
         .action(ArgAction::SetTrue)

@@ -5,8 +5,8 @@ use std::alloc::{AllocError, Allocator};
 use std::test::Fail;
 use study_board::Side;
 use study_import::{
-    Choice, Importer, blocks_are_isolated, blocks_are_read, faults_are_listed,
-    files_are_read_back, games_are_read_whole, import, moves_are_accepted, scripts_are_read, studies_are_alike,
+    Choice, Importer, blocks_are_isolated, blocks_are_read, faults_are_listed, files_are_read_back,
+    games_are_read_whole, import, moves_are_accepted, scripts_are_read, studies_are_alike,
     studies_are_read_back, tags_are_taken,
 };
 use study_marks::{Goal, Stipulation};

@@ -198,9 +198,12 @@ fn check_stops(rt: &HostRuntime, after: usize, wanted: &[u8]) -> Result<(), Fail
 /// Words of the command line are read, or refused.
 #[test]
 fn words_are_read(rt: HostRuntime) -> Result<(), Fail> {
-    assert!(rt; choice_of(&rt, &["--game", "3"])? == Some((3, 3)));
-    assert!(rt; choice_of(&rt, &["--from=2", "--to", "4"])? == Some((2, 4)));
-    assert!(rt; choice_of(&rt, &["--stipulate", "white", "mate", "3"])? == Some((1, u32::MAX)));
+    assert!(rt; choice_of(&rt, &["--game", "3"])? == Some((3, 3, false)));
+    assert!(rt; choice_of(&rt, &["--from=2", "--to", "4"])? == Some((2, 4, false)));
+    assert!(rt;
+        choice_of(&rt, &["--stipulate", "white", "mate", "3"])? == Some((1, u32::MAX, false))
+    );
+    assert!(rt; choice_of(&rt, &["--tails"])? == Some((1, u32::MAX, true)));
     assert!(rt; choice_of(&rt, &["--stipulate", "white", "wins"])? == None);
     assert!(rt; choice_of(&rt, &["--game", "1", "--to", "2"])? == None);
     assert!(rt; choice_of(&rt, &["--game", "0"])? == None);
@@ -208,8 +211,8 @@ fn words_are_read(rt: HostRuntime) -> Result<(), Fail> {
     Ok(())
 }
 
-/// The first and the last game that these words choose, if they are read.
-fn choice_of(rt: &HostRuntime, given: &[&str]) -> Result<Option<(u32, u32)>, Fail> {
+/// The first and the last game that these words choose, and whether tails are taken, if they are read.
+fn choice_of(rt: &HostRuntime, given: &[&str]) -> Result<Option<(u32, u32, bool)>, Fail> {
     let mut words = Vec::new(rt.alloc());
     words.push(String::from_str(rt.alloc(), "studyimport")?)?;
     for word in given {
@@ -221,9 +224,12 @@ fn choice_of(rt: &HostRuntime, given: &[&str]) -> Result<Option<(u32, u32)>, Fai
     }
 }
 
-fn ends_of(options: Option<Options>) -> Option<(u32, u32)> {
+fn ends_of(options: Option<Options>) -> Option<(u32, u32, bool)> {
     match options {
-        Some(options) => Some((options.choice.from, options.choice.to)),
+        Some(options) => {
+            let choice = options.choice;
+            Some((choice.from, choice.to, choice.tails))
+        }
         None => None,
     }
 }

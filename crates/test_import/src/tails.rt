@@ -4,8 +4,8 @@ use std::test::Fail;
 use study_import::{Choice, Importer, import};
 use study_text::Text;
 
-/// A tail with variations around its position, one whose mate is counted from the game's start, one with a fault, and a game whose main
-/// line names no position.
+/// A tail with variations around its position, one whose mate is counted from the game's start, one with a fault behind lines that are
+/// skipped, and a game whose main line names no position.
 const GAMES: &[u8] = b"[Event \"five\"]
 [FEN \"7K/8/k1P5/6r1/8/7B/8/8 w - - 0 1\"]
 [Result \"1/2-1/2\"]
@@ -25,7 +25,8 @@ const GAMES: &[u8] = b"[Event \"five\"]
 [FEN \"7K/8/k1P5/6r1/8/7B/8/8 w - - 0 1\"]
 [Result \"1/2-1/2\"]
 
-1. Bg4 Rxg4 {7K/8/k1P5/8/6r1/8/8/8 w - - 0 2} 2. Kh7 Kc6 3. c7 1/2-1/2
+1. Bg4 Rxg4
+{7K/8/k1P5/8/6r1/8/8/8 w - - 0 2} 2. Kh7 Kc6 3. c7 1/2-1/2
 
 [Event \"no word\"]
 [FEN \"7K/8/k1P5/6r1/8/7B/8/8 w - - 0 1\"]
@@ -64,9 +65,9 @@ insert root Kh7
 pgn
 
 # a tail: moves before 2; its position is another program's word
-# game 3, line 20, column 54: NoSuchMove at Kc6
+# game 3, line 21, column 42: NoSuchMove at Kc6
 
-# game 4, line 22: left out: 5 men
+# game 4, line 23: left out: 5 men
 
 # games 4, studies 2
 ";
@@ -77,7 +78,7 @@ const LEFT_OUT: &[u8] = b"# game 1, line 1: left out: 5 men
 
 # game 3, line 16: left out: 5 men
 
-# game 4, line 22: left out: 5 men
+# game 4, line 23: left out: 5 men
 
 # games 4, studies 0
 ";
