@@ -7,10 +7,11 @@ use Rattle.study_script.specs.declared.running.Summary.{Summary}
 use Rattle.study_script.specs.declared.running.RunFault.{RunFault}
 use Rattle.study_script.specs.declared.running.RunFault.TheVariants.{WriteDevice}
 use Rattle.study_script.specs.State.{State}
-use Rattle.study_report.specs.Outcome.{Outcome}
+use Rattle.study_report.specs.Outcome.{Outcome, Shape}
 use Rattle.study_report.specs.Parts.{Fits}
 use Rattle.study_html.specs.Frame.{sheet_opening, closing}
-use Rattle.study_print.specs.Pages.{refusal_text, IsEnded}
+use Rattle.study_print.specs.Pages.{refusal_text, IsEnded, FileShape}
+use Rattle.study_print.proofs.FileWritten.{whole_shape, no_shape}
 use Rattle.study_page.specs.Sheet.{IsPlaceOf, IsPlace}
 use Rattle.study_sheet.specs.Sheet.{IsSheet, SheetFits}
 
@@ -37,3 +38,10 @@ pub no_fit : (given left old new : Option (List ℕ)) → TakesPrefix old new sh
     → IfSome given (λ bytes. SheetFits bytes left old new (Err WriteDevice))
 no_fit None left old new h = tt
 no_fit (Some script) left old new h = inl (refl, h)
+
+pub sheet_shape : (left old new given : Option (List ℕ)) (ran answer : Result Summary RunFault) → IfSome given (λ bytes. Shape bytes left ran)
+    → IsEnded closing old new ran answer → IfSome given (λ bytes. FileShape bytes left answer)
+sheet_shape left old new given ran answer h end = whole_shape left old new given closing ran answer h end
+
+pub no_sheet_shape : (given : Option (List ℕ)) → IfSome given (λ bytes. FileShape bytes given (Err WriteDevice))
+no_sheet_shape given = no_shape given
