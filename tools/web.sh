@@ -42,7 +42,7 @@ wasm-opt --enable-memory64 --enable-bulk-memory --enable-sign-ext --enable-mutab
 # ---- the page
 for it in main worker; do
     # (from its own folder, since esbuild writes where each module stands into a comment)
-    (cd "$top/web" && esbuild "src/$it.js" --bundle --minify-whitespace --format=iife --target=es2020 --charset=utf8 --log-level=warning --outfile="$work/out/$it.js")
+    (cd "$top/web" && esbuild "src/$it.js" --bundle --minify --format=iife --target=es2020 --charset=utf8 --log-level=warning --outfile="$work/out/$it.js")
 done
 python3 "$top/tools/web_page.py" out/main.js out/worker.js out/$name.64.wasm out/$name.32.wasm out/studyboard.html
 mv out/studyboard.html "$top/web/out/studyboard.html"

@@ -11,6 +11,7 @@ import gzip
 import hashlib
 import os
 import re
+import struct
 import sys
 
 WEB = os.path.join(os.path.dirname(os.path.abspath(__file__)), "..", "web")
@@ -21,9 +22,32 @@ def read(path):
         return file.read()
 
 
+LETTERS = [chr(code) for code in range(33, 127) if chr(code) not in "\"&'-<>\\`~"]
+
+
+def sections(module):
+    """The sections of a WebAssembly module, each with its kind."""
+    at = 8
+    while at < len(module):
+        start, kind, size, shift = at, module[at], 0, 0
+        while True:
+            at += 1
+            size |= (module[at] & 127) << shift
+            shift += 7
+            if module[at] < 128:
+                break
+        at += 1 + size
+        yield kind, module[start:at]
+
+
 def packed(path):
+    """A module without names, which no browser runs, packed: the number of bytes, and five letters for four bytes (web/src/packed.js)."""
     with open(path, "rb") as file:
-        return base64.b64encode(gzip.compress(file.read(), 9, mtime=0)).decode()
+        module = file.read()
+    data = gzip.compress(module[:8] + b"".join(text for kind, text in sections(module) if kind != 0), 9, mtime=0)
+    words = struct.iter_unpack(">I", data + bytes(-len(data) % 4))
+    letters = "".join("".join(LETTERS[word // 85 ** power % 85] for power in (4, 3, 2, 1, 0)) for (word,) in words)
+    return "%d %s" % (len(data), letters)
 
 
 def digest(text):

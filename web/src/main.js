@@ -13,6 +13,7 @@ import { back, forth, listenToKeys } from './keys.js';
 import { savedGames } from './notes.js';
 import { fensOf, gameLines, joined, savedScript } from './script.js';
 import { begin, closeSetup, judge, openSetup } from './setup.js';
+import { bytesOf } from './packed.js';
 import { makeReaders } from './readers.js';
 import { makeShelf } from './shelf.js';
 import { show, showFacts, showJudged, showProgress, watch } from './show.js';
@@ -28,8 +29,7 @@ const whole = new Promise(on => document.addEventListener('DOMContentLoaded', on
  * @returns {Promise<Uint8Array>}
  */
 async function unpacked(id) {
-  const text = $(id).textContent.trim(), Bytes = /** @type {any} */ (Uint8Array);
-  const packed = Bytes.fromBase64 ? Bytes.fromBase64(text) : Uint8Array.from(atob(text), letter => letter.charCodeAt(0));
+  const packed = bytesOf($(id).textContent);
   return new Uint8Array(
       await new Response(new Blob([packed]).stream().pipeThrough(new (/** @type {any} */ (window).DecompressionStream)('gzip'))).arrayBuffer());
 }
