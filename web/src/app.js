@@ -22,9 +22,9 @@ export function opened(before) {
   const refused = doc().refused.length,
         place = before.studies.length ? 'The document before is kept: Undo brings it back, and Documents lists it.' :
                                         '';
-  if (app.say || !(refused || place || doc().note)) return;
+  if (app.say || !(refused || place)) return;
   const lines = refused ? `${counted(refused, 'line')} of this script ${refused === 1 ? 'was' : 'were'} refused; they are listed below the study. ` : '';
-  say('board', lines + (doc().note && `${doc().note} `) + place, !refused && !doc().note);
+  say('board', lines + place, !refused);
   parts.show();
 }
 

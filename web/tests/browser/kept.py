@@ -241,21 +241,22 @@ def test_studybench_takes_what_is_saved(user):
             assert replies(bad)[1] == 3
 
 
-def test_what_of_a_pgn_is_not_kept(user):
+def test_what_a_pgn_says_beside_its_moves_is_kept(user):
     user.open_tables(TABLES, SMALL)
     user.open_file("entries.pgn", PGN)
     user.until("document.getElementById('stamp')", 30)
     user.settle()
-    words = "Not kept of this PGN: 3 comments, 4 symbols, 2 tags."
-    assert words in user.text("sayBoard") and words in user.text("notKept")
-    assert user.download("savePgn")[0] == "entries.checked.pgn"
+    assert "1 game, 1 study" in user.text("notKept")
+    name, saved = user.download("savePgn")
+    said = ('[Annotator "an editor"]', '[Source "a book"]', "{A study for practice.}", "{The only move}", "{draws [%cal Gg5f6]}")
+    assert name == "entries.checked.pgn" and all(words in saved.replace("\n", " ") for words in said), saved
     reload(user)
-    assert words in user.text("notKept") and user.download("savePgn")[0] == "entries.checked.pgn"
+    assert "1 game, 1 study" in user.text("notKept") and user.download("savePgn") == (name, saved)
     own = user.promise("studyboard.pgn()")
     user.open_file("own.pgn", own)
     user.until("!document.getElementById('notKept')", 30)
     user.settle()
-    assert user.promise("studyboard.pgn()") == own and "Not kept" not in user.text("sayBoard")
+    assert user.promise("studyboard.pgn()") == own
 
 
 def test_a_refused_position_of_the_same_men(user):
