@@ -7,5 +7,5 @@ pub mod Verdict
 pub mod Rows
 pub mod Tree
 pub mod Made
-pub mod Page
 pub mod Lists
+pub mod Page
