@@ -90,13 +90,13 @@ fn each_study_has_its_place(rt: HostRuntime) -> Result<(), Fail> {
 fn a_full_writer_has_the_front_of_the_sheet(rt: HostRuntime) -> Result<(), Fail> {
     let alloc = rt.alloc();
     let (whole, _) = sheet_to(&rt, &alloc, MemoryWriter::new(&alloc));
-    for left in [whole.len() - 3, 700, 1] {
-        assert!(rt; left <= whole.len());
-        let room = whole.len() - left;
+    for left in [whole.len().saturating_sub(3), 700, 1] {
+        let room = whole.len().saturating_sub(left);
         let writer = MemoryWriter::with_room(&alloc, room, WhenFull::Fail);
         let (text, answer) = sheet_to(&rt, &alloc, writer);
         assert!(rt; answer == Err(RunFault::WriteDevice));
-        assert!(rt; text.as_slice() == &whole.as_slice()[..room]);
+        assert!(rt; text.len() == room);
+        assert!(rt; whole.as_slice().starts_with(text.as_slice()));
     }
     Ok(())
 }
