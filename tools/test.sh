@@ -9,7 +9,7 @@
 #   SECONDS_EACH=300 ..       the most that a test or a program may take, beside the others; else 120
 #
 # A program runs by `rt try` on its files stdin, args and data, and its output and exit status are compared with its files stdout and status, as in
-# the gate. studybench also answers five scripts of the gallery that need no table of four men. Tests run by `rt try --test`. What a slow machine cuts
+# the gate. studybench also answers two scripts of the gallery, of king and queen and of king and rook. Tests run by `rt try --test`. What a slow machine cuts
 # is no failure: such lines end with 'not ended', are counted apart, and say nothing of the program. finding_lists, gallery and test_large walk classes
 # of four men, and studyimport reads 36 KB of games, which only compiled programs do in time: the gate alone runs them.
 #
@@ -23,12 +23,11 @@ case $limit$jobs in *[!0-9]*) say "SECONDS_EACH and JOBS are numbers" ;; esac
 is_tests() { grep -qr '#\[test\]' "crates/$1/src"; }
 # Those that take longest come first, so that none runs alone at the end.
 all() {
-    for it in test_script test_tables test_find test_review test_study; do echo "$it"; done
+    for it in test_script test_tables test_find test_review test_study cases; do echo "$it"; done
     for it in crates/*; do
         name=$(basename "$it")
         case " test_script test_tables test_find test_review test_study$large" in *" $name "*) continue ;; esac
         if [ -f "$it/src/main.rt" ] || is_tests "$name"; then echo "$name"; fi
-        [ "$name" = studybench ] && echo cases
     done
 }
 programs() { for it in crates/*/src/main.rt; do name=$(basename "${it%/src/main.rt}"); case $large in *" $name "*) ;; *) echo "$name" ;; esac; done; }
@@ -64,14 +63,13 @@ program() {
     else echo "program $1 ... FAILED (status $status, wanted $want)"; fi
 }
 
-# Scripts of the gallery that need no table of four men, each as standard input of studybench; of those that build the table of king and pawn, one
+# Two scripts of the gallery, each as standard input of studybench; that of its own sample builds the table of king and pawn
 cases() {
     mkdir "$out/cases"
-    while read -r name; do
-        case $name in knnk_* | kpk_into_* | kpk_longest_* | kpk_rook_*) continue ;; esac
+    for name in kqk_mate_3 krk_waiting; do
         cp "crates/gallery/data/$name.script" "$out/cases/$name"
         cp "crates/gallery/data/$name.expected" "$out/cases/$name.stdout"
-    done < crates/gallery/args
+    done
     (cd crates/studybench && rt try --seconds "$limit" --cases "$out/cases") > "$out/cases.log" 2>&1
     for it in "$out"/cases/*.stdout; do
         name=$(basename "$it" .stdout); line=$(grep "^case=$name " "$out/cases.log")
