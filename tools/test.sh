@@ -2,7 +2,7 @@
 # Runs the programs on their samples and the tests, side by side and without any proof, and ends with 'N passed, N failed'. For a first look, and
 # while code is written: it shows that they run and answer as expected. `rt ci` is the judge.
 #
-#   tools/test.sh             all of them, in some twelve minutes on four processors
+#   tools/test.sh             all of them, in nine and a half minutes on four processors
 #   tools/test.sh --short     the programs, and the tests of rules and of the board, in some three minutes
 #   tools/test.sh NAME..      these crates alone
 #   JOBS=2 tools/test.sh      two at a time; else one a processor
