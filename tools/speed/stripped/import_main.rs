@@ -1,6 +1,7 @@
 //! studyimport in plain Rust: the proved sources without their contracts, over the whole of standard input.
 #![allow(dead_code)]
 
+mod arrayvec;
 mod shim;
 mod study_board;
 mod study_command;

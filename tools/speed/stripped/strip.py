@@ -66,15 +66,16 @@ def as_plain(text, crate, is_root):
     return text
 
 
-def main(top, out):
-    for crate in CRATES:
+def write_modules(top, out, crates, plain):
+    """Each source of these crates as a module below the folder; plain makes plain Rust of a source."""
+    for crate in crates:
         folder = pathlib.Path(out) / crate
         folder.mkdir(parents=True, exist_ok=True)
         for source in (pathlib.Path(top) / "crates" / crate / "src").glob("*.rt"):
             is_root = source.name == "lib.rt"
             name = "mod.rs" if is_root else f"{source.stem}.rs"
-            (folder / name).write_text(as_plain(source.read_text(), crate, is_root))
+            (folder / name).write_text(plain(source.read_text(), crate, is_root))
 
 
 if __name__ == "__main__":
-    main(*sys.argv[1:])
+    write_modules(*sys.argv[1:], CRATES, as_plain)

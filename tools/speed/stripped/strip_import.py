@@ -5,11 +5,10 @@
 
 import_shim.rs stands for the kit's containers and for memory that is asked of an allocator.
 """
-import pathlib
 import re
 import sys
 
-from strip import without_ghosts
+from strip import without_ghosts, write_modules
 
 CRATES = ["study_text", "study_board", "study_moves", "study_material", "study_values", "study_notation", "study_tree", "study_marks",
           "study_command", "study_reply", "study_games", "study_import"]
@@ -38,14 +37,5 @@ def as_plain(text, crate, is_root):
     return text[:head].replace("#![tactic(auto)]\n", "") + "#[allow(unused_imports)]\nuse crate::shim::*;\n" + text[head:]
 
 
-def main(top, out):
-    for crate in CRATES:
-        folder = pathlib.Path(out) / crate
-        folder.mkdir(parents=True, exist_ok=True)
-        for source in (pathlib.Path(top) / "crates" / crate / "src").glob("*.rt"):
-            is_root = source.name == "lib.rt"
-            name = "mod.rs" if is_root else f"{source.stem}.rs"
-            (folder / name).write_text(as_plain(source.read_text(), crate, is_root))
-
-
-main(*sys.argv[1:])
+if __name__ == "__main__":
+    write_modules(*sys.argv[1:], CRATES, as_plain)
