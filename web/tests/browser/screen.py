@@ -90,11 +90,8 @@ def test_a_refusal_does_not_lie_over_buttons(user):
     user.click("setUp")
     user.until("document.getElementById('startEmpty')", 30)
     user.js("scrollTo(0, 0)")
-    user.fill("fen", "8/8/8/6k1/8/8/1P6/K7 w - - 0 1")
-    user.until("document.getElementById('start') && !document.getElementById('start').disabled", 30)
-    user.click("start")
-    user.settle()
-    assert "Take the position without the moves" in user.text("setup")
+    user.fill("fen", "8/8/8/6k1/8/8/1PPP3K/7R w - - 0 1")
+    user.until("document.getElementById('setup').innerText.includes('four men')", 30)
     for name in ("startEmpty", "cancel"):
         user.js("document.getElementById(arguments[0]).scrollIntoView({block: 'nearest'})", name)
         time.sleep(0.2)
