@@ -11,12 +11,13 @@ ghost use Rattle.study_index.specs.Decoded.{passed_behind, is_cell, IsPlaced, Is
 ghost use Rattle.study_index.specs.Stepped.{are_like_slots};
 ghost use Rattle.study_board.specs.Men.{other_side};
 
-use crate::en_passant::{has_legal_en_passant, square_behind_pawn};
+use crate::en_passant::square_behind_pawn;
 use crate::least_image::least_image;
 use crate::number::listed_count;
 use crate::reading::{class_has_pawn, has_like_men, told_by};
 use study_board::{Kind, Man, Position, Side, Square, has_fault, in_order};
 use study_material::Class;
+use study_moves::has_legal_en_passant;
 use study_values::{EN_PASSANT_BIT, cells};
 
 /// What man fills a place in the order of a class.

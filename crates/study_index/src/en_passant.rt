@@ -1,47 +1,10 @@
-//! Captures in passing: whether one is legal, and the square that is passed.
-ghost use Rattle.std.specs.Prelude.{◌≡◌, ◌&&◌, ◌+◌, find, Some, None};
-ghost use Rattle.study_moves.specs.Rules.{is_en_passant, is_legal};
-ghost use Rattle.study_moves.specs.EnPassant.{has_legal_en_passant, is_taken};
+//! The square that a pawn has passed.
+ghost use Rattle.std.specs.Prelude.{◌≡◌, ◌+◌, find, Some, None};
 ghost use Rattle.study_board.specs.Men.{is_man};
 ghost use Rattle.study_board.specs.declared.men.Kind.TheVariants.{Pawn};
 ghost use Rattle.study_index.specs.Decoded.{square_behind, square_behind_pawn};
 
-use study_board::{Kind, Man, Position, Side, Square};
-use study_moves::{Move, is_en_passant, is_legal};
-
-/// Whether the man is a pawn that captures on the passed square by a legal move.
-#[inline]
-fn captures(p: &Position, man: &Man, x: Square) -> bool
-    ensures { result ≡ (is_en_passant p.now.passed man.now x && is_legal p.now (record { origin = man.now.at; target = x; promoted = None })) }
-{
-    is_en_passant(p.passed(), man, x)
-        && is_legal(
-            p,
-            Move {
-                origin: man.at,
-                target: x,
-                promoted: None,
-            },
-        )
-}
-
-/// Whether some man captures on this passed square.
-fn is_taken(p: &Position, x: Square) -> bool
-    ensures { result ≡ is_taken p.now (Some x) }
-{
-    p.men().iter().any(|man| captures(p, man, x))
-}
-
-/// Whether a capture in passing is legal.
-#[inline]
-pub fn has_legal_en_passant(p: &Position) -> bool
-    ensures { result ≡ has_legal_en_passant p.now }
-{
-    match p.passed() {
-        None => false,
-        Some(x) => is_taken(p, x),
-    }
-}
+use study_board::{Kind, Man, Side, Square};
 
 fn square_behind(side: Side, x: Square) -> u8
     ensures { result ≡ square_behind side x }

@@ -7,13 +7,13 @@ ghost use Rattle.study_values.specs.Canonical.{least, least_of};
 ghost use Rattle.study_index.specs.Squares.{square_symmetry, exchanged_at, descends_at, number_at, least_turned, least_at};
 
 use crate::colour_swap::is_swapped;
-use crate::en_passant::has_legal_en_passant;
 use crate::filling::{
     man_slot_number, placed, side_after, square_of_man, with_one, with_three, with_two,
 };
 use crate::number::{Frame, has_pawn, number};
 use crate::transform::turned;
 use study_board::{Man, Position, Square, Symmetry};
+use study_moves::has_legal_en_passant;
 use study_values::EN_PASSANT_BIT;
 
 /// The symmetry that brings the square to a listed one, if any does, written without a swap of colours: the ranks that

@@ -9,7 +9,7 @@ use Rattle.study_listing.specs.declared.filters.Selection.{Selection}
 use Rattle.study_search.specs.declared.themes.Theme.{Theme}
 use Rattle.study_search.specs.Finding.{AreFound}
 use Rattle.study_search.proofs.AllFound.{in-range, there, ascend}
-use Rattle.study_search.proofs.Zugzwangs.{one-value}
+use Rattle.study_zugzwang.proofs.Zugzwangs.{one-value}
 use Rattle.study_listing.specs.declared.facts.Facts.{Facts}
 use Rattle.study_listing.specs.declared.text.Form.{Form}
 use Rattle.study_listing.specs.declared.text.Form.TheVariants.{Lines, Script}

@@ -8,7 +8,7 @@ use Rattle.study_search.specs.declared.only_moves.Outcome.{Outcome}
 use Rattle.study_search.specs.declared.themes.Theme.{Theme}
 use Rattle.study_search.specs.declared.themes.Theme.TheVariants as theme
 use Rattle.study_search.specs.OnlyMoves.{IsKey}
-use Rattle.study_search.specs.Zugzwang.{handed_on}
+use Rattle.study_zugzwang.specs.Zugzwang.{handed_on}
 use Rattle.study_listing.specs.declared.facts.Facts.{Facts}
 use Rattle.study_listing.specs.declared.text.Form.{Form}
 use Rattle.study_listing.specs.declared.text.Form.TheVariants.{Lines, Script}

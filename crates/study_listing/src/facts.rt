@@ -8,8 +8,9 @@ ghost use Rattle.study_listing.specs.Facts.{AreFacts, IsOtherValue, IsOneKey, Sa
 
 use study_board::Position;
 use study_moves::{Move, values_are_unique};
-use study_search::{Outcome, Theme, handed_on, key_move};
+use study_search::{Outcome, Theme, key_move};
 use study_values::{ProbeFault, Value, Values};
+use study_zugzwang::handed_on;
 
 /// What the text of a position says of it.
 #[derive(Clone, Copy, Debug, PartialEq, Eq)]

@@ -5,7 +5,7 @@ ghost use Rattle.study_index.specs.Computed.{position_numbered};
 ghost use Rattle.study_material.specs.declared.class.Class.{Class as AClass};
 ghost use Rattle.study_search.specs.Finding.{IsFound, IsLookedFor};
 ghost use Rattle.study_search.specs.Pairs.{counterpart};
-ghost use Rattle.study_search.specs.Zugzwang.{handed_on};
+ghost use Rattle.study_zugzwang.specs.Zugzwang.{handed_on};
 ghost use Rattle.study_values.specs.Values.{IsNotDamage};
 ghost use Rattle.study_listing.specs.Filters.{first_placed, turns, HasWantedKey};
 ghost use Rattle.study_listing.specs.Lists.{has_like_sides, is_of_zugzwangs, is_for_white, is_paired, second_placed, shown};
@@ -16,8 +16,9 @@ use crate::text::{Form, Listed, text_of};
 use study_board::{Position, Side, Symmetry};
 use study_index::decode;
 use study_material::Class;
-use study_search::{Search, Theme, handed_on, is_listed_of_two};
+use study_search::{Search, Theme, is_listed_of_two};
 use study_values::{ProbeFault, Values};
+use study_zugzwang::handed_on;
 
 /// Whether both sides have the same men, so that each position has a colour image in the class.
 pub fn has_like_sides(class: Class) -> bool

@@ -8,8 +8,8 @@ use Rattle.study_board.specs.Men.{same_side, other_side}
 use Rattle.study_board.specs.Position.{Position, IsValid}
 use Rattle.study_moves.specs.EnPassant.{has_legal_en_passant}
 use Rattle.study_moves.specs.Laws.{EachHasAtMostOneValue}
-use Rattle.study_search.specs.Zugzwang.{IsZugzwang, Scores, ScoreLessThanAPoint, handed_on}
-use Rattle.study_search.proofs.Zugzwangs.{one-score}
+use Rattle.study_zugzwang.specs.Zugzwang.{IsZugzwang, Scores, ScoreLessThanAPoint, handed_on}
+use Rattle.study_zugzwang.proofs.Zugzwangs.{one-score}
 use Rattle.study_review.specs.declared.zugzwang.Zugzwang.{Zugzwang}
 use Rattle.study_review.specs.declared.zugzwang.Zugzwang.TheVariants.{Full, Half}
 use Rattle.study_review.specs.Zugzwang.{turned_to, IsZugzwangOf, kind_of}

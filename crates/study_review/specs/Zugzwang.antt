@@ -6,7 +6,7 @@ use Rattle.study_board.specs.Men.{same_side, other_side}
 use Rattle.study_board.specs.Position.{Position}
 use Rattle.study_marks.specs.declared.mark.Mark.{Mark}
 use Rattle.study_marks.specs.Study.{Study, position_at}
-use Rattle.study_search.specs.Zugzwang.{IsZugzwang, Scores, handed_on}
+use Rattle.study_zugzwang.specs.Zugzwang.{IsZugzwang, Scores, handed_on}
 use Rattle.study_review.specs.declared.zugzwang.Zugzwang.{Zugzwang}
 use Rattle.study_review.specs.declared.zugzwang.Zugzwang.TheVariants.{Full, Half}
 use Rattle.study_review.specs.Words.{front_words}

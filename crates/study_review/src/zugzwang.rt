@@ -1,22 +1,21 @@
 //! Mutual zugzwangs at the nodes of a study.
-ghost use Rattle.std.specs.Prelude.{◌≡◌, ◌++◌, ◌<◌, ◌&&◌, false, Some, OnOk, IfOk, IfErr, IsErrOf};
+ghost use Rattle.std.specs.Prelude.{◌≡◌, ◌++◌, ◌<◌, false, OnOk, IfOk, IfErr, IsErrOf};
 ghost use Rattle.study_board.specs.Position.{IsValid};
 ghost use Rattle.study_material.specs.declared.class.Class.{Class as AClass};
-ghost use Rattle.study_moves.specs.EnPassant.{has_legal_en_passant, is_taken};
-ghost use Rattle.study_moves.specs.Rules.{is_en_passant, is_legal};
+ghost use Rattle.study_moves.specs.EnPassant.{has_legal_en_passant};
 ghost use Rattle.study_values.specs.Values.{IsNotDamage};
 ghost use Rattle.study_marks.specs.Told.{failures_told};
-ghost use Rattle.study_search.specs.Zugzwang.{Scores, handed_on};
+ghost use Rattle.study_zugzwang.specs.Zugzwang.{Scores, handed_on};
 ghost use Rattle.study_review.specs.Asked.{HasTold, within};
 ghost use Rattle.study_review.specs.Zugzwang.{IsZugzwangOf, kind_of, zugzwang_words, zugzwang_line};
 
 use crate::words::add_front;
 use std::alloc::{AllocError, Allocator};
-use study_board::{Man, Position, Side, Square};
-use study_moves::{Move, is_en_passant, is_legal, values_are_unique};
-use study_search::{half_points, handed_on};
+use study_board::{Position, Side};
+use study_moves::{has_legal_en_passant, values_are_unique};
 use study_text::Text;
 use study_values::{ProbeFault, Values};
+use study_zugzwang::{half_points, handed_on};
 
 /// A mutual zugzwang: for a full point, where each side loses if it is to move; or for half a point of a side, which draws if it is to
 /// move, and wins if the other is.
@@ -24,38 +23,6 @@ use study_values::{ProbeFault, Values};
 pub enum Zugzwang {
     Full,
     Half(Side),
-}
-
-/// Whether the man is a pawn that captures on the passed square by a legal move.
-fn captures(p: &Position, man: &Man, x: Square) -> bool
-    ensures { result ≡ (is_en_passant p.now.passed man.now x && is_legal p.now (record { origin = man.now.at; target = x; promoted = None })) }
-{
-    is_en_passant(p.passed(), man, x)
-        && is_legal(
-            p,
-            Move {
-                origin: man.at,
-                target: x,
-                promoted: None,
-            },
-        )
-}
-
-/// Whether some man captures on this passed square.
-fn is_taken(p: &Position, x: Square) -> bool
-    ensures { result ≡ is_taken p.now (Some x) }
-{
-    p.men().iter().any(|man| captures(p, man, x))
-}
-
-/// Whether a capture in passing is legal. (study_index and study_search have the same and keep it to themselves.)
-fn has_legal_en_passant(p: &Position) -> bool
-    ensures { result ≡ has_legal_en_passant p.now }
-{
-    match p.passed() {
-        None => false,
-        Some(x) => is_taken(p, x),
-    }
 }
 
 /// How many half points the side to move scores.

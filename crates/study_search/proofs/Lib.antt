@@ -1,4 +1,3 @@
-pub mod Zugzwangs
 pub mod OnlyMoves
 mod OneMove
 mod ThemeImages

@@ -15,7 +15,7 @@ use Rattle.study_values.specs.Index.{index_of, least_number}
 use Rattle.study_values.specs.declared.value.Value.{Value}
 use Rattle.study_values.specs.declared.value.Value.TheVariants.{Win, Loss, Draw}
 use Rattle.study_values.specs.Game.{IsValueOf}
-use Rattle.study_search.specs.Zugzwang.{IsZugzwang, half_points, handed_on}
+use Rattle.study_zugzwang.specs.Zugzwang.{IsZugzwang, half_points, handed_on}
 use Rattle.study_search.specs.Laws.{colours_swapped}
 use Rattle.study_search.specs.Pairs.{counterpart, ComesFirst, IsOneOfTwo, OneOfTwoIsListed}
 use Rattle.study_search.proofs.ThemeImages.{handed-image, value-image}

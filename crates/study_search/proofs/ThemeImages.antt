@@ -28,7 +28,7 @@ use Rattle.study_search.specs.declared.only_moves.Outcome.{Outcome}
 use Rattle.study_search.specs.declared.only_moves.Outcome.TheVariants.{Win, Draw}
 use Rattle.study_search.specs.declared.themes.Theme.{Theme}
 use Rattle.study_search.specs.declared.themes.Theme.TheVariants as theme
-use Rattle.study_search.specs.Zugzwang.{IsZugzwang, Scores, handed_on}
+use Rattle.study_zugzwang.specs.Zugzwang.{IsZugzwang, Scores, handed_on}
 use Rattle.study_search.specs.OnlyMoves.{Has, Holds, IsOnlyMove, IsKey, HasOnlyMoves}
 use Rattle.study_search.specs.Themes.{Underpromotes, LeadsIntoZugzwang, spoiling, FailsIntoZugzwang, HasTheme}
 

@@ -1,4 +1,3 @@
-pub mod Zugzwang
 pub mod OnlyMoves
 pub mod Listed
 pub mod Themes

@@ -5,7 +5,7 @@ use Rattle.study_board.specs.Position.{Position, IsValid}
 use Rattle.study_board.specs.Symmetry.{image}
 use Rattle.study_moves.specs.Game.{IsDrawn}
 use Rattle.study_values.specs.Index.{index_of}
-use Rattle.study_search.specs.Zugzwang.{handed_on, IsZugzwang}
+use Rattle.study_zugzwang.specs.Zugzwang.{handed_on, IsZugzwang}
 use Rattle.study_search.specs.Laws.{colours_swapped}
 
 -- the other of the two

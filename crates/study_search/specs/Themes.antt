@@ -10,7 +10,7 @@ use Rattle.study_search.specs.declared.only_moves.Outcome.{Outcome}
 use Rattle.study_search.specs.declared.only_moves.Outcome.TheVariants.{Win, Draw}
 use Rattle.study_search.specs.declared.themes.Theme.{Theme}
 use Rattle.study_search.specs.declared.themes.Theme.TheVariants as theme
-use Rattle.study_search.specs.Zugzwang.{IsZugzwang}
+use Rattle.study_zugzwang.specs.Zugzwang.{IsZugzwang}
 use Rattle.study_search.specs.OnlyMoves.{IsOnlyMove, IsKey, HasOnlyMoves}
 
 -- a rook, a bishop or a knight

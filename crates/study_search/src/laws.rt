@@ -1,5 +1,4 @@
 //! Laws over the definitions: functions that do nothing.
-ghost use Rattle.study_search.specs.Zugzwang.{ZugzwangsAreMutual};
 ghost use Rattle.study_search.specs.Pairs.{OneOfTwoIsListed};
 ghost use Rattle.study_search.specs.Laws.{EachIsFoundOnce, OneOfTwoImagesIsFound, NextFoundsAreAll, FewerOnlyMoves};
 
@@ -23,13 +22,6 @@ pub fn one_of_two_images_is_found()
 pub fn next_founds_are_all()
     ensures { NextFoundsAreAll }
 {}
-
-/// A mutual zugzwang is one with the other side to move, too.
-pub fn zugzwangs_are_mutual()
-    ensures { ZugzwangsAreMutual }
-{
-    bare_agrees();
-}
 
 /// Where the hero has to find so many only moves in a row he has to find fewer, too.
 pub fn fewer_only_moves()

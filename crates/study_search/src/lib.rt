@@ -6,7 +6,6 @@
 //! position of the class that has the theme has an image among them, exactly one.
 #![tactic(auto)]
 
-mod en_passant;
 mod finding;
 mod laws;
 mod longest;
@@ -18,10 +17,10 @@ mod zugzwang;
 pub use finding::{Search, most_only_moves, next_found};
 pub use laws::{
     each_is_found_once, fewer_only_moves, next_founds_are_all, one_of_two_images_is_found,
-    one_of_two_is_listed, zugzwangs_are_mutual,
+    one_of_two_is_listed,
 };
 pub use longest::longest_mate;
 pub use only_moves::{Outcome, has_only_moves, key_move, only_move};
 pub use pairs::is_listed_of_two;
 pub use themes::{Theme, has_theme, is_underpromotion};
-pub use zugzwang::{half_points, handed_on, is_zugzwang};
+pub use zugzwang::is_zugzwang;

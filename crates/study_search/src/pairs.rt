@@ -5,14 +5,14 @@ ghost use Rattle.study_material.specs.declared.class.Class.{Class as AClass};
 ghost use Rattle.study_moves.specs.Game.{IsDrawn};
 ghost use Rattle.study_values.specs.Index.{index_of};
 ghost use Rattle.study_values.specs.Values.{IsNotDamage};
-ghost use Rattle.study_search.specs.Zugzwang.{handed_on};
+ghost use Rattle.study_zugzwang.specs.Zugzwang.{handed_on};
 ghost use Rattle.study_search.specs.Pairs.{ComesFirst, IsListedOfTwo};
 
 use crate::only_moves::{Outcome, has};
-use crate::zugzwang::handed_on;
 use study_board::{Position, Symmetry};
 use study_index::index;
 use study_values::{ProbeFault, Values};
+use study_zugzwang::handed_on;
 
 /// Whether the second of two positions is not drawn, and the number of the first is no higher.
 fn has_lower_number<V: Values>(

@@ -1,38 +1,14 @@
 //! Mutual zugzwangs: with either side to move the men are a position, and the two who are to move score less than one
 //! point between them.
-ghost use Rattle.std.specs.Prelude.{◌≡◌, ◌<◌, ◌↔◌, true, false, IfOk, IfErr, IfSome, IfNone, IsErrOf};
-ghost use Rattle.study_board.specs.Position.{IsValid};
+ghost use Rattle.std.specs.Prelude.{◌≡◌, ◌<◌, ◌↔◌, true, false, IfOk, IfErr, IsErrOf};
 ghost use Rattle.study_material.specs.declared.class.Class.{Class as AClass};
 ghost use Rattle.study_values.specs.Values.{IsNotDamage};
-ghost use Rattle.study_search.specs.Zugzwang.{half_points, handed_on, Scores, ScoresLessThan, ScoreLessThanAPoint, IsZugzwang};
+ghost use Rattle.study_zugzwang.specs.Zugzwang.{Scores, ScoresLessThan, ScoreLessThanAPoint, IsZugzwang};
 
-use crate::en_passant::has_legal_en_passant;
 use study_board::Position;
-use study_moves::values_are_unique;
-use study_values::{ProbeFault, Value, Values};
-
-/// What the side to move scores, in half points.
-pub fn half_points(value: Value) -> u8
-    ensures value { result ≡ half_points value }
-    ensures few { result < 3 }
-{
-    match value {
-        Value::Loss(_) => 0,
-        Value::Draw => 1,
-        Value::Win(_) => 2,
-    }
-}
-
-/// The same men with the other side to move and nothing passed, if that is a position.
-pub fn handed_on(p: &Position) -> Option<Position>
-    ensures none { IfNone result (¬ (IsValid (handed_on p.now))) }
-    ensures some { IfSome result (λ q. (q ≡ handed_on p.now) × IsValid q) }
-{
-    match Position::new(p.men(), p.to_move().other(), None) {
-        Ok(q) => Some(q),
-        Err(_) => None,
-    }
-}
+use study_moves::{has_legal_en_passant, values_are_unique};
+use study_values::{ProbeFault, Values};
+use study_zugzwang::{half_points, handed_on};
 
 /// How many half points the side to move scores.
 fn score<V: Values>(p: &Position, values: &mut V) -> Result<u8, ProbeFault>

@@ -2,7 +2,7 @@ use Rattle.std.proofs.Common.{◌≡◌, true, ◌↔◌, IfOk, subst}
 use Rattle.study_board.specs.Position.{Position}
 use Rattle.study_moves.specs.Rules.{after}
 use Rattle.study_search.specs.declared.only_moves.Outcome.{Outcome}
-use Rattle.study_search.specs.Zugzwang.{IsZugzwang}
+use Rattle.study_zugzwang.specs.Zugzwang.{IsZugzwang}
 use Rattle.study_search.specs.OnlyMoves.{IsOnlyMove}
 use Rattle.study_search.specs.Themes.{spoiling}
 use Rattle.study_search.proofs.OneMove.{IsOne, one-none, one-some}

@@ -1,7 +1,7 @@
 use Rattle.std.proofs.Common.{◌≡◌, true, ◌↔◌, IfOk, subst}
 use Rattle.study_board.specs.Position.{Position}
 use Rattle.study_moves.specs.Rules.{after}
-use Rattle.study_search.specs.Zugzwang.{IsZugzwang}
+use Rattle.study_zugzwang.specs.Zugzwang.{IsZugzwang}
 use Rattle.study_search.specs.OnlyMoves.{IsKey}
 use Rattle.study_search.proofs.OneMove.{one-none, one-some}
 use Rattle.study_search.proofs.themes.leads_into_zugzwang.Goals as goal

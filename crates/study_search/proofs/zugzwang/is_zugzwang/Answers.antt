@@ -1,5 +1,5 @@
 use Rattle.std.proofs.Common.{sym, ◌∙◌}
-use Rattle.study_search.proofs.Zugzwangs.{no-zugzwang, no-other, zugzwang-by}
+use Rattle.study_zugzwang.proofs.Zugzwangs.{no-zugzwang, no-other, zugzwang-by}
 use Rattle.study_search.proofs.zugzwang.is_zugzwang.Goals as goal
 
 pub returns-then-passing-clause-game : goal.returns-then-passing-clause-game

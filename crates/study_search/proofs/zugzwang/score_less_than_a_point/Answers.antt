@@ -1,4 +1,4 @@
-use Rattle.study_search.proofs.Zugzwangs.{won-enough, rest-by}
+use Rattle.study_zugzwang.proofs.Zugzwangs.{won-enough, rest-by}
 use Rattle.study_search.proofs.zugzwang.score_less_than_a_point.Goals as goal
 
 pub returns-then-points-eq2-clause-game : goal.returns-then-points-eq2-clause-game

@@ -1,4 +1,4 @@
-use Rattle.study_search.proofs.Zugzwangs.{less-by}
+use Rattle.study_zugzwang.proofs.Zugzwangs.{less-by}
 use Rattle.study_search.proofs.zugzwang.scores_less_than.Goals as goal
 
 pub returns-in-Ok-clause-game : goal.returns-in-Ok-clause-game

@@ -1,10 +1,11 @@
-//! Whether a capture in passing is legal. (study_index has the same and keeps it to itself; both are for study_moves.)
+//! Whether a capture in passing is legal.
 ghost use Rattle.std.specs.Prelude.{◌≡◌, ◌&&◌, Some};
 ghost use Rattle.study_moves.specs.Rules.{is_en_passant, is_legal};
 ghost use Rattle.study_moves.specs.EnPassant.{has_legal_en_passant, is_taken};
 
+use crate::legal::{is_en_passant, is_legal};
+use crate::moves::Move;
 use study_board::{Man, Position, Square};
-use study_moves::{Move, is_en_passant, is_legal};
 
 /// Whether the man is a pawn that captures on the passed square by a legal move.
 #[inline]

@@ -1,6 +1,6 @@
 use Rattle.std.proofs.Common.{rules}
-use Rattle.study_search.proofs.Zugzwangs.{handed_on_is}
-use Rattle.study_search.proofs.zugzwang.handed_on.Goals as goal
+use Rattle.study_zugzwang.proofs.Zugzwangs.{handed_on_is}
+use Rattle.study_zugzwang.proofs.zugzwang.handed_on.Goals as goal
 
 pub returns-in-Ok-clause-some : goal.returns-in-Ok-clause-some
 returns-in-Ok-clause-some c = (

@@ -14,7 +14,7 @@ use Rattle.study_index.proofs.MenInOrder.{ascending_same}
 use Rattle.study_values.specs.declared.value.Value.{Value}
 use Rattle.study_values.specs.declared.value.Value.TheVariants.{Win, Loss, Draw}
 use Rattle.study_values.specs.Game.{IsValueOf}
-use Rattle.study_search.specs.Zugzwang.{ZugzwangsAreMutual, IsZugzwang, Scores, ScoresLessThan, ScoreLessThanAPoint, half_points, handed_on}
+use Rattle.study_zugzwang.specs.Zugzwang.{ZugzwangsAreMutual, IsZugzwang, Scores, ScoresLessThan, ScoreLessThanAPoint, half_points, handed_on}
 
 abbrev of : List Man → Side → Option ℕ → Position
 of xs s x = record { men = xs; to_move = s; passed = x }
