@@ -73,6 +73,7 @@ unfoldable pub sheet_style : List ℕ
 sheet_style =
     codes "body{max-width:178mm}\nbody>figure{display:inline-block;width:59mm;height:68mm;vertical-align:top;break-inside:avoid}\nbody>figure svg.board"
     ++ codes "{width:50mm}\nbody>figure figcaption{margin:.5mm 2mm 0;font-size:8.5pt;line-height:1.3}\nbody>figure figcaption b{font-size:9.5pt}\n"
+    ++ codes ".defs{display:block}\n"
 
 unfoldable pub sheet_opening : List ℕ
 sheet_opening = front ++ (sheet_style ++ back)

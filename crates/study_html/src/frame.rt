@@ -76,7 +76,8 @@ fn sheet_style() -> &'static [u8]
     ensures { result.now ≡ sheet_style }
 {
     b"body{max-width:178mm}\nbody>figure{display:inline-block;width:59mm;height:68mm;vertical-align:top;break-inside:avoid}\nbody>figure svg.board\
-{width:50mm}\nbody>figure figcaption{margin:.5mm 2mm 0;font-size:8.5pt;line-height:1.3}\nbody>figure figcaption b{font-size:9.5pt}\n"
+{width:50mm}\nbody>figure figcaption{margin:.5mm 2mm 0;font-size:8.5pt;line-height:1.3}\nbody>figure figcaption b{font-size:9.5pt}\n\
+.defs{display:block}\n"
 }
 
 #[tactic(auto, unfolding(crate::specs::Frame::closing))]
