@@ -84,7 +84,8 @@ pub fn answer_script<F: Files, R: Read, W: Write, E: Write, A: Allocator>(
     out: &mut W,
     errors: &mut E,
 ) -> u8
-    ensures { EndsBy (HasRun (is_some options.now.pages) options.now.separate (R.remaining script.old) (R.remaining script.new) (W.contents out.old) (W.contents out.new))
+    ensures { EndsBy (HasRun (is_some options.now.pages) options.now.separate (R.remaining script.old) (R.remaining script.new)
+        (W.contents out.old) (W.contents out.new))
         result (E.contents errors.old) (E.contents errors.new) }
 {
     let mut answer = run_over_files(files, alloc, options, script, out);
@@ -114,7 +115,8 @@ pub fn run_over_files<F: Files, R: Read, W: Write, A: Allocator>(
     script: &mut R,
     out: &mut W,
 ) -> Result<Summary, RunFault>
-    ensures { HasRun (is_some options.now.pages) options.now.separate (R.remaining script.old) (R.remaining script.new) (W.contents out.old) (W.contents out.new) result }
+    ensures { HasRun (is_some options.now.pages) options.now.separate (R.remaining script.old) (R.remaining script.new)
+        (W.contents out.old) (W.contents out.new) result }
 {
     let Ok(mut store) = FolderStore::new(files, alloc, options.tables) else {
         return Err(RunFault::OutOfMemory);

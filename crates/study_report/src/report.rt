@@ -70,7 +70,8 @@ pub trait Report {
         ensures listed { (told : List (Plainly × ℕ)) → V.is_honest values.old → IsKeptRight bench.now → lists self.old told
             → OnOk result (lists self.new (told ++ (plain_study (marked bench.now), number) ∷ [])) }
         ensures unlisted { (told : List (Plainly × ℕ)) → lists self.old told → OnErr result (lists self.new told) }
-        ensures asked { HasReviewed V.held (within (marked bench.now).start.position V.gives) V.may_fail V.asked_of V.failed_of V.is_honest values.old result values.new };
+        ensures asked { HasReviewed V.held (within (marked bench.now).start.position V.gives)
+            V.may_fail V.asked_of V.failed_of V.is_honest values.old result values.new };
 
     /// Tells of a refused line: its number, its bytes, and the script's reply to it.
     fn add_refusal<'a, A: Allocator, W: Write>(

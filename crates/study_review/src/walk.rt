@@ -56,7 +56,8 @@ fn add_lines<'a, 'b, A: Allocator, B: Allocator, V: Values>(
     ensures faults { V.is_honest values.old → OnOk result (Grew (FaultLines (marked bench.now) steps.now) draft.old.faults draft.new.faults) }
     ensures time { V.is_honest values.old → OnOk result (Rose (IsTimeFault (marked bench.now) steps.now) draft.old.time_faults draft.new.time_faults) }
     ensures nodes { V.is_honest values.old → OnOk result (Grew (NodeLines (marked bench.now) steps.now) draft.old.nodes draft.new.nodes) }
-    ensures asked { HasAsked V.held (within (marked bench.now).start.position V.gives) V.may_fail V.asked_of V.failed_of V.is_honest values.old result values.new }
+    ensures asked { HasAsked V.held (within (marked bench.now).start.position V.gives)
+        V.may_fail V.asked_of V.failed_of V.is_honest values.old result values.new }
 {
     let first = bench.start();
     let (before, here) = stands;
@@ -119,7 +120,8 @@ fn enter<'a, 'b, A: Allocator, B: Allocator, V: Values>(
     ensures time { V.is_honest values.old → OnOk result (Rose (IsTimeFault (marked bench.now) trail.new.steps.items)
         draft.old.time_faults draft.new.time_faults) }
     ensures nodes { V.is_honest values.old → OnOk result (Grew (NodeLines (marked bench.now) trail.new.steps.items) draft.old.nodes draft.new.nodes) }
-    ensures asked { HasAsked V.held (within (marked bench.now).start.position V.gives) V.may_fail V.asked_of V.failed_of V.is_honest values.old result values.new }
+    ensures asked { HasAsked V.held (within (marked bench.now).start.position V.gives)
+        V.may_fail V.asked_of V.failed_of V.is_honest values.old result values.new }
 {
     let first = bench.start();
     trail.steps.push(place)?;
@@ -168,7 +170,8 @@ fn add_below<'a, 'b, A: Allocator, B: Allocator, V: Values>(
         draft.old.time_faults draft.new.time_faults) }
     ensures nodes { V.is_honest values.old → OnOk result (Grew (LinesOfEach (NodeLines (marked bench.now))
         (paths_from trail.old.steps.items 0 (below_at (marked bench.now).tree.below trail.old.steps.items))) draft.old.nodes draft.new.nodes) }
-    ensures asked { HasAsked V.held (within (marked bench.now).start.position V.gives) V.may_fail V.asked_of V.failed_of V.is_honest values.old result values.new }
+    ensures asked { HasAsked V.held (within (marked bench.now).start.position V.gives)
+        V.may_fail V.asked_of V.failed_of V.is_honest values.old result values.new }
 {
     for place in 0..stand.children {
         let next = enter(alloc, draft, trail, bench, aim, stand, place, values)?;
@@ -195,7 +198,8 @@ fn add_root<'a, 'b, A: Allocator, B: Allocator, V: Values>(
     ensures faults { draft.new.faults ≡ draft.old.faults }
     ensures time { draft.new.time_faults ≡ draft.old.time_faults }
     ensures nodes { V.is_honest values.old → OnOk result (Grew (NodeLines (marked bench.now) []) draft.old.nodes draft.new.nodes) }
-    ensures asked { HasAsked V.held (within (marked bench.now).start.position V.gives) V.may_fail V.asked_of V.failed_of V.is_honest values.old result values.new }
+    ensures asked { HasAsked V.held (within (marked bench.now).start.position V.gives)
+        V.may_fail V.asked_of V.failed_of V.is_honest values.old result values.new }
 {
     let here = Here {
         node: Node {
@@ -247,7 +251,8 @@ pub fn add_all<'a, 'b, A: Allocator, B: Allocator, V: Values>(
     ensures time { V.is_honest values.old → OnOk result (Rose (AreTimeFaults (marked bench.now)) draft.old.time_faults draft.new.time_faults) }
     ensures nodes { V.is_honest values.old → OnOk result (Grew (LinesOfEach (NodeLines (marked bench.now)) (written_order (marked bench.now)))
         draft.old.nodes draft.new.nodes) }
-    ensures asked { HasAsked V.held (within (marked bench.now).start.position V.gives) V.may_fail V.asked_of V.failed_of V.is_honest values.old result values.new }
+    ensures asked { HasAsked V.held (within (marked bench.now).start.position V.gives)
+        V.may_fail V.asked_of V.failed_of V.is_honest values.old result values.new }
 {
     let aim = aim_in(bench);
     let stand = root_stand(bench, count_at(bench, &[]));

@@ -182,7 +182,8 @@ fn text_of<'a, 'b, A: Allocator, B: Allocator, V: Values>(
 ) -> Result<Text<'a, A>, NotMade>
     ensures text { V.is_honest values.old → IfOk result (IsReview (marked bench.now) number) }
     ensures begins { IfOk result (BeginsReview number) }
-    ensures asked { HasAsked V.held (within (marked bench.now).start.position V.gives) V.may_fail V.asked_of V.failed_of V.is_honest values.old result values.new }
+    ensures asked { HasAsked V.held (within (marked bench.now).start.position V.gives)
+        V.may_fail V.asked_of V.failed_of V.is_honest values.old result values.new }
 {
     // (the study has at most 4,096 nodes)
     let _size = bench.size();
@@ -222,7 +223,8 @@ pub fn write_review<'a, 'b, A: Allocator, B: Allocator, V: Values, W: Write>(
         × TakesPrefix (W.contents out.old) (W.contents out.new) text }
     ensures memory { result ≡ Err ReviewFault.OutOfMemory → out.new ≡ out.old }
     ensures untold { (fault : AProbeFault) → result ≡ Err (ReviewFault.Values fault) → out.new ≡ out.old }
-    ensures asked { HasReviewed V.held (within (marked bench.now).start.position V.gives) V.may_fail V.asked_of V.failed_of V.is_honest values.old result values.new }
+    ensures asked { HasReviewed V.held (within (marked bench.now).start.position V.gives)
+        V.may_fail V.asked_of V.failed_of V.is_honest values.old result values.new }
 {
     let text = text_of(alloc, bench, values, number)?;
     write_text(out, text.as_slice())?;

@@ -64,7 +64,8 @@ Outcome separate first script left old new (Err WriteDevice) =
 Outcome separate first script left old new (Err (LineTooLong n)) = (0 < n) × (n ≤ 100000)
     × IsSomeAnd (slice_get (script_lines script) (n - 1)) (λ line. 1024 < length line)
     × AreAnswered separate first (take (n - 1) (script_lines script)) old new
-Outcome separate first script left old new (Err TooManyLines) = (100000 < length (script_lines script)) × AreAnswered separate first (take 100000 (script_lines script)) old new
+Outcome separate first script left old new (Err TooManyLines) = (100000 < length (script_lines script))
+    × AreAnswered separate first (take 100000 (script_lines script)) old new
 -- memory is taken before anything is read or written
 Outcome separate first script left old new (Err OutOfMemory) = Keeps old new × (left ≡ Some script)
 

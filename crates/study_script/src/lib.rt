@@ -1,7 +1,8 @@
 //! Scripts: the command of a line, its reply, and the state after it.
 //!
 //! `run` answers a whole script, line by line, over a store of tables; `Session` answers one line, and `run_session` the lines of a
-//! script by any interpreter. Studies are kept apart if the settings say so. specs/Replies.antt defines the replies, over a state that has a study without marks.
+//! script by any interpreter. Studies are kept apart if the settings say so. specs/Replies.antt defines the replies, over a state that
+//! has a study without marks.
 #![tactic(auto)]
 
 mod changes;

@@ -109,7 +109,8 @@ fn add_own<'b, A: Allocator, B: Allocator, V: Values>(
     ensures nodes { OnOk result (lines.new.nodes ≡ lines.old.nodes ++ node_line (marked bench.now) steps.now) }
     ensures zugzwangs { V.is_honest values.old
         → OnOk result (Grew (ZugzwangLines (marked bench.now) steps.now) lines.old.zugzwangs lines.new.zugzwangs) }
-    ensures asked { HasWalked V.held (within (marked bench.now).start.position V.gives) V.may_fail V.asked_of V.failed_of V.is_honest values.old result values.new }
+    ensures asked { HasWalked V.held (within (marked bench.now).start.position V.gives)
+        V.may_fail V.asked_of V.failed_of V.is_honest values.old result values.new }
 {
     let first = bench.start();
     add_node_at(&mut lines.nodes, bench, steps, before, here)?;
@@ -134,7 +135,8 @@ pub fn add_nodes<'b, A: Allocator, B: Allocator, V: Values>(
         (steps.old.items ∷ paths_from steps.old.items 0 (below_at (marked bench.now).tree.below steps.old.items)))
         lines.old.zugzwangs lines.new.zugzwangs) }
     ensures path { OnOk result (steps.new.items ≡ steps.old.items) }
-    ensures asked { HasWalked V.held (within (marked bench.now).start.position V.gives) V.may_fail V.asked_of V.failed_of V.is_honest values.old result values.new }
+    ensures asked { HasWalked V.held (within (marked bench.now).start.position V.gives)
+        V.may_fail V.asked_of V.failed_of V.is_honest values.old result values.new }
 {
     add_own(lines, bench, steps.as_slice(), before, here, values)?;
     let count = count_at(bench, steps.as_slice());

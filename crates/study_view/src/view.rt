@@ -53,7 +53,8 @@ fn tree_lines<'a, 'b, A: Allocator, B: Allocator, V: Values>(
     ensures nodes { IfOk result (λ lines. lines.nodes ≡ flat_map (node_line (marked bench.now)) (written_order (marked bench.now))) }
     ensures zugzwangs { V.is_honest values.old → IfOk result (λ lines.
         LinesOfEach (ZugzwangLines (marked bench.now)) (written_order (marked bench.now)) lines.zugzwangs) }
-    ensures asked { HasWalked V.held (within (marked bench.now).start.position V.gives) V.may_fail V.asked_of V.failed_of V.is_honest values.old result values.new }
+    ensures asked { HasWalked V.held (within (marked bench.now).start.position V.gives)
+        V.may_fail V.asked_of V.failed_of V.is_honest values.old result values.new }
 {
     let mut lines = Lines {
         nodes: Text::new(alloc),
@@ -151,7 +152,8 @@ fn view_at<'a, 'b, A: Allocator, B: Allocator, V: Values>(
 /// Writes the view of a study at a path.
 ///
 /// The values after all legal moves at the path are read, then those of the nodes and of the same men with the other side to move, and then
-/// the text is made whole: want of memory, and a value that cannot be read, are reported before the first byte. A writer that fails or takes nothing ends the call; it has taken a prefix of the text then.
+/// the text is made whole: want of memory, and a value that cannot be read, are reported before the first byte. A writer that fails or
+/// takes nothing ends the call; it has taken a prefix of the text then.
 pub fn write_view<'a, 'b, A: Allocator, B: Allocator, V: Values, W: Write>(
     alloc: &'a A,
     bench: &Bench<'b, B>,

@@ -187,7 +187,8 @@ fn of_view<'a, A: Allocator>(
 ) -> Reply<'a, A>
     requires pages { IfSome files.now.pages (λ n. (1 ≤ n) × (n ≤ 4096)) }
     requires path { is_path_word path.now ≡ true }
-    ensures { OverNeeded files.now.spans.now script.now (λ those. IsViewed those files.now.bytes.now script.now (steps_of path.now)) result.text.items result.ended }
+    ensures { OverNeeded files.now.spans.now script.now
+        (λ those. IsViewed those files.now.bytes.now script.now (steps_of path.now)) result.text.items result.ended }
 {
     match files_for(alloc, script, files.spans) {
         Err(why) => told(alloc, Err(why)),

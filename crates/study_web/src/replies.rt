@@ -17,8 +17,8 @@ use study_script::{Settings, run};
 
 /// Answers a script over the files that are handed in. What it saves is put into the cells, one for each class.
 ///
-/// Tables are held whole, or so many pages of them, and studies are kept apart. The replies are those of the script, over files of which nothing is presumed but
-/// that those of the classes which it loads are right.
+/// Tables are held whole, or so many pages of them, and studies are kept apart. The replies are those of the script, over files of which
+/// nothing is presumed but that those of the classes which it loads are right.
 pub fn replies_over<'f, 'a, A: Allocator>(
     alloc: &'a A,
     script: &[u8],

@@ -74,7 +74,8 @@ fn bench_view<'a, A: Allocator, V: Values>(
 ) -> Result<Vec<u8, &'a A>, NoText>
     requires { is_path_word path.now ≡ true }
     ensures none { IfErr result (MayEnd (IsViewDenial
-        (λ fault. StudyStopped V.held V.gives V.may_fail V.asked_of V.failed_of V.is_honest (study (plain_study (marked bench.now))) values.old fault values.new)
+        (λ fault. StudyStopped V.held V.gives V.may_fail V.asked_of V.failed_of V.is_honest (study (plain_study (marked bench.now)))
+        values.old fault values.new)
         (has_spot (plain_study (marked bench.now)).tree (steps_of path.now) ≡ false)) IsNever) }
     ensures text { V.is_honest values.old → IsKeptRight bench.now
         → IfOk result (λ text. IsViewOf (plain_study (marked bench.now)) (steps_of path.now) text.items) }

@@ -26,7 +26,8 @@ pub fn survey_of<'a, S: TableStore, A: Allocator>(
     ensures text { ((c : AClass) → S.honest store.old true c)
         → IfOk result (λ text. IsSurvey asked.now.start.position asked.now.square asked.now.stipulation text.items) }
     ensures none { IfErr result (MayEnd (IsSurveyDenial
-        (IsOfValues (S.headers store.old) (S.faults store.old) ((c : AClass) → S.honest store.old true c) asked.now.start.position) asked.now.start asked.now.square)
+        (IsOfValues (S.headers store.old) (S.faults store.old) ((c : AClass) → S.honest store.old true c) asked.now.start.position)
+        asked.now.start asked.now.square)
         IsNoMemory) }
 {
     let mut tables = match open_tables(alloc, store, pages) {
