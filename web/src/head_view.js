@@ -151,7 +151,7 @@ export function mendView(s) {
  */
 function beforeView(s) {
   const before = toldBefore(s);
-  return before.length > 0 && h('p', { class: 'note', id: 'earlier' }, 'This is the study after its last line. Its script has ',
+  return before.length > 0 && h('p', { class: 'note', id: 'verdictsBefore' }, 'This is the study after its last line. Its script has ',
     before.length === 1 ? 'one more game' : `${before.length} more games`, ' of it: ', h('b', {}, before.join('; ')), '. Save PGN and Save report include ',
     before.length === 1 ? 'it.' : 'them.');
 }

@@ -266,7 +266,7 @@ def test_hostile_texts_are_texts(user):
     assert "1 line of the script was refused" in user.text("texts")
     user.picture("hostile")
     before = user.promise("studyboard.script()")
-    user.fill("script", "x" * 2000)
+    user.fill("script", "tag Event " + "x" * 2000)
     user.click("runScript")
     user.settle()
     assert user.promise("studyboard.script()") == before and "1024" in user.text("texts")
@@ -317,7 +317,7 @@ def test_a_study_told_twice(user):
     user.promise("studyboard.open(a[0])", script)
     user.settle()
     assert len(games) == 2 and user.promise("studyboard.pgn()") == "".join(games)
-    assert user.text("stamp") == "unsound 5" and "White to win: wrong" in user.text("earlier")
+    assert user.text("stamp") == "unsound 5" and "White to win: wrong" in user.text("verdictsBefore")
 
 
 def test_from_study_to_study(user):
