@@ -1,5 +1,5 @@
-//! What the studies of the gallery come to, for the gate: the replies to their scripts and the lines of their reports, then the views and
-//! surveys that a page of a browser requests, then printed pages. The gate compares them with those of an independent program.
+//! The output for the studies of the gallery, for the gate: the replies to their scripts and the lines of their reports, then the views and surveys
+//! that a browser page requests, then printed pages. The gate compares them with those of an independent program.
 #![tactic(auto)]
 
 mod pages;
@@ -13,7 +13,7 @@ use std::io::{LineWriter, Write};
 use std::process::ExitCode;
 use std::{env, io};
 
-/// The exit status is 0 where everything was taken to its end, and 1 where something was not.
+/// The exit status is 0 if every part was written to its end, and 1 otherwise.
 fn main(rt: HostRuntime) -> ExitCode {
     match write_all(&rt) {
         Ok(()) => ExitCode::from(0),

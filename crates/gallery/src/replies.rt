@@ -21,7 +21,7 @@ pub fn answer_scripts<W: Write>(rt: &HostRuntime, names: &[String], out: &mut W)
     Ok(())
 }
 
-/// A store without files, and without writers for those that are saved.
+/// A store without files, and without writers for saved files.
 fn no_files<'a, A: Allocator>(_alloc: &'a A) -> MemoryStore<'a, 'a, 'a, A> {
     MemoryStore::new(&[])
 }

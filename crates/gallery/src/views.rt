@@ -1,5 +1,5 @@
-//! Views and surveys of studies of the gallery, over tables that are made by requests, too: for each line of `views/requests` the line,
-//! and then the answer. Its first word names the script, and is `-` where none is needed.
+//! Views and surveys of studies of the gallery, over tables that are also made by requests: for each line of `views/requests` the line, then the
+//! answer. Its first word names the script, and is `-` if none is needed.
 use std::alloc::{Allocator, Global};
 use std::io::{ErrorKind, Write};
 use std::{fs, io};
@@ -17,14 +17,14 @@ const MADE: [Class; 7] = [
     Class::KNNK,
 ];
 
-/// The files of tables, one after the other, and where each lies.
+/// The table files, one after the other, and the span of each.
 #[derive(Drop)]
 struct Files<'a, A: Allocator> {
     bytes: Vec<u8, &'a A>,
     spans: Vec<Span, &'a A>,
 }
 
-/// Answers each request, after the line that makes it.
+/// Answers each request, after the line of the request.
 pub fn answer_requests<W: Write>(rt: &HostRuntime, out: &mut W) -> io::Result<()> {
     let alloc = rt.alloc();
     let mut files = Files {
@@ -45,7 +45,7 @@ pub fn answer_requests<W: Write>(rt: &HostRuntime, out: &mut W) -> io::Result<()
     Ok(())
 }
 
-/// Has the file of a class made, and puts it after the others.
+/// Requests the file of a class, and puts it after the others.
 fn make<'a, A: Allocator>(alloc: &'a A, class: Class, files: &mut Files<'a, A>) -> io::Result<()> {
     let mut request = String::new(alloc);
     request.push_str("make ")?;
@@ -94,7 +94,7 @@ fn ask<'a, A: Allocator>(
     )
 }
 
-/// The text of an answer, and how it ended where it is not whole.
+/// The text of an answer, and how it ended if it is not whole.
 fn write_answer<'a, A: Allocator, W: Write>(
     alloc: &'a A,
     request: &str,

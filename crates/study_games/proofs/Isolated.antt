@@ -1,4 +1,4 @@
--- A game depends on no other.
+-- A game is independent of every other.
 use Rattle.std.proofs.Common.{◌≡◌, ℕ, Bool, true, false, List, [], ◌∷◌, ◌++◌, Option, Some, None, refl, sym, ap, ◌∙◌, append_assoc, arith, inl, inr}
 use Rattle.std.specs.Prelude.{◌==◌, if◌then◌else◌}
 use Rattle.std.proofs.lemmas.Bool.{cases_Bool}
@@ -17,7 +17,7 @@ lines_cut line (x ∷ xs) b =
       | inr other ↦ rw other (lines_cut (longer line x) xs b)
     ]
 
--- ---- the game at hand behind some lines
+-- ---- the current game after some lines
 
 abbrev next_begun : ℕ → Option Begun → List ℕ → Option Begun
 next_begun n begun line =
@@ -52,7 +52,7 @@ games_cut n begun (line ∷ ls) ms =
     ∙ sym (append_assoc (ended_by n begun line) (ended_in (one_more n) (next_begun n begun line) ls)
     (games_from (number_behind (one_more n) ls) (begun_behind (one_more n) (next_begun n begun line) ls) ms))
 
--- ---- behind a line of moves
+-- ---- after a line of moves
 
 abbrev HasMoves : Option Begun → Type 0
 HasMoves None = ⊥

@@ -1,4 +1,4 @@
--- How a text is read that begins with a whole token.
+-- Reading a text that begins with a whole token.
 use Rattle.std.proofs.Common.{◌≡◌, ℕ, suc, ◌+◌, ◌<◌, ◌≤◌, Bool, true, false, List, [], ◌∷◌, ◌++◌, length, take, drop, Some, Ok, refl, sym, ap, ◌∙◌, arith, ◌⊎◌, inl, inr}
 use Rattle.std.specs.Prelude.{◌&&◌, ◌||◌, ◌==◌, nat_le}
 use Rattle.std.specs.List.{list_all, prefix_len}
@@ -6,7 +6,7 @@ use Rattle.std.proofs.lemmas.Bool.{and_parts, and_right, ne_eqb, leb-true, lt-le
 use Rattle.study_games.specs.Bytes.{is_letter, is_digit, is_high, is_sign, begins_symbol, is_symbol_byte, is_blank, is_glyph}
 use Rattle.study_games.specs.Tokens.{Lexed, token_at, lexed, run_of, front, behind, symbol}
 
--- a run ends where the text does, or before a byte that is none of its
+-- a run ends at the end of the text, or before a byte of another kind
 abbrev pub Stops : (ℕ → Bool) → List ℕ → Type 0
 Stops p [] = Unit {0}
 Stops p (b ∷ bs) = p b ≡ false
@@ -39,7 +39,7 @@ run_cut p w rest all stops =
 
 -- ---- symbols
 
--- what a symbol begins with
+-- the first bytes of a symbol
 data IsFirst (b : ℕ) : Type 0 where
   digit : 48 ≤ b → b ≤ 57 → IsFirst b
   capital : 65 ≤ b → b ≤ 90 → IsFirst b
@@ -63,7 +63,7 @@ firsts b h =
       | inr c ↦ high (leb-true 128 b c)
     ]
 
--- bytes that are none of these
+-- bytes of none of these kinds
 abbrev IsOther : ℕ → Type 0
 IsOther k = (k < 48) ⊎ (((57 < k) × (k < 65)) ⊎ (((90 < k) × (k < 97)) ⊎ ((122 < k) × (k < 128))))
 
@@ -127,7 +127,7 @@ symbol_token fresh b bs f begins =
     (rw (middle b f 59 (omega arith) (omega arith)) (rw (upper b f 91 (omega arith) (omega arith)) (rw (low b f 40 (omega arith))
     (rw (low b f 41 (omega arith)) (rw (low b f 42 (omega arith)) (rw (low b f 36 (omega arith)) (rw (no_glyph b f) (rw (no_sign b f) (rw begins refl)))))))))))
 
--- a symbol in front of anything that ends it
+-- a symbol before anything that ends it
 pub symbol_read : (fresh : Bool) (b : ℕ) (w rest : List ℕ) → begins_symbol b ≡ true → list_all is_symbol_byte (b ∷ w) ≡ true
     → Stops is_symbol_byte rest → token_at fresh (b ∷ (w ++ rest)) ≡ Some (Ok (symbol (b ∷ w), rest))
 symbol_read fresh b w rest begins all stops =

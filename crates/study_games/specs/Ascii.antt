@@ -4,7 +4,7 @@ use Rattle.study_games.specs.Symbols.{without_end}
 use Rattle.study_games.specs.Words.{first_word, is_space, without_spaces}
 use Rattle.study_games.specs.Characters.{Character, is_utf8, read_at}
 
--- ---- tables: a word for each letter, in the order of Unicode; `?` for one that has none
+-- ---- tables: a word for each letter, in the order of Unicode; `?` for a letter without one
 
 abbrev pub first_or : Option (List ℕ × List ℕ) → List ℕ
 first_or None = codes "?"
@@ -19,7 +19,7 @@ abbrev pub word_at : ℕ → List ℕ → List ℕ
 word_at zero table = first_or (first_word table)
 word_at (suc n) table = word_at n (behind_or (first_word table))
 
--- Latin 1, from U+00A1 to U+00FF; there is none for the soft hyphen, U+00AD
+-- Latin 1, from U+00A1 to U+00FF; the soft hyphen, U+00AD, has no word
 unfoldable pub latin_1 : List ℕ
 latin_1 = codes "? ? ? ? ? ? ? ? ? ? ? ? ? ? ? ? ? ? ? ? ? ? ? ? ? ? ? 1/4 1/2 3/4 ? A A A A A A AE C E E E E I I I I D N O O O O O x O U U U U Y Th ss a a a a a a ae c e e e e i i i i d n o o o o o / o u u u u y th y"
 
@@ -46,7 +46,7 @@ marks = codes "- - - - - - ? ? ' ' ' ' ' ' ' ' ? ? ? ? ? ? ... ? ? ? ? ? ? ? ? ?
 abbrev pub in_range : ℕ → ℕ → ℕ → Bool
 in_range first last c = nat_le first c && nat_le c last
 
--- the text that stands for a character outside of ASCII
+-- the text for a character outside of ASCII
 abbrev pub letters_of : ℕ → List ℕ
 letters_of c =
     if in_range 161 255 c then word_at (c - 161) latin_1

@@ -1,7 +1,7 @@
 -- The characters of a text, in UTF-8 or in Latin 1.
 use Rattle.std.specs.Prelude.{ℕ, zero, suc, ◌+◌, ◌-◌, ◌*◌, Bool, true, false, ◌&&◌, ◌||◌, ◌==◌, not, nat_le, List, [], ◌∷◌, length, Option, Some, None, if◌then◌else◌}
 
--- a byte of a character in UTF-8 behind its first one
+-- a later byte of a character in UTF-8
 abbrev pub is_next : ℕ → Bool
 is_next b = nat_le 128 b && nat_le b 191
 
@@ -14,7 +14,7 @@ code_of_three a b c = (a - 224) * 4096 + ((b - 128) * 64 + (c - 128))
 abbrev pub code_of_four : ℕ → ℕ → ℕ → ℕ → ℕ
 code_of_four a b c d = (a - 240) * 262144 + ((b - 128) * 4096 + ((c - 128) * 64 + (d - 128)))
 
--- from two bytes on: the first code that needs so many, and no more than there are characters; no half of a pair of UTF-16
+-- two bytes or more: a code that needs so many, within the range of characters, and not half of a pair of UTF-16
 abbrev pub is_two : ℕ → ℕ → Bool
 is_two a b = nat_le 194 a && nat_le a 223 && is_next b
 
@@ -28,7 +28,7 @@ is_four a b c d =
     (nat_le 240 a && nat_le a 244) && (is_next b && (is_next c && is_next d))
     && (nat_le 65536 (code_of_four a b c d) && nat_le (code_of_four a b c d) 1114111)
 
--- the number of the character of UTF-8 with which a text begins, and what follows it
+-- the number of the UTF-8 character with which a text begins, and the rest of the text
 abbrev pub Character : Type 0
 Character = Option (ℕ × List ℕ)
 
@@ -55,7 +55,7 @@ or_else None y = y
 unfoldable pub character_at : List ℕ → Character
 character_at text = or_else (one_byte text) (or_else (two_bytes text) (or_else (three_bytes text) (four_bytes text)))
 
--- whether a text is UTF-8, of which at most n characters are read
+-- whether a text is UTF-8, reading at most n characters
 abbrev pub is_utf8_behind : (List ℕ → Bool) → Character → Bool
 is_utf8_behind next None = false
 is_utf8_behind next (Some x) = next x.1

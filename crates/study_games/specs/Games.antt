@@ -12,12 +12,11 @@ use Rattle.study_games.specs.declared.gathering.Game.{Game as GameRead}
 
 -- ---- lines
 
--- a line with one byte more. Of a line no more than 1,048,580 bytes are looked at: with these its game is too large, even where three of
--- them are a byte order mark
+-- a line with one byte more. At most 1,048,580 bytes of a line are kept: with these its game is too large, even if three of them are a byte order mark
 abbrev pub longer : List ℕ → ℕ → List ℕ
 longer line b = if nat_le 1048580 (length line) then line else line ++ b ∷ []
 
--- the lines of a text, each with its line feed, where these bytes of the first one have been read
+-- the lines of a text, each with its line feed, after these bytes of the first one
 abbrev pub lines_behind : List ℕ → List ℕ → List (List ℕ)
 lines_behind line [] = if length line == 0 then [] else line ∷ []
 lines_behind line (b ∷ bs) = if b == 10 then longer line b ∷ lines_behind [] bs else lines_behind (longer line b) bs
@@ -27,9 +26,9 @@ abbrev pub without_mark : List ℕ → List ℕ
 without_mark (a ∷ b ∷ c ∷ bs) = if a == 239 && (b == 187 && c == 191) then bs else a ∷ b ∷ c ∷ bs
 without_mark bs = bs
 
--- ---- what a line is
+-- ---- kinds of lines
 
--- behind a tag's name, after gaps: a quotation mark
+-- after a tag's name, and gaps: a quotation mark
 abbrev pub begins_value : List ℕ → Bool
 begins_value [] = false
 begins_value (b ∷ bs) = b == 34
@@ -62,7 +61,7 @@ kind_of line = if is_remark line then Silent else kind_named line (tag_name line
 
 -- ---- games
 
--- a tag line begins the next game behind a line of moves, and a second tag Event does
+-- a tag line begins the next game if it follows a line of moves, or if it is a second tag Event
 abbrev pub begins_game : Seen → LineKind → Bool
 begins_game s Silent = false
 begins_game s Moves = false
@@ -75,7 +74,7 @@ seen_then s Tag = s
 seen_then s EventTag = record { moves = s.moves; event = true }
 seen_then s Moves = record { moves = true; event = s.event }
 
--- a game: the number of its first line, and its bytes; none where there are more than 1,048,576
+-- a game: the number of its first line, and its bytes; `None` if there are more than 1,048,576
 pub record Game : Type 0 where
   pub line : ℕ
   pub text : Option (List ℕ)
@@ -105,12 +104,12 @@ no_line n = record { game = record { line = n; text = Some [] }; seen = record {
 abbrev pub begun_by : ℕ → List ℕ → LineKind → Begun
 begun_by n line kind = with_line (no_line n) line kind
 
--- silent lines before the first game belong to none
+-- silent lines before the first game belong to no game
 abbrev pub first_line : ℕ → List ℕ → LineKind → Option Begun
 first_line n line Silent = None
 first_line n line kind = Some (begun_by n line kind)
 
--- a number of lines or of games, one up; at the last value of a u32 it stays
+-- a number of lines or of games, plus one; it saturates at the last value of a u32
 abbrev pub one_more : ℕ → ℕ
 one_more n = min (n + 1) (2 ^ 32 - 1)
 
@@ -118,7 +117,7 @@ one_more n = min (n + 1) (2 ^ 32 - 1)
 abbrev pub unmarked : ℕ → List ℕ → List ℕ
 unmarked n line = if n == 1 then without_mark line else line
 
--- a line is added to the game at hand, or begins the first one
+-- a line is added to the current game, or begins the first one
 abbrev pub taken_to : ℕ → Option Begun → List ℕ → LineKind → Option Begun
 taken_to n None line kind = first_line n line kind
 taken_to n (Some g) line kind = Some (with_line g line kind)
@@ -131,7 +130,7 @@ abbrev pub game_at_hand : Option Begun → List Game
 game_at_hand None = []
 game_at_hand (Some g) = g.game ∷ []
 
--- the games of the lines from number n on, where this one has begun
+-- the games of the lines from number n on, if this one has begun
 abbrev pub games_from : ℕ → Option Begun → List (List ℕ) → List Game
 games_from n begun [] = game_at_hand begun
 games_from n begun (line ∷ lines) =
@@ -142,9 +141,9 @@ games_from n begun (line ∷ lines) =
 unfoldable pub games_of : List ℕ → List Game
 games_of text = games_from 1 None (lines_behind [] text)
 
--- ---- what has been gathered
+-- ---- a game as it is read
 
--- what a contract sees of a game
+-- the game as contracts see it
 abbrev pub game_seen : GameRead → Game
 game_seen g = record { line = g.line; text = option_map (λ t. t.now) g.text }
 

@@ -13,8 +13,8 @@ use Rattle.study_games.specs.Tokens.{Token, Lexed, lexed, begins_feed, blank, as
 abbrev pub Pair : Type 0
 Pair = List ℕ × List ℕ
 
--- what the next token is to a header: it goes on, with a tag or with a blank or a comment; or the token is to be a tag and is none; or the
--- header ends before it
+-- the next token of a header: the header continues, with a tag or with a blank or a comment; or the token should be a tag and is not one; or the header
+-- ends before it
 pub data Step : Type 0 where
   on : Option Pair → (behind : List ℕ) → Step
   no_tag : TokenFault → Step
@@ -40,7 +40,7 @@ with_tags next (on (Some pair) behind) = pair ∷ next behind
 with_tags next (on None behind) = next behind
 with_tags next other = []
 
--- the tags of a header, of which at most n tokens are read
+-- the tags of a header, reading at most n tokens
 abbrev pub tags_in : ℕ → Bool → List ℕ → List Pair
 tags_in zero fresh text = []
 tags_in (suc n) fresh text = with_tags (tags_in n (begins_feed text)) (step_at fresh text)
@@ -50,7 +50,7 @@ with_fault next left (on pair behind) = next behind
 with_fault next left (no_tag why) = Some (record { why = why; left = left })
 with_fault next left ended = None
 
--- the first that is to be a tag and is none; left: how many bytes stand from its place on
+-- the first token that should be a tag and is not one; left: the number of bytes from its place on
 abbrev pub fault_in : ℕ → Bool → List ℕ → Option HeaderFault
 fault_in zero fresh text = None
 fault_in (suc n) fresh text = with_fault (fault_in n (begins_feed text)) (length text) (step_at fresh text)
@@ -60,26 +60,26 @@ abbrev pub value_of : List ℕ → List Pair → Option (List ℕ)
 value_of name [] = None
 value_of name (t ∷ ts) = if bytes_eq t.0 name then Some t.1 else value_of name ts
 
--- each token has a byte at least, so that the length of a game is enough
+-- each token has at least one byte, so that the length of a game is enough
 unfoldable pub tags_of : List ℕ → List Pair
 tags_of game = tags_in (length game) true game
 
 unfoldable pub header_fault : List ℕ → Option HeaderFault
 header_fault game = fault_in (length game) true game
 
--- what a contract sees of a step
+-- the step as contracts see it
 abbrev pub step_seen : StepRead → Step
 step_seen (read.On pair behind) = on (option_map (λ x. (x.0.now, x.1.now)) pair) behind.now
 step_seen (read.NoTag why) = no_tag why
 step_seen read.End = ended
 
--- ---- the text that a value stands for
+-- ---- the text of a value
 
--- a quotation mark or a backslash that has a backslash before it
+-- a quotation mark or a backslash after a backslash
 abbrev pub is_escaped : ℕ → ℕ → Bool
 is_escaped b c = b == 92 && (c == 34 || c == 92)
 
--- such a byte with which the text begins, and what follows it
+-- such a byte at the beginning of the text, and the rest
 abbrev pub escaped_at : List ℕ → Option (ℕ × List ℕ)
 escaped_at (b ∷ c ∷ bs) = if is_escaped b c then Some (c, bs) else None
 escaped_at _ = None

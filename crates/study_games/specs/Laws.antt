@@ -1,10 +1,10 @@
--- A game depends on no other.
+-- A game is independent of every other.
 use Rattle.std.specs.Prelude.{◌≡◌, ℕ, List, [], ◌∷◌, ◌++◌, Option, Some, None}
 use Rattle.study_games.specs.declared.games.LineKind.{LineKind}
 use Rattle.study_games.specs.declared.games.LineKind.TheVariants.{Silent, Tag, EventTag, Moves}
 use Rattle.study_games.specs.Games.{Game, kind_of, lines_behind, one_more, unmarked, games_from, games_of}
 
--- the number of the line behind so many lines, the first of which has number n
+-- the number of the line after so many lines, the first of which has number n
 abbrev pub number_behind : ℕ → List (List ℕ) → ℕ
 number_behind n [] = n
 number_behind n (line ∷ lines) = number_behind (one_more n) lines
@@ -28,8 +28,8 @@ BeginsWithTag n (line ∷ lines) = IsTag (kind_of (unmarked n line))
 abbrev pub lines_of : List ℕ → List (List ℕ)
 lines_of text = lines_behind [] text
 
--- where a text whose last line, a line of moves, is whole stands in front of one that begins with a line of a tag, the games of both are
--- those of the first and those of the second, as far as its lines are counted on
+-- if a text ends with a whole line of moves, and is followed by a text that begins with a line of a tag, the games of both together are those of the first
+-- and those of the second, whose line numbers continue
 abbrev pub IsIsolated : Type 0
 IsIsolated =
     (front b : List ℕ) → (a : List ℕ) → a ≡ front ++ 10 ∷ [] → EndsWithMoves 1 (lines_of a)

@@ -1,4 +1,4 @@
--- What a symbol says, and the SAN of one that stands for a move.
+-- The meaning of a symbol, and the SAN of a symbol for a move.
 use Rattle.std.specs.Prelude.{ℕ, ◌-◌, Bool, true, false, not, ◌&&◌, ◌||◌, ◌==◌, nat_le, List, [], ◌∷◌, length, take, slice_index, codes, Option, Some, None, if◌then◌else◌}
 use Rattle.std.specs.List.{list_all, flat_map}
 use Rattle.std.specs.Str.{bytes_eq}
@@ -28,12 +28,12 @@ abbrev pub lettered : List ℕ → List ℕ
 lettered (a ∷ b ∷ c ∷ bs) = if is_figurine a b c then kind_letter (figurine_kind c) ∷ lettered bs else a ∷ lettered (b ∷ c ∷ bs)
 lettered bs = bs
 
--- the letter of a figurine that stands in front, and what follows it
+-- the letter of a figurine at the front, and the rest
 abbrev pub figurine_at : List ℕ → Option (ℕ × List ℕ)
 figurine_at (a ∷ b ∷ c ∷ bs) = if is_figurine a b c then Some (kind_letter (figurine_kind c), bs) else None
 figurine_at _ = None
 
--- ---- what is said
+-- ---- the meaning
 
 unfoldable pub said_of : List ℕ → Said
 said_of symbol =
@@ -48,7 +48,7 @@ said_of symbol =
 
 -- ---- the SAN
 
--- what a SAN text does not end with
+-- bytes that a SAN text does not end with
 abbrev pub is_tail : ℕ → Bool
 is_tail b = is_sign b || is_high b
 
@@ -80,7 +80,7 @@ begins_castling (b ∷ bs) = b == 79 || b == 48
 abbrev pub plain_byte : ℕ → ℕ
 plain_byte b = if b == 58 then 120 else (if b == 47 then 61 else b)
 
--- a dash says nothing, but in castling
+-- a dash is dropped, except in castling
 abbrev pub plain_bytes : Bool → ℕ → List ℕ
 plain_bytes castling b = if not castling && b == 45 then [] else plain_byte b ∷ []
 

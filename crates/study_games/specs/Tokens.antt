@@ -10,17 +10,17 @@ use Rattle.study_games.specs.declared.token.Token.{Token as Read}
 use Rattle.study_games.specs.declared.token.Token.TheVariants as read
 use Rattle.study_games.specs.Bytes.{is_blank, is_gap, is_letter, is_digit, is_name_byte, is_sign, begins_symbol, is_symbol_byte, is_glyph, is_feed, is_brace_end}
 
--- blank: blanks, dots and escape lines, which say nothing; aside: a NAG or a glyph
+-- blank: blanks, dots and escape lines, which are ignored; aside: a NAG or a glyph
 pub data Token : Type 0 where
   blank aside opening closing star : Token
   tag : (name value : List ℕ) → Token
   comment rest sign symbol : (text : List ℕ) → Token
 
--- a token and what follows it
+-- a token and the rest of the text
 abbrev pub Lexed : Type 0
 Lexed = Result (Token × List ℕ) TokenFault
 
--- the bytes that are such, from the front, and what follows them
+-- the longest prefix of such bytes, and the rest
 abbrev pub front : (ℕ → Bool) → List ℕ → List ℕ
 front p text = take (prefix_len p text) text
 
@@ -54,8 +54,8 @@ begins_end (b ∷ bs) = b == 93
 unfoldable pub ends_tag : List ℕ → Bool
 ends_tag text = begins_end (behind is_gap text)
 
--- where the value of a tag ends: at the first quotation mark with no backslash before it and with `]` behind it, in this line. The first
--- byte of the text has place n; escaped: a backslash stands before it, and belongs to it
+-- the end of a tag's value: the first quotation mark that no backslash escapes and that `]` follows, in this line. The first byte of the text has place n;
+-- escaped: a backslash before it escapes it
 abbrev pub value_end : ℕ → Bool → List ℕ → Option ℕ
 value_end n escaped [] = None
 value_end n escaped (b ∷ bs) =
@@ -63,7 +63,7 @@ value_end n escaped (b ∷ bs) =
     else (if not escaped && (b == 34 && ends_tag bs) then Some n
     else value_end (n + 1) (not escaped && b == 92) bs)
 
--- behind the value: its quotation mark, gaps and `]`
+-- after the value: its quotation mark, gaps and `]`
 abbrev pub without_first : List ℕ → List ℕ
 without_first [] = []
 without_first (b ∷ bs) = bs
@@ -75,7 +75,7 @@ abbrev pub valued : List ℕ → List ℕ → Option ℕ → Lexed
 valued name text None = Err OpenString
 valued name text (Some n) = Ok (tag name (take n text), behind_value (drop n text))
 
--- behind the name: gaps and the quotation mark
+-- after the name: gaps and the quotation mark
 abbrev pub quoted : List ℕ → List ℕ → Lexed
 quoted name [] = Err TagForm
 quoted name (b ∷ bs) = if b == 34 then valued name bs (value_end 0 false bs) else Err TagForm
@@ -86,7 +86,7 @@ named [] = Err TagForm
 named (b ∷ bs) =
     if is_letter b then quoted (front is_name_byte (b ∷ bs)) (behind is_gap (behind is_name_byte (b ∷ bs))) else Err TagForm
 
--- behind `[`
+-- after `[`
 unfoldable pub tag_at : List ℕ → Lexed
 tag_at text = named (behind is_gap text)
 
@@ -117,12 +117,12 @@ abbrev pub token_at : Bool → List ℕ → Option Lexed
 token_at fresh [] = None
 token_at fresh (b ∷ bs) = Some (lexed fresh b bs)
 
--- the text begins with a line feed, so that what follows begins a line
+-- the text begins with a line feed, so that the rest begins a line
 abbrev pub begins_feed : List ℕ → Bool
 begins_feed [] = false
 begins_feed (b ∷ bs) = b == 10
 
--- ---- what a contract sees of a token that was read
+-- ---- a token as contracts see it
 
 abbrev pub token_seen : Read → Token
 token_seen read.Blank = blank

@@ -8,12 +8,12 @@ use Rattle.study_games.specs.Symbols.{without_end}
 abbrev pub is_inked : ℕ → Bool
 is_inked b = not (is_blank b)
 
--- the word with which the text begins, and what follows it
+-- the word with which the text begins, and the rest
 abbrev pub begun_word : List ℕ → Option (List ℕ × List ℕ)
 begun_word [] = None
 begun_word (b ∷ bs) = Some (front is_inked (b ∷ bs), behind is_inked (b ∷ bs))
 
--- the first word between blanks, and what follows it
+-- the first word between blanks, and the rest
 unfoldable pub first_word : List ℕ → Option (List ℕ × List ℕ)
 first_word text = begun_word (behind is_blank text)
 

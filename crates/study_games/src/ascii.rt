@@ -8,7 +8,7 @@ use crate::words::{next_word, shortened, trim_end, trim_start};
 use std::alloc::{AllocError, Allocator};
 use study_text::Text;
 
-/// How long the text of a tag is at most.
+/// The largest length of a tag's text.
 pub const LONGEST_TAG: usize = 60;
 
 /// Latin 1, from U+00A1 on.
@@ -59,7 +59,7 @@ fn marks() -> &'static [u8]
     b"- - - - - - ? ? ' ' ' ' ' ' ' ' ? ? ? ? ? ? ... ? ? ? ? ? ? ? ? ? ? ? ' '"
 }
 
-/// The first word of a table, and what follows it.
+/// The first word of a table, and the rest.
 fn cut_table(table: &[u8]) -> (&[u8], &[u8])
     ensures first { result.0.now ≡ first_or (first_word table.now) }
     ensures behind { result.1.now ≡ behind_or (first_word table.now) }
@@ -86,7 +86,7 @@ fn word_at(table: &[u8], place: u32) -> &[u8]
     word
 }
 
-/// The text that stands for a character outside of ASCII.
+/// The text for a character outside of ASCII.
 fn letters_of(c: u32) -> &'static [u8]
     ensures { result.now ≡ letters_of c }
 {
@@ -107,7 +107,7 @@ fn letters_of(c: u32) -> &'static [u8]
     }
 }
 
-/// Adds the text that stands for a character.
+/// Adds the text for a character.
 #[tactic(auto, unfolding(crate::specs::Ascii::ascii_of))]
 fn add_character<A: Allocator>(out: &mut Text<'_, A>, c: u32) -> Result<(), AllocError>
     ensures { OnOk result (out.new ≡ out.old ++ ascii_of c) }

@@ -49,14 +49,14 @@ pub fn is_sign(b: u8) -> bool
         || b == b':'
 }
 
-/// No ASCII: a part of a letter in UTF-8, or a letter of Latin 1.
+/// Not ASCII: a part of a letter in UTF-8, or a letter of Latin 1.
 pub fn is_high(b: u8) -> bool
     ensures { result ≡ is_high b }
 {
     128 <= b
 }
 
-/// What a symbol can begin with.
+/// Whether a symbol can begin with the byte.
 pub fn begins_symbol(b: u8) -> bool
     ensures { result ≡ begins_symbol b }
 {

@@ -9,7 +9,7 @@ fn is_next(b: u8) -> bool
     128 <= b && b <= 191
 }
 
-/// The bits of a byte behind the first one of its character.
+/// The bits of a later byte of a character.
 fn low_bits(b: u8) -> u32
     requires { is_next b ≡ true }
     ensures value { result ≡ b - 128 }
@@ -101,7 +101,7 @@ fn four_bytes(text: &[u8]) -> Option<(u32, &[u8])>
     }
 }
 
-/// The number of the character of UTF-8 with which the text begins, and what follows it.
+/// The number of the UTF-8 character with which the text begins, and the rest.
 #[tactic(auto, unfolding(crate::specs::Characters::character_at))]
 fn character_at(text: &[u8]) -> Option<(u32, &[u8])>
     ensures { option_map (λ x. (x.0, x.1.now)) result ≡ character_at text.now }
@@ -147,7 +147,7 @@ fn latin_at(text: &[u8]) -> Option<(u32, &[u8])>
     }
 }
 
-/// The number of the first character, in UTF-8 or in Latin 1, and what follows it.
+/// The number of the first character, in UTF-8 or in Latin 1, and the rest.
 pub fn read_at(text: &[u8], utf8: bool) -> Option<(u32, &[u8])>
     ensures { option_map (λ x. (x.0, x.1.now)) result ≡ read_at utf8 text.now }
 {

@@ -8,7 +8,7 @@ ghost use Rattle.study_games.specs.Games.{without_mark, unmarked, begins_value, 
 use crate::bytes::{is_blank, is_letter};
 use crate::token::{gap_len, name_len};
 
-/// What a line is, before anything is read in it.
+/// The kind of a line, by its beginning.
 #[derive(Clone, Copy, Debug, PartialEq, Eq)]
 pub enum LineKind {
     /// Blank, an escape line or a remark.
@@ -18,7 +18,7 @@ pub enum LineKind {
     Moves,
 }
 
-/// What stands in the lines of a game so far: a line of moves, a tag Event.
+/// What the lines of a game have so far: a line of moves, a tag Event.
 #[derive(Clone, Copy, Debug, Default, PartialEq, Eq)]
 pub struct Seen {
     pub moves: bool,
@@ -102,7 +102,7 @@ fn are_blank(line: &[u8]) -> bool
     line.iter().all(|b| is_blank(*b))
 }
 
-/// What the line is.
+/// The kind of the line.
 #[tactic(auto, unfolding(crate::specs::Games::kind_of))]
 pub fn kind_of(line: &[u8]) -> LineKind
     ensures { result ≡ kind_of line.now }
@@ -139,7 +139,7 @@ pub fn begins_game(seen: Seen, kind: LineKind) -> bool
     }
 }
 
-/// What stands in the lines then.
+/// What the lines have with this one.
 pub fn seen_then(seen: Seen, kind: LineKind) -> Seen
     ensures { result ≡ seen_then seen kind }
 {

@@ -8,13 +8,13 @@ use std::alloc::{AllocError, Allocator};
 use std::marker::Model;
 use study_text::Text;
 
-/// How many bytes a game has at most.
+/// The largest size of a game, in bytes.
 pub const LARGEST_GAME: usize = 1_048_576;
 
-/// How many bytes of a line are looked at: more than a game has, even where three of them are a byte order mark.
+/// The number of bytes of a line that are kept: more than a game may have, even if three of them are a byte order mark.
 pub const LONGEST_LINE: usize = 1_048_580;
 
-/// The game at hand, and the number of the next line. Its bytes are not kept where they are too many.
+/// The current game, and the number of the next line. Its bytes are not kept if they are too many.
 #[derive(Drop)]
 pub struct Gathering<'a, A: Allocator> {
     alloc: &'a A,
@@ -34,7 +34,7 @@ impl<'a, A: Allocator> Model for Gathering<'a, A> {
     ghost view = { λ g. gathered g.next g.has_begun g.first g.is_too_large g.text g.seen };
 }
 
-/// The number of a game's first line, and its bytes; none where they are too many.
+/// The number of a game's first line, and its bytes; `None` if they are too many.
 #[derive(Clone, Copy, Debug)]
 pub struct Game<'t> {
     pub line: u32,
@@ -64,14 +64,14 @@ impl<'a, A: Allocator> Gathering<'a, A> {
         self.next
     }
 
-    /// Whether a line of this kind begins the game after the one at hand.
+    /// Whether a line of this kind begins the next game.
     pub fn ends_before(&self, kind: LineKind) -> bool
         ensures { result ≡ ends_before self.now.begun kind }
     {
         self.has_begun && begins_game(self.seen, kind)
     }
 
-    /// The game at hand.
+    /// The current game.
     pub fn game(&self) -> Option<Game<'_>>
         ensures { option_map game_seen result ≡ option_map (λ g. g.game) self.now.begun }
     {
@@ -90,14 +90,14 @@ impl<'a, A: Allocator> Gathering<'a, A> {
         })
     }
 
-    /// Puts the game at hand away.
+    /// Drops the current game.
     pub fn close(&mut self)
         ensures { self.new ≡ record { next = self.old.next; begun = None } }
     {
         self.has_begun = false;
     }
 
-    /// Adds a line to the game at hand, or begins a game with it.
+    /// Adds a line to the current game, or begins a game with it.
     pub fn add_line(&mut self, line: &[u8], kind: LineKind) -> Result<(), AllocError>
         ensures { OnOk result (self.new ≡ with_next self.old line.now kind) }
     {
@@ -112,7 +112,7 @@ impl<'a, A: Allocator> Gathering<'a, A> {
         self.extend(line, kind)
     }
 
-    /// Passes over a line.
+    /// Skips a line.
     fn pass(&mut self)
         ensures { self.new ≡ record { next = one_more self.old.next; begun = self.old.begun } }
     {
@@ -130,7 +130,7 @@ impl<'a, A: Allocator> Gathering<'a, A> {
         self.seen = Seen::default();
     }
 
-    /// Adds bytes to those of the game at hand, where they are not too many.
+    /// Adds bytes to those of the current game, unless they are too many.
     fn add_bytes(&mut self, line: &[u8]) -> Result<(), AllocError>
         ensures { IfSome self.old.begun (λ g. OnOk result (self.new ≡ record { next = self.old.next; begun = Some (with_text g line.now) })) }
     {
@@ -145,7 +145,7 @@ impl<'a, A: Allocator> Gathering<'a, A> {
         Ok(())
     }
 
-    /// Adds a line to the game at hand.
+    /// Adds a line to the current game.
     fn extend(&mut self, line: &[u8], kind: LineKind) -> Result<(), AllocError>
         ensures { IfSome self.old.begun
             (λ g. OnOk result (self.new ≡ record { next = one_more self.old.next; begun = Some (with_line g line.now kind) })) }

@@ -7,17 +7,17 @@ use crate::token::{Token, TokenFault, begins_feed, read_token};
 use std::alloc::{AllocError, Allocator};
 use study_text::Text;
 
-/// A tag that is none, and how many bytes of the game stand from its place on.
+/// A faulty tag, and the number of bytes of the game from its place on.
 #[derive(Clone, Copy, Debug, PartialEq, Eq)]
 pub struct HeaderFault {
     pub why: TokenFault,
     pub left: usize,
 }
 
-/// What the next token is to a header.
+/// The next token of a header.
 #[derive(Clone, Copy)]
 pub enum HeaderStep<'t> {
-    /// A tag's name and value, or a blank or a comment; and what follows.
+    /// A tag's name and value, or a blank or a comment; and the rest.
     On(Option<(&'t [u8], &'t [u8])>, &'t [u8]),
     NoTag(TokenFault),
     End,
@@ -39,7 +39,7 @@ fn step_at(text: &[u8], fresh: bool) -> HeaderStep<'_>
     }
 }
 
-/// The first that is to be a tag in the header of a game, and is none.
+/// The first token in the header of a game that should be a tag and is not one.
 #[tactic(auto, unfolding(crate::specs::Header::header_fault), using(crate::proofs::Fuel::fault_more))]
 pub fn header_fault(game: &[u8]) -> Option<HeaderFault>
     ensures { result ≡ header_fault game.now }
@@ -66,7 +66,7 @@ pub fn header_fault(game: &[u8]) -> Option<HeaderFault>
     None
 }
 
-/// How many tags the header of a game has.
+/// The number of tags in the header of a game.
 #[tactic(auto, unfolding(crate::specs::Header::tags_of), using(crate::proofs::Fuel::tags_more))]
 pub fn count_tags(game: &[u8]) -> usize
     ensures { result ≡ length (tags_of game.now) }
@@ -113,7 +113,7 @@ pub fn tag_value<'t>(game: &'t [u8], name: &[u8]) -> Option<&'t [u8]>
     None
 }
 
-/// The byte with which the text begins behind a backslash that escapes it, and what follows it.
+/// The byte at the front that a backslash escapes, and the rest.
 fn read_escaped(text: &[u8]) -> Option<(u8, &[u8])>
     ensures { option_map (λ found. (found.0, found.1.now)) result ≡ escaped_at text.now }
 {
@@ -123,7 +123,7 @@ fn read_escaped(text: &[u8]) -> Option<(u8, &[u8])>
     }
 }
 
-/// The text that a tag's value stands for.
+/// The text of a tag's value, without the backslashes that escape.
 pub fn unescape<'a, A: Allocator>(alloc: &'a A, value: &[u8]) -> Result<Text<'a, A>, AllocError>
     ensures { IfOk result (λ text. text ≡ unescaped value.now) }
 {

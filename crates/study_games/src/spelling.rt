@@ -1,4 +1,4 @@
-//! The SAN of a symbol that stands for a move.
+//! The SAN of a symbol for a move.
 ghost use Rattle.std.specs.Prelude.{◌≡◌, ◌≤◌, length, take, Some, None, MatchOption};
 ghost use Rattle.study_games.specs.Symbols.{figurine_kind, kind_letter, figurine_at, lettered, is_tail, without_tail, without_passing, without_pawn};
 ghost use Rattle.study_games.specs.Symbols.{begins_castling, plain_byte, spelled, san_in};
@@ -31,7 +31,7 @@ fn kind_letter(c: u8) -> u8
     }
 }
 
-/// The letter of a figurine that stands in front, and what follows it.
+/// The letter of a figurine at the front, and the rest.
 fn read_figurine(text: &[u8]) -> Option<(u8, &[u8])>
     ensures { MatchOption result (figurine_at text.now ≡ None) (λ found. figurine_at text.now ≡ Some (found.0, found.1.now)) }
 {
@@ -63,14 +63,14 @@ fn lettered(symbol: &[u8]) -> ArrayVec<u8, 32>
     out
 }
 
-/// What a SAN text does not end with.
+/// Whether a SAN text does not end with the byte.
 fn is_tail(b: u8) -> bool
     ensures { result ≡ is_tail b }
 {
     is_sign(b) || is_high(b)
 }
 
-/// How much of a text stands before the signs and judgements at its end.
+/// The length of a text without the signs and judgements at its end.
 fn len_without_tail(text: &[u8]) -> usize
     ensures value { take result text.now ≡ without_tail text.now }
     ensures within { result ≤ length text.now }
@@ -130,7 +130,7 @@ fn plain_byte(b: u8) -> u8
     }
 }
 
-/// The text with its other signs for `x` and `=`, and without the dashes of long notation.
+/// The text with `x` and `=` for its other signs, and without the dashes of long notation.
 fn spelled(text: &[u8]) -> ArrayVec<u8, 32>
     requires { length text.now ≤ 32 }
     ensures { result.items ≡ spelled text.now }
@@ -147,7 +147,7 @@ fn spelled(text: &[u8]) -> ArrayVec<u8, 32>
     out
 }
 
-/// The SAN of a symbol that stands for a move.
+/// The SAN of a symbol for a move.
 #[tactic(auto, unfolding(crate::specs::Symbols::san_in))]
 pub fn san_in(symbol: &[u8]) -> ArrayVec<u8, 32>
     requires { length symbol.now ≤ 32 }

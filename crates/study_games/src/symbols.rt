@@ -1,4 +1,4 @@
-//! What a symbol says.
+//! The meaning of a symbol.
 ghost use Rattle.std.specs.Prelude.{◌≡◌, length};
 ghost use Rattle.std.specs.List.{list_all};
 ghost use Rattle.study_games.specs.Bytes.{is_digit, is_high};
@@ -14,7 +14,7 @@ pub enum Outcome {
     Drawn,
 }
 
-/// What a symbol says.
+/// The meaning of a symbol.
 #[derive(Clone, Copy, Debug, PartialEq, Eq)]
 pub enum Said {
     /// The number of a move, which is not compared.
@@ -58,7 +58,7 @@ fn has_figurine(text: &[u8]) -> bool
     false
 }
 
-/// What the symbol says.
+/// The meaning of the symbol.
 #[tactic(auto, unfolding(crate::specs::Symbols::said_of))]
 pub fn say(symbol: &[u8]) -> Said
     ensures { result ≡ said_of symbol.now }

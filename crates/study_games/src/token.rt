@@ -31,7 +31,7 @@ pub enum Token<'t> {
     Symbol(&'t [u8]),
 }
 
-/// A token, and the text that follows it.
+/// A token, and the rest of the text.
 #[derive(Clone, Copy, Debug)]
 pub struct Cut<'t> {
     pub token: Token<'t>,
@@ -99,7 +99,7 @@ fn symbol_len(text: &[u8]) -> usize
     text.iter().take_while(|b| is_symbol_byte(**b)).count()
 }
 
-/// How much of the text is in its first line.
+/// The length of the first line of the text.
 fn line_len(text: &[u8]) -> usize
     ensures value { result ≡ prefix_len is_in_line text.now }
     ensures within { result ≤ length text.now }
@@ -107,7 +107,7 @@ fn line_len(text: &[u8]) -> usize
     text.iter().take_while(|b| **b != b'\n').count()
 }
 
-/// How much of the text is in a comment in braces.
+/// The length of the text's comment in braces.
 fn comment_len(text: &[u8]) -> usize
     ensures value { result ≡ prefix_len is_inside text.now }
     ensures within { result ≤ length text.now }
@@ -124,8 +124,8 @@ fn ends_tag(text: &[u8]) -> bool
     matches!(behind, [b']', ..])
 }
 
-/// How long the value of a tag is, from behind its first quotation mark on: up to the first mark that no backslash escapes and
-/// behind which the tag ends, in this line.
+/// The length of a tag's value, after its first quotation mark: up to the first mark in this line that no backslash escapes and after which the tag
+/// ends.
 ///
 /// Scid writes the marks inside a value as they are.
 fn value_len(text: &[u8]) -> Option<usize>
@@ -150,7 +150,7 @@ fn value_len(text: &[u8]) -> Option<usize>
     None
 }
 
-/// What follows the quotation mark and the `]` behind a value.
+/// The rest after the quotation mark and the `]` of a value.
 #[tactic(auto, unfolding(crate::specs::Tokens::behind_value))]
 fn behind_value(text: &[u8]) -> &[u8]
     ensures { result.now ≡ behind_value text.now }
@@ -165,7 +165,7 @@ fn behind_value(text: &[u8]) -> &[u8]
     }
 }
 
-/// The value of a tag, and what follows the tag.
+/// The value of a tag, and the rest after the tag.
 fn read_value<'t>(name: &'t [u8], text: &'t [u8]) -> Result<Cut<'t>, TokenFault>
     ensures { lexed_seen result ≡ valued name.now text.now (value_end 0 false text.now) }
 {
@@ -201,7 +201,7 @@ fn read_named(text: &[u8]) -> Result<Cut<'_>, TokenFault>
     }
 }
 
-/// A tag, behind its `[`.
+/// A tag, after its `[`.
 #[tactic(auto, unfolding(crate::specs::Tokens::tag_at))]
 fn read_tag(text: &[u8]) -> Result<Cut<'_>, TokenFault>
     ensures { lexed_seen result ≡ tag_at text.now }
@@ -210,7 +210,7 @@ fn read_tag(text: &[u8]) -> Result<Cut<'_>, TokenFault>
     read_named(behind)
 }
 
-/// A comment, behind its `{`.
+/// A comment, after its `{`.
 #[tactic(auto, unfolding(crate::specs::Tokens::comment_at))]
 fn read_comment(text: &[u8]) -> Result<Cut<'_>, TokenFault>
     ensures { lexed_seen result ≡ comment_at text.now }
@@ -264,7 +264,7 @@ fn read_glyphs(text: &[u8]) -> Result<Cut<'_>, TokenFault>
     found(Token::Aside, behind)
 }
 
-/// The first token of a text, and what follows it; `fresh`: the text begins a line.
+/// The first token of a text, and the rest; `fresh`: the text begins a line.
 pub fn read_token(text: &[u8], fresh: bool) -> Option<Result<Cut<'_>, TokenFault>>
     ensures { option_map lexed_seen result ≡ token_at fresh text.now }
 {
@@ -274,7 +274,7 @@ pub fn read_token(text: &[u8], fresh: bool) -> Option<Result<Cut<'_>, TokenFault
     }
 }
 
-/// The token that begins with the byte, behind which the rest stands.
+/// The token that begins with the byte, before the rest.
 #[tactic(auto, unfolding(crate::specs::Tokens::lexed))]
 fn read_begun<'t>(
     text: &'t [u8],
@@ -314,7 +314,7 @@ fn read_begun<'t>(
     }
 }
 
-/// Whether the text begins with a line feed, so that what follows begins a line.
+/// Whether the text begins with a line feed, so that the rest begins a line.
 pub fn begins_feed(text: &[u8]) -> bool
     ensures { result ≡ begins_feed text.now }
 {

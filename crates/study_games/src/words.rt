@@ -22,7 +22,7 @@ fn word_len(text: &[u8]) -> usize
     text.iter().take_while(|b| !is_blank(**b)).count()
 }
 
-/// The word that the text begins with, and what follows it.
+/// The word that the text begins with, and the rest.
 fn cut_word(text: &[u8]) -> Option<(&[u8], &[u8])>
     ensures { option_map (λ found. (found.0.now, found.1.now)) result ≡ begun_word text.now }
 {
@@ -32,7 +32,7 @@ fn cut_word(text: &[u8]) -> Option<(&[u8], &[u8])>
     Some(text.split_at(word_len(text)))
 }
 
-/// The first word of a text, and what follows it. Words stand between blanks.
+/// The first word of a text, and the rest. Words are separated by blanks.
 #[tactic(auto, unfolding(crate::specs::Words::first_word))]
 pub fn next_word(text: &[u8]) -> Option<(&[u8], &[u8])>
     ensures { option_map (λ found. (found.0.now, found.1.now)) result ≡ first_word text.now }
@@ -48,7 +48,7 @@ fn spaces_len(text: &[u8]) -> usize
     text.iter().take_while(|b| **b == b' ').count()
 }
 
-/// How much of a text stands before the spaces at its end.
+/// The length of a text without the spaces at its end.
 fn len_without_end_spaces(text: &[u8]) -> usize
     ensures value { take result text.now ≡ without_end is_space text.now }
     ensures within { result ≤ length text.now }
@@ -68,7 +68,7 @@ pub fn trim_end(text: &[u8]) -> &[u8]
     front
 }
 
-/// The text without the spaces in front.
+/// The text without the spaces at its front.
 pub fn trim_start(text: &[u8]) -> &[u8]
     ensures { result.now ≡ without_spaces text.now }
 {
@@ -76,7 +76,7 @@ pub fn trim_start(text: &[u8]) -> &[u8]
     begun
 }
 
-/// The text, and no more than so many bytes of it.
+/// At most so many bytes of the text, from its front.
 pub fn shortened(text: &[u8], most: usize) -> &[u8]
     ensures { result.now ≡ take most text.now }
 {

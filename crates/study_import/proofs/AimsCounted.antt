@@ -1,4 +1,4 @@
--- A mate is to be given within 1 to 127 moves, wherever a game says so.
+-- A mate has 1 to 127 moves, whatever part of a game states it.
 use Rattle.std.proofs.Common.{◌≡◌, ℕ, ◌≤◌, Bool, true, false, List, [], ◌∷◌, Option, Some, None, refl, subst}
 use Rattle.std.specs.Prelude.{◌==◌, ◌&&◌, not, nat_le, codes, if◌then◌else◌}
 use Rattle.std.specs.Str.{bytes_eq}
@@ -139,7 +139,7 @@ given_tag : (value : List ℕ) (side : Side) → IsGiven (aim_of_tag value side)
 unfolding aim_of_tag
 given_tag value side = given_text (trimmed value) side
 
--- ---- the first that says one
+-- ---- the first stipulation that is stated
 
 abbrev Aimed : Option Aim → Type 0
 Aimed None = Unit {0}
@@ -180,7 +180,7 @@ pub aim_counted : (given : Option Stipulation) (tags : List Pair) (side : Side) 
     → aim_of_game given tags side n ≡ Some aim → IsCounted aim.stipulation.goal
 aim_counted given tags side n aim g k e = game_aimed given tags side n g k (Some aim) e
 
--- ---- what is noted of a comment
+-- ---- the note for a comment
 
 opening_if : (b : Bool) (x y : Notes) → IsGiven x.opening → IsGiven y.opening → IsGiven (if b then x else y).opening
 opening_if true x y h k = h

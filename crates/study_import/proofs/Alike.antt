@@ -1,4 +1,4 @@
--- What a game comes to depends on no number.
+-- The study of a game depends on no number.
 use Rattle.std.proofs.Common.{◌≡◌, ℕ, Bool, true, false, List, length, Option, Some, None, Result, Ok, Err, refl, ap}
 use Rattle.std.specs.Prelude.{◌==◌, codes, if◌then◌else◌}
 use Rattle.study_notation.specs.declared.start.Start.{Start}

@@ -1,4 +1,4 @@
--- What is written of a game depends on no other.
+-- The text written for a game depends on no other game.
 use Rattle.std.proofs.Common.{◌≡◌, ℕ, List, [], ◌∷◌, ◌++◌, None, refl, sym, ap, ◌∙◌, append_assoc}
 use Rattle.study_games.specs.Games.{Game, games_of, games_from}
 use Rattle.study_games.specs.Laws.{number_behind, lines_of}

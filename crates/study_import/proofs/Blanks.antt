@@ -29,7 +29,7 @@ same_append [] ys (y ∷ a) b h k = absurd h
 same_append (x ∷ xs) ys [] b h k = absurd h
 same_append (x ∷ xs) ys (y ∷ a) b h k = (h.0, same_append xs ys a b h.1 k)
 
--- where a text is two texts, so is one that differs in blanks
+-- if a text is a concatenation, so is one that differs in blanks
 pub record Cut (xs ys t : List ℕ) : Type 0 where
   pub front : List ℕ
   pub back : List ℕ
@@ -54,7 +54,7 @@ ink_is [] (y ∷ ys) i h = absurd h
 ink_is (x ∷ xs) [] i h = absurd h
 ink_is (x ∷ xs) (y ∷ ys) i h = ap (λ (b : ℕ). b ∷ ys) (byte_is x y i.0 h.0) ∙ ap (λ (t : List ℕ). x ∷ t) (ink_is xs ys i.2 h.1)
 
--- a word in front
+-- a word at the front
 pub record WordCut (w ys t : List ℕ) : Type 0 where
   pub back : List ℕ
   pub text : t ≡ w ++ back
@@ -68,7 +68,7 @@ word_cut w ys t i h =
 abbrev pub IsGap : ℕ → Type 0
 IsGap b = (b ≡ 32) ⊎ (b ≡ 10)
 
--- a space in front
+-- a space at the front
 pub record SpaceCut (ys t : List ℕ) : Type 0 where
   pub byte : ℕ
   pub back : List ℕ
@@ -84,7 +84,7 @@ pub space_cut : (ys t : List ℕ) → Same (32 ∷ ys) t → SpaceCut ys t
 space_cut ys [] h = absurd h
 space_cut ys (y ∷ t) h = record { byte = y; back = t; text = refl; gap = gap_of y h.0; rest = h.1 }
 
--- what holds of all bytes, the line feed among them
+-- what is true of all bytes, including the line feed
 byte_all : (q : ℕ → Bool) (x y : ℕ) → q 10 ≡ true → q x ≡ true → SameByte x y → q y ≡ true
 byte_all q x y ten h (inl e) = subst (λ (b : ℕ). q b ≡ true) (sym e) h
 byte_all q x y ten h (inr e) = subst (λ (b : ℕ). q b ≡ true) (sym e.1) ten
@@ -99,7 +99,7 @@ same_all q (x ∷ xs) (y ∷ ys) ten h k =
 
 -- ---- one space between two words
 
--- whether a space, or nothing, stands last; none where two spaces stand side by side
+-- whether the last byte is a space, or there is none; `None` if two spaces are adjacent
 abbrev pub run : Bool → List ℕ → Option Bool
 run spaced [] = Some spaced
 run spaced (b ∷ bs) = if is_space b then (if spaced then None else run true bs) else run false bs

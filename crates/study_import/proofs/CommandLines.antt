@@ -234,7 +234,7 @@ tag_asked name text h p =
     keyword_asked (codes "tag") (tag_name name ++ (32 ∷ text)) Tag (ink_of (codes "tag") refl) (omega arith) refl tag_word (tag_prints name text p)
     ∙ rw (tag_first name text, (name_ink name).2, behind_spaced (tag_name name) text (name_ink name).0 (name_ink name).1, told_again text h) refl
 
--- ---- pgn, and lines that ask for nothing
+-- ---- pgn, and lines without a command
 
 pub pgn_asked : ◌≡◌ {A = Asks} (command_of (codes "pgn")) (Ok (Some pgn))
 unfolding command_of words behind_word word_of word_asked

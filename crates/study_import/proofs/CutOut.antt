@@ -1,4 +1,4 @@
--- Studies that are written into one file are cut out of it as they were written.
+-- Studies that are written into one file are cut apart again as they were written.
 use Rattle.std.proofs.Common.{◌≡◌, ℕ, zero, suc, ◌+◌, ◌<◌, ◌≤◌, Bool, true, false, not, List, [], ◌∷◌, ◌++◌, length, drop, map, Option, Some, None, refl, sym, ap, subst, ◌∙◌, ◌⊎◌, inl, inr, arith, length-append, append_assoc}
 use Rattle.std.specs.Prelude.{◌*◌, ◌==◌, ◌&&◌, ◌||◌, min, nat_le, codes, if◌then◌else◌}
 use Rattle.std.specs.List.{list_all, flat_map, prefix_len, AllByRecursion}
@@ -109,7 +109,7 @@ quiet s line h =
     by false true = refl
     by false false = refl
 
--- ---- a line and the game at hand
+-- ---- a line and the current game
 
 bytes_kept : (o : Option (List ℕ)) (t line : List ℕ) → o ≡ Some t → length t + length line ≤ 1048576 → with_bytes o line ≡ Some (t ++ line)
 bytes_kept o t line is le = ap (λ (x : Option (List ℕ)). with_bytes x line) is ∙ rw (le-leb (length t + length line) 1048576 le) refl
@@ -123,7 +123,7 @@ behind_one n le = at_most (n + 1) 4294967295 (omega (arith, le)) (omega arith)
 no_mark : (n : ℕ) (line : List ℕ) → 2 ≤ n → unmarked n line ≡ line
 no_mark n line le = rw (ne_eqb n 1 (λ e. omega (arith, le, e))) refl
 
--- where a line begins no game, it is added to the game at hand
+-- a line that does not begin a game is added to the current game
 line_added : (n : ℕ) (g : Begun) (line : List ℕ) (lines : List (List ℕ)) → 2 ≤ n → begins_game g.seen (kind_of line) ≡ false
     → games_from n (Some g) (line ∷ lines) ≡ games_from (one_more n) (Some (with_line g line (kind_of line))) lines
 line_added n g line lines le e =
@@ -177,7 +177,7 @@ front_moves g line b bs (inl e) = inl e
 front_moves g [] b bs (inr h) = inr h
 front_moves g (x ∷ xs) b bs (inr h) = inr h
 
--- the text of the game at hand and the game itself behind some lines
+-- the text of the current game and the game itself after some lines
 record Behind (n : ℕ) (g : Begun) (lines : List (List ℕ)) (t rest : List ℕ) (moves : Bool) : Type 0 where
   next : ℕ
   late : 2 ≤ next
@@ -186,7 +186,7 @@ record Behind (n : ℕ) (g : Begun) (lines : List (List ℕ)) (t rest : List ℕ
   seen : at_hand.seen.moves ≡ moves
   is : games_from n (Some g) lines ≡ games_from next (Some at_hand) (lines_behind [] rest)
 
--- a line, and what follows it
+-- a line, and the rest
 behind_line : (n : ℕ) (g : Begun) (t line : List ℕ) (lines : List (List ℕ)) (u rest : List ℕ) → 2 ≤ n → g.game.text ≡ Some t → list_all is_plain line ≡ true
     → length t + length line ≤ 1048576 → HasMoves g line
     → ((next : ℕ) (h : Begun) → 2 ≤ next → h.game.text ≡ Some (t ++ line) → h.seen.moves ≡ true → Behind next h lines u rest true)
@@ -360,7 +360,7 @@ result_few side (Loss n) = won_few (other_side side)
 abbrev event_of : Study Mark → List ℕ
 event_of s = text_or_unknown name_of.Event (tag_of s.tags name_of.Event)
 
--- the tags behind Event
+-- the tags after Event
 abbrev others : Study Mark → List Named
 others s =
     (codes "Site", text_or_unknown name_of.Site (tag_of s.tags name_of.Site)) ∷ (codes "Date", text_or_unknown name_of.Date (tag_of s.tags name_of.Date))
@@ -445,7 +445,7 @@ empty_behind n g t more u rest late text seen few later =
     let r = later (one_more n) h (behind_one n (omega (arith, late))) (bytes_kept g.game.text t (10 ∷ []) text (omega (arith, few))) seen in
     record { next = r.next; late = r.late; at_hand = r.at_hand; text = r.text; seen = r.seen; is = line_added n g (10 ∷ []) (lines_behind [] more) late refl ∙ r.is }
 
--- the first line, and the game behind all of them
+-- the first line, and the game after all lines
 record CutOff (s : Study Mark) (n : ℕ) (rest : List ℕ) : Type 0 where
   next : ℕ
   late : 2 ≤ next
@@ -497,7 +497,7 @@ cut_off s c n rest one =
 abbrev text_of : Game → Option (List ℕ)
 text_of g = g.text
 
--- the game at hand ends where the next study begins, or with the file
+-- the current game ends at the beginning of the next study, or at the end of the file
 ended_before : (ss : List (Study Mark)) (n : ℕ) (g : Begun) → AllByRecursion CanBeMade ss → 2 ≤ n → g.seen.moves ≡ true
     → games_from n (Some g) (lines_behind [] (flat_map pgn_text ss)) ≡ g.game ∷ games_from n None (lines_behind [] (flat_map pgn_text ss))
 ended_before [] n g h late seen = refl
@@ -524,7 +524,7 @@ texts_cut : (ss : List (Study Mark)) → AllByRecursion CanBeMade ss → map tex
 unfolding games_of
 texts_cut ss h = all_cut ss 1 h (omega arith)
 
--- what each text comes to
+-- the study of each text
 studies_of : (ss : List (Study Mark)) → AllByRecursion CanBeMade ss → map (study_of_game None) (map (λ s. Some (pgn_text s)) ss) ≡ map (λ s. Some (unmarked_study s)) ss
 studies_of [] h = refl
 studies_of (s ∷ ss) h =

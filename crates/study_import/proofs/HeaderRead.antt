@@ -158,7 +158,7 @@ fault_step fresh b bs rest t s e k =
     on_fault fresh b bs ∙ ap (λ (x : Lexed). with_fault (λ r. fault_from (b == 10) r) (length (b ∷ bs)) (step_of x)) e
     ∙ ap (with_fault (λ r. fault_from (b == 10) r) (length (b ∷ bs))) k
 
--- what a line of a tag, with its line feed, is to all three readings
+-- a line of a tag, with its line feed, in all three readings
 pub record LineRead (name text rest : List ℕ) (fresh : Bool) (g : GameRead) : Type 0 where
   pub tags : tags_from fresh (tag_text_line name text (10 ∷ rest)) ≡ (name, flat_map escaped text) ∷ tags_from true rest
   pub fault : fault_from fresh (tag_text_line name text (10 ∷ rest)) ≡ fault_from true rest

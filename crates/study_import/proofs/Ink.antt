@@ -1,4 +1,4 @@
--- Words of bytes that print, and the lines that are made of them.
+-- Words of printable bytes, and the lines that are made of them.
 use Rattle.std.proofs.Common.{◌≡◌, ℕ, zero, suc, ◌+◌, ◌/◌, ◌%◌, ◌<◌, ◌≤◌, Bool, true, false, not, List, [], ◌∷◌, ◌++◌, length, drop, refl, sym, ap, ◌∙◌, inl, inr, arith}
 use Rattle.std.specs.Prelude.{◌==◌, ◌&&◌, nat_le, filter, decimal}
 use Rattle.std.specs.List.{list_all, slice_split, onto_first, prefix_len}
@@ -7,12 +7,12 @@ use Rattle.std.proofs.lemmas.Bool.{ne_eqb, le-leb, leb-true, lt-ltb, cases_Bool,
 use Rattle.study_text.specs.Words.{is_space, words, begun_word, behind_word}
 use Rattle.study_text.proofs.FirstWord.{is_word, words_cons}
 
--- bytes that print, the space apart
+-- printable bytes except the space
 abbrev pub Ink : List ℕ → Type 0
 Ink [] = Unit {0}
 Ink (b ∷ bs) = (32 < b) × (b ≤ 126) × Ink bs
 
--- bytes that print
+-- printable bytes
 abbrev pub Print : List ℕ → Type 0
 Print [] = Unit {0}
 Print (b ∷ bs) = (32 ≤ b) × (b ≤ 126) × Print bs
@@ -33,7 +33,7 @@ pub all_print : (xs : List ℕ) → Print xs → list_all (λ b. nat_le 32 b && 
 all_print [] h = refl
 all_print (x ∷ xs) h = rw (le-leb 32 x h.0, le-leb x 126 h.1) (all_print xs h.2)
 
--- a test of a text that is written out
+-- a test for a literal text
 abbrev pub inks : ℕ → Bool
 inks b = nat_le 33 b && nat_le b 126
 
@@ -63,7 +63,7 @@ onto_few (suc k) n acc =
     let later = onto_few k (n / 10) (digit_glyph false (n % 10) ∷ acc) in
     elim (cases_Bool (n / 10 == 0)) [ inl last ↦ rw last (omega arith) | inr more ↦ rw more (omega (arith, later)) ]
 
--- of any number no more than 64 digits are written
+-- at most 64 digits of any number are written
 pub decimal_ink : (n : ℕ) → Ink (decimal n)
 unfolding digits
 decimal_ink n = onto_ink 64 n [] tt
@@ -106,7 +106,7 @@ behind_ink (b ∷ w) r h =
     rw (not_space b h.0)
     (ap (λ k. drop k (b ∷ (w ++ (32 ∷ r)))) (sym (one_up (prefix_len (λ c. not (is_space c)) (w ++ (32 ∷ r))))) ∙ behind_ink w r h.2)
 
--- what stands in front of a word is nothing
+-- nothing precedes a word
 begun_ink : (b : ℕ) (bs : List ℕ) → is_space b ≡ false → begun_word (b ∷ bs) ≡ b ∷ bs
 begun_ink b bs h = rw h refl
 

@@ -1,4 +1,4 @@
--- What stays true while the moves of a game are read.
+-- Invariants of reading the moves of a game.
 use Rattle.std.proofs.Common.{◌≡◌, ℕ, zero, suc, Bool, true, false, List, [], ◌∷◌, length, Result, Ok, Err, refl, subst}
 use Rattle.std.specs.Prelude.{◌==◌, if◌then◌else◌}
 use Rattle.study_games.specs.Tokens.{Token, Lexed, lexed}

@@ -1,4 +1,4 @@
--- What is read of a game's moves is made by insertions.
+-- The tree read from a game's moves is made by insertions.
 use Rattle.std.proofs.Common.{◌≡◌, ℕ, zero, suc, Bool, true, false, List, [], ◌∷◌, ◌++◌, length, Option, Some, None, Result, Ok, Err, refl, sym, ap, subst, ◌∙◌, append_assoc}
 use Rattle.std.specs.Prelude.{◌==◌, IfOk, nat_le, nat_lt, codes, if◌then◌else◌}
 use Rattle.std.specs.List.{list_all}

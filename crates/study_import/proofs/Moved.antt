@@ -1,4 +1,4 @@
--- How an insertion comes to a step.
+-- How an insertion becomes a step.
 use Rattle.std.proofs.Common.{◌≡◌, ℕ, zero, suc, Bool, true, false, List, [], ◌∷◌, length, Option, Some, None, Result, Ok, Err, refl, sym, ap, subst, ◌∙◌, ◌+◌}
 use Rattle.std.specs.Prelude.{MatchOption, IfOk, IfErr, IfSome, nat_le, if◌then◌else◌}
 use Rattle.study_board.specs.Position.{Position}
@@ -66,7 +66,7 @@ module _ {L : Type 0} where
   children_at-plain s ks = children_at-mapped (λ _. tt) s.tree.below ks
 
 module _ {A : Type 0} where
-  -- the plain reasons against a legal move at a node that is there
+  -- the general reasons against a legal move at an existing node
   abbrev limits : Option ℕ → Bool → Bool → Option (Refusal A)
   limits place deep full = there place (if deep then Some refusal.TooDeep else (if full then Some refusal.TreeFull else None))
 
@@ -159,7 +159,7 @@ module _ {L : Type 0} where
   here_at s ks true st e = refl
   here_at s ks false st e = absurd cc
 
-  -- a node that has a start is there
+  -- a node that has a start exists
   pub here : (s : Study L) (ks : List ℕ) (st : Start) → Some st ≡ start_at s ks → has_spot s.tree ks ≡ true
   here s ks st e = here_at s ks (has_spot s.tree ks) st e
 
@@ -184,7 +184,7 @@ module _ {L : Type 0} where
       → moved (plain_study s) ks san ≡ Err (San fault)
   unread_at s ks san fault st is at e = moved_is s ks san st (Err fault) is at e
 
--- ---- what is new is legal
+-- ---- new moves are legal
 
 some_legal : (added : Option Move) (p : Position) (m : Move) → is_legal p m ≡ true → IfSome added (λ n. n ≡ m) → IfSome added (λ n. is_legal p n ≡ true)
 some_legal None p m legal same = tt

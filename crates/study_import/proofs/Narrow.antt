@@ -99,7 +99,7 @@ places_few p (more m l b r) (zero ∷ ks) valid h d e = (omega arith, places_few
 places_few p (more m l b r) (suc k ∷ ks) valid h d e =
     (omega (arith, node_below (more m l b r) (suc k) ks e, width_few p (more m l b r) valid h d), (places_few p r (k ∷ ks) valid h.2 d.2 e).1)
 
--- ---- what an insertion that is not refused tells
+-- ---- the effect of an accepted insertion
 
 pub record IsOpen (s : Plainly) (at : List ℕ) (m : Move) : Type 0 where
   pub found : has_spot s.tree at ≡ true

@@ -1,4 +1,4 @@
--- The opening comment says the stipulation, however it is cut into lines.
+-- The opening comment states the stipulation, however it is cut into lines.
 use Rattle.std.proofs.Common.{◌≡◌, ℕ, ◌-◌, ◌<◌, true, false, List, [], ◌∷◌, ◌++◌, length, take, Some, None, refl, sym, ap, subst, ◌∙◌, inl, inr, arith, length-append, append_assoc}
 use Rattle.std.specs.Prelude.{◌==◌, ◌&&◌, nat_le, slice_index, codes, decimal}
 use Rattle.std.specs.List.{list_all}
@@ -36,7 +36,7 @@ gap_blank : (b : ℕ) → IsGap b → is_blank b ≡ true
 gap_blank b (inl e) = rw e refl
 gap_blank b (inr e) = rw e refl
 
--- what a text without blanks in front begins with
+-- the first byte of a text without blanks at the front
 begun : (w : List ℕ) (b : ℕ) (rest : List ℕ) → Ink w → 0 < length w → IsGap b → begun_word (w ++ (b ∷ rest)) ≡ Some (w, b ∷ rest)
 begun [] b rest h some gap = absurd (omega arith)
 begun (x ∷ w) b rest h some gap =
@@ -81,7 +81,7 @@ mate_later : (behind : List ℕ) (x : List ℕ × List ℕ) → first_word behin
 unfolding last_of_phrase
 mate_later behind x e = rw e refl
 
--- ---- a goal behind `to`
+-- ---- a goal after `to`
 
 abbrev Reads_goal : Goal → List ℕ → Type 0
 Reads_goal g t = goal_in (first_word t) ≡ Some g

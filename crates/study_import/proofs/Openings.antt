@@ -1,4 +1,4 @@
--- What the first comment says is a stipulation that can be given.
+-- The first comment states a valid stipulation.
 use Rattle.std.proofs.Common.{◌≡◌, ℕ, Bool, true, false, List, length, Result, Ok, Err, subst}
 use Rattle.std.specs.Prelude.{◌==◌, not, nat_le, if◌then◌else◌}
 use Rattle.study_games.specs.Tokens.{Token}

@@ -1,4 +1,4 @@
--- The place at hand is a node of the tree, and so is each that waits.
+-- The current place is a node of the tree, and so is each waiting one.
 use Rattle.std.proofs.Common.{◌≡◌, ℕ, zero, suc, ◌+◌, ◌-◌, ◌<◌, ◌≤◌, Bool, true, false, List, [], ◌∷◌, ◌++◌, length, take, Option, Some, None, Result, Ok, Err, refl, sym, ap, subst, ◌∙◌, arith, length-append, length-take}
 use Rattle.std.specs.Prelude.{◌==◌, not, nat_le, nat_lt, slice_index, codes, if◌then◌else◌}
 use Rattle.std.specs.List.{list_all}
@@ -100,7 +100,7 @@ prefix_node (more m l b r) (suc n) (suc k ∷ ks) h = prefix_node r (suc n) (k �
 
 -- ---- places
 
--- the path leads to a node and is as long as its line's beginning at least, and so it is with the lines that wait
+-- the path leads to a node and is at least as long as when its line began, and so for the waiting lines
 Known : Plain → List ℕ → ℕ → List Waiting → Type 0
 Known f path begun [] = (has_node f path ≡ true) × (begun ≤ length path)
 Known f path begun (w ∷ ws) = (has_node f path ≡ true) × (begun ≤ length path) × Known f (take begun path ++ w.replaced ∷ []) w.begun ws
@@ -148,7 +148,7 @@ stepped_placed r m None false false a h p e =
     (known_grows f g r.lines.path r.lines.begun r.lines.waiting (λ ks. grows f r.lines.path m ks) h)
     (new_child f r.lines.path m (here f r.lines.path r.lines.begun r.lines.waiting h).0))
 
--- what a move comes to
+-- the result of a move
 MoveOk : Reading → Result After MoveFault → Type 0
 MoveOk r (Ok a) = IsPlaced (gone_on r a)
 MoveOk r (Err fault) = IsListed (stop.Taking (reason.Move fault))
@@ -171,7 +171,7 @@ moved_ok : (r : Reading) (san : List ℕ) → IsPlaced r → MoveOk r (moved r.s
 unfolding moved IsPlaced
 moved_ok r san h = rw (here r.study.tree.below r.lines.path r.lines.begun r.lines.waiting h).0 (met_ok r (move_of (position_at r.study r.lines.path) san) h)
 
--- what a symbol comes to
+-- the result of a symbol
 ReadOk : Result Reading MoveFault → Type 0
 ReadOk (Ok r) = IsPlaced r
 ReadOk (Err fault) = IsListed (stop.Taking (reason.Move fault))

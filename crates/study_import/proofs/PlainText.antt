@@ -1,4 +1,4 @@
--- The movetext of a study has no quotation mark, and is shorter than a game may be.
+-- The movetext of a study has no quotation mark, and is shorter than the limit of a game.
 use Rattle.std.proofs.Common.{◌≡◌, ℕ, suc, ◌+◌, ◌/◌, ◌≤◌, Bool, true, false, not, List, [], ◌∷◌, ◌++◌, length, Option, Some, None, refl, sym, ap, subst, ◌∙◌, inl, inr, arith, length-append}
 use Rattle.std.specs.Prelude.{◌*◌, ◌==◌, nat_le, codes, decimal, if◌then◌else◌}
 use Rattle.std.specs.List.{list_all}

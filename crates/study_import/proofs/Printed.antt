@@ -1,4 +1,4 @@
--- Bytes that print.
+-- Printable bytes.
 use Rattle.std.proofs.Common.{◌≡◌, ℕ, true, List, [], ◌∷◌, refl, inl, inr}
 use Rattle.std.specs.Prelude.{map}
 use Rattle.std.specs.List.{list_all}

@@ -54,13 +54,13 @@ on_step fresh b bs g t rest h l k =
     on_reads fresh b bs g ∙ ap (λ (x : Lexed). on_token (λ r i. reads (b == 10) r i) (length (b ∷ bs)) g x) l
     ∙ ap (λ (x : Result GameTaken Reason). goes_on (λ i. reads (b == 10) rest i) (length (b ∷ bs)) rest x) k
 
--- from this text and what has been read the reading goes on to that
+-- reading leads from this text and this state to that text and that state
 abbrev pub Goes : List ℕ → GameRead → List ℕ → GameRead → Type 0
 Goes text g rest h = (fresh : Bool) → (f : Bool) × (reads fresh text g ≡ reads f rest h)
 
--- ---- where a reading is
+-- ---- the state of a reading
 
--- behind the opening comment, in a line that no null move cuts
+-- after the opening comment, in a line that no null move cuts
 pub record At (s : Plainly) (path : List ℕ) (begun : ℕ) (ws : List Waiting) (o : Option Stipulation) (g : GameRead) : Type 0 where
   pub study : g.reading.study ≡ s
   pub lines : g.reading.lines ≡ record { path = path; begun = begun; waiting = ws; cut = 0 }
@@ -90,7 +90,7 @@ comment_is text rest all =
     ap (λ (x : List ℕ). closed x (behind is_inside (text ++ (125 ∷ rest)))) cut.0 ∙ ap (closed text) cut.1
 
 module _ (s : Plainly) (path : List ℕ) (from : ℕ) (ws : List Waiting) (o : Option Stipulation) (g : GameRead) (at : At s path from ws o g) where
-  -- a token that changes notes alone
+  -- a token that changes only the notes
   noted_step : (b : ℕ) (bs rest : List ℕ) (t : Token) (n : Notes) → ((fresh : Bool) → lexed fresh b bs ≡ Ok (t, rest))
       → game_taken g t ≡ Ok (record { game = record { reading = g.reading; notes = n }; ended = false }) → n.opening ≡ g.notes.opening → n.has_comment ≡ true
       → Reached (b ∷ bs) rest s path from ws o g
@@ -172,7 +172,7 @@ module _ (s : Plainly) (path : List ℕ) (from : ℕ) (ws : List Waiting) (o : O
       ap (λ (x : Plainly). record { study = x; lines = g.reading.lines; inserts = g.reading.inserts }) at.study
       ∙ ap (λ (x : Lines). record { study = s; lines = x; inserts = g.reading.inserts }) at.lines
 
-  -- a move that is new at the node at hand
+  -- a move that is new at the current node
   pub record IsNew (text : List ℕ) (m : Move) : Type 0 where
     pub said : said_of text ≡ say.Move
     pub few : length text ≤ 32
@@ -235,7 +235,7 @@ module _ (s : Plainly) (path : List ℕ) (from : ℕ) (ws : List Waiting) (o : O
         at = record { study = at.study; lines = ap (λ (c : ℕ). record { path = l.path; begun = l.begun; waiting = l.waiting; cut = c }) cut; opening = at.opening; had = at.had };
       }
 
--- a variation begins behind the node at the path's end
+-- a variation begins after the node at the path's end
 pub open_step : (s : Plainly) (path : List ℕ) (k from : ℕ) (ws : List Waiting) (o : Option Stipulation) (g : GameRead) → At s (path ++ k ∷ []) from ws o g
     → (bs : List ℕ) → from ≤ length path → length ws < 256
     → Reached (40 ∷ bs) bs s path (length path) (record { replaced = k; begun = from } ∷ ws) o g
@@ -258,7 +258,7 @@ open_step s path k from ws o g at bs le few =
     line_step s (path ++ k ∷ []) from ws o g at 40 bs opening (begin_line g.reading.lines) l (lexed_open s (path ++ k ∷ []) from ws o g at bs) refl
     (ap begin_line at.lines ∙ begins) refl
 
--- a variation ends, and the line that waits goes on
+-- a variation ends, and the waiting line continues
 pub close_step : (s : Plainly) (path : List ℕ) (from : ℕ) (w : Waiting) (ws : List Waiting) (o : Option Stipulation) (g : GameRead) → At s path from (w ∷ ws) o g
     → (bs : List ℕ) → Reached (41 ∷ bs) bs s (take from path ++ w.replaced ∷ []) w.begun ws o g
 unfolding end_line
@@ -266,7 +266,7 @@ close_step s path from w ws o g at bs =
     line_step s path from (w ∷ ws) o g at 41 bs closing (end_line g.reading.lines) (record { path = take from path ++ w.replaced ∷ []; begun = w.begun; waiting = ws; cut = 0 })
     (lexed_close s path from (w ∷ ws) o g at bs) refl (ap end_line at.lines) refl
 
--- ---- numbers as they are written
+-- ---- numbers in their written form
 
 onto_digits : (k n : ℕ) (acc : List ℕ) → list_all is_digit acc ≡ true → list_all is_digit (digits_onto k 10 false n acc) ≡ true
 onto_digits zero n acc h = h

@@ -1,4 +1,4 @@
--- The lines of remarks ask for nothing.
+-- Lines of remarks have no command.
 use Rattle.std.proofs.Common.{◌≡◌, ℕ, zero, suc, ◌+◌, ◌≤◌, Bool, true, false, List, [], ◌∷◌, ◌++◌, length, take, map, Option, Some, None, Ok, refl, sym, ap, ◌∙◌, inl, inr, arith, length-append, append_assoc}
 use Rattle.std.specs.Prelude.{◌==◌, ◌&&◌, ◌||◌, ◌*◌, nat_le, codes, decimal, if◌then◌else◌}
 use Rattle.std.specs.List.{list_all, flat_map, prefix_len, AllByRecursion}
@@ -41,16 +41,16 @@ use Rattle.study_import.specs.Blocks.{Entry, Told, place_in, text_at, token_name
 use Rattle.study_import.proofs.Ink.{Ink, decimal_ink, decimal_few}
 use Rattle.study_import.proofs.CommandLines.{remark_asked, empty_asked}
 
--- a byte that is no control code below the space
+-- a byte that is not a control code below the space
 abbrev pub shows : ℕ → Bool
 shows b = nat_le 32 b
 
--- a line that can be read again
+-- a line that can be read back
 pub record IsLine (line : List ℕ) : Type 0 where
   pub shown : list_all shows line ≡ true
   pub few : length line ≤ 1024
 
--- a line that asks for nothing
+-- a line without a command
 pub record IsRemark (line : List ℕ) : Type 0 where
   pub fits : IsLine line
   pub silent : ◌≡◌ {A = Asks} (command_of line) (Ok None)

@@ -1,4 +1,4 @@
--- What is written of a study comes to that study again.
+-- The text written for a study reads back as that study.
 use Rattle.std.proofs.Common.{◌≡◌, ℕ, suc, ◌+◌, ◌<◌, ◌≤◌, Bool, true, false, not, List, [], ◌∷◌, ◌++◌, length, take, drop, map, Option, Some, None, Result, Ok, refl, sym, ap, subst, ◌∙◌, inl, inr, arith, length-drop, append_assoc}
 use Rattle.std.specs.Prelude.{◌==◌, ◌&&◌, nat_le, codes, decimal, if◌then◌else◌}
 use Rattle.std.specs.List.{list_all, flat_map, prefix_len}
@@ -127,7 +127,7 @@ unknown_is name_of.Round = record { first = 63; rest = []; begins = refl; inked 
 unknown_is name_of.White = record { first = 63; rest = []; begins = refl; inked = refl; ends = refl; prints = refl; few = omega arith }
 unknown_is name_of.Black = record { first = 63; rest = []; begins = refl; inked = refl; ends = refl; prints = refl; few = omega arith }
 
--- ---- a text without spaces at its ends has none in front
+-- ---- a text without spaces at its ends has none at the front
 
 ended_few : (xs : List ℕ) → length (ended xs) ≤ length xs
 ended_few [] = omega arith
@@ -140,7 +140,7 @@ ended_few (x ∷ xs) = go (list_all is_space (x ∷ xs)) (ended_few xs)
 drop_few : (n : ℕ) (xs : List ℕ) → length (drop n xs) ≤ length xs
 drop_few n xs = omega (arith, length-drop n xs)
 
--- the first byte of such a text is no space
+-- the first byte of such a text is not a space
 first_inked : (b : ℕ) (bs : List ℕ) (space : Bool) → is_space b ≡ space → trimmed (b ∷ bs) ≡ b ∷ bs → (is_space b ≡ false) × (ended (b ∷ bs) ≡ b ∷ bs)
 unfolding trimmed
 first_inked b bs true e same =
@@ -341,7 +341,7 @@ result_ends s path o g at w r b rest gap fresh =
 
 -- ---- the movetext
 
--- behind the opening comment
+-- after the opening comment
 abbrev start_study : Start → Plainly
 start_study start = (no_moves start).reading.study
 
@@ -383,7 +383,7 @@ tree_ends s c o t h g at fresh =
     last_gap [] h = absurd h
     last_gap (b ∷ bs) h = (b, bs, refl, feed_gap b h.0)
 
--- the opening comment, cut into lines, and what follows it
+-- the opening comment, cut into lines, and the rest
 pub record Opened (s : Study Mark) (t : List ℕ) : Type 0 where
   pub words : List ℕ
   pub back : List ℕ
@@ -461,7 +461,7 @@ dots_stop : (side : Side) (rest : List ℕ) → Stops is_symbol_byte (move_dots 
 dots_stop White rest = refl
 dots_stop Black rest = refl
 
--- what follows the opening comment begins with a number or with the result
+-- the text after the opening comment begins with a number or with the result
 tree_fault : (s : Study Mark) (st : Start) (f : Forest Mark) (t : List ℕ) (fresh : Bool) → Same (following st f ++ Ending s) t → fault_from fresh t ≡ None
 unfolding words_of_move
 tree_fault s st none t fresh h =

@@ -91,7 +91,7 @@ unfolding is_san_byte
 start_san [] h = refl
 start_san (x ∷ xs) h = let a = and_parts (is_start x) (list_all is_start xs) h in rw a.0 (start_san xs a.1)
 
--- what stands before a promotion
+-- the part before a promotion
 before_promotion : San → List ℕ
 before_promotion s = kind_text s.kind ++ (file_text s.file ++ (rank_text s.rank ++ (takes_text s.is_capture ++ square_text s.target)))
 
@@ -136,7 +136,7 @@ san_bytes s f =
     subst AllSan (sym (before_is s))
     (all_append is_san_byte (before_promotion s) (promotion_text true s.promoted) (start_san (before_promotion s) (before_start s f)) (promotion_san s.promoted))
 
--- ---- what such bytes are not, by a table
+-- ---- kinds that these bytes do not have, by a table
 
 unlike : (q : ℕ → Bool) (wrong : ℕ → Bool) → agree_below (λ b. q b && wrong b) (λ _. false) 128 ≡ true → ((b : ℕ) → q b ≡ true → b < 128) → (b : ℕ) → q b ≡ true → wrong b ≡ false
 unlike q wrong table low b h =
@@ -175,7 +175,7 @@ san_text_byte b h = rw h refl
 san_low : (b : ℕ) → is_san_byte b ≡ true → b < 128
 san_low b h = text_low b (san_text_byte b h)
 
--- `-`, `:`, `/`, and what begins a castling or a pawn's `P`
+-- `-`, `:`, `/`, and the first bytes of castling or a pawn's `P`
 is_odd : ℕ → Bool
 is_odd b = (b == 45 || b == 58) || (b == 47 || (b == 80 || (b == 79 || b == 48)))
 
@@ -247,7 +247,7 @@ figures_none (a ∷ b ∷ c ∷ bs) h =
 
 -- ---- the end
 
--- what a SAN text ends with: a rank, or the letter of an officer
+-- the last byte of a SAN text: a rank, or the letter of an officer
 is_end : ℕ → Bool
 is_end b = (nat_le 49 b && nat_le b 56) || ((b == 75 || b == 81) || (b == 82 || (b == 66 || b == 78)))
 
@@ -454,7 +454,7 @@ symbol_move p m valid e =
     let read : san_of (san_text s true) ≡ Some s = ap san_of (sym (append-nil (san_text s true))) ∙ san_again s true [] h.fits refl in
     ap (λ (t : List ℕ). meant p t (san_of t)) san ∙ ap (meant p (san_text s true)) read ∙ ap picked (alone_matches p m h.man valid e h.here)
 
--- ---- what is said
+-- ---- the meaning
 
 whole_bytes : (p : Position) (m : Move) → IsValid p → is_legal p m ≡ true → list_all is_text_byte (move_text p m) ≡ true
 whole_bytes p m valid e =
@@ -463,13 +463,13 @@ whole_bytes p m valid e =
     (all_append is_text_byte (san_text (san_for p h.man m) true) (check_text (after p m)) (text_bytes (san_text (san_for p h.man m) true) (san_bytes (san_for p h.man m) h.fits))
     (check_bytes (after p m)))
 
--- no text with another byte
+-- not a text with another byte
 unequal : (t word : List ℕ) → list_all is_text_byte t ≡ true → list_all is_text_byte word ≡ false → bytes_eq t word ≡ false
 unequal t word h k =
     false_from_ne_true (bytes_eq t word) (λ e.
     let same : t ≡ word = (bytes_eq-Decides t word).0 e in false≢true (sym k ∙ subst (λ (x : List ℕ). list_all is_text_byte x ≡ true) same h))
 
--- no text of another length
+-- not a text of another length
 longer : (t word : List ℕ) → length word < length t → bytes_eq t word ≡ false
 longer t word lt =
     false_from_ne_true (bytes_eq t word) (λ e. let same : t ≡ word = (bytes_eq-Decides t word).0 e in absurd (omega (arith, ap length same)))

@@ -1,4 +1,4 @@
--- The block of a game is read as a script that no rule refuses, and leads to the game's study.
+-- The block of a game reads as a script that no rule refuses, and leads to the game's study.
 use Rattle.std.proofs.Common.{◌≡◌, ℕ, zero, suc, ◌-◌, ◌<◌, ◌≤◌, Bool, true, false, List, [], ◌∷◌, ◌++◌, length, get_or, Option, Some, None, is_some, Result, Ok, Err, refl, sym, ap, subst, ◌∙◌, arith, length-append, append_assoc}
 use Rattle.std.specs.Prelude.{◌==◌, codes, decimal, if◌then◌else◌}
 use Rattle.std.specs.List.{list_all, flat_map, AllByRecursion}
@@ -57,7 +57,7 @@ use Rattle.study_import.proofs.Openings.{opening_given}
 use Rattle.study_import.proofs.CommandLines.{side_words, goal_words, stipulate_words, insert_words, tag_words, position_asked, stipulate_asked, stipulate_prints, insert_asked, insert_prints, tag_asked, tag_prints, pgn_asked, empty_asked, position_prints}
 use Rattle.study_import.proofs.Remarks.{shows, IsLine, IsRemark, fed, AreLines, each_append, IsPart, number_part, joined, tag_part, head_remark, remarks_are, left_out_is, fault_words_are, token_part, stopped_lines, fen_words_part, last_is, tail_is}
 
--- ---- lines are found where they are written
+-- ---- lines are found as they were written
 
 no_feed : (line : List ℕ) → list_all shows line ≡ true → feed_count line ≡ 0
 no_feed [] h = refl
@@ -114,7 +114,7 @@ shown_print (x ∷ xs) h = rw (le-leb 32 x h.0) (shown_print xs h.2)
 printed_line : (line : List ℕ) → Print line → length line ≤ 1024 → IsLine line
 printed_line line p few = record { shown = shown_print line p; few = few }
 
--- ---- what is held after lines
+-- ---- the document after lines
 
 after_none : (lines : List (List ℕ)) → after_lines None lines ≡ None
 after_none [] = refl
@@ -149,7 +149,7 @@ insert_lines s (i ∷ later) = insert_words_of s i ∷ insert_lines (inserted s 
 insert_is : (path san : List ℕ) → codes "insert " ++ (path ++ (codes " " ++ (san ++ codes "\n"))) ≡ fed (insert_words path san)
 insert_is path san = ap (λ (t : List ℕ). codes "insert " ++ t) (sym (append_assoc path (32 ∷ san) (10 ∷ [])))
 
--- an insertion that is not refused, as a line
+-- an accepted insertion, as a line
 record IsInsert (s : Plainly) (i : Insertion) : Type 0 where
   path : IsShort 769 (path_text i.0)
   path_some : 0 < length (path_text i.0)
@@ -358,7 +358,7 @@ module _ (e : Entry) (start : Start) (aim : Stipulation) (is : List Insertion) w
       (inserts_done aim (tag_texts tags) bare is (record { valid = r.valid; playable = tt; distinct = tt }) h k)
       ∙ pgn_done (framed (made_by bare is) aim (tag_texts tags))
 
--- ---- the line that asks for the PGN is the last, and the only one
+-- ---- the line that requests the PGN is the last, and the only one
 
 no_pgn_by : (line : List ℕ) (a : Asks) → command_of line ≡ a → asks_pgn a ≡ false → IsNoPgn line
 no_pgn_by line a e h = ap asks_pgn e ∙ h
@@ -386,7 +386,7 @@ pgn_behind : (xs ys : List (List ℕ)) → AllByRecursion IsNoPgn xs → IsWritt
 pgn_behind xs ys h (front, e, k) =
     (xs ++ front, ap (λ (ls : List (List ℕ)). xs ++ ls) e ∙ sym (append_assoc xs front (codes "pgn" ∷ [] ∷ [])), each_append IsNoPgn xs front h k)
 
--- lines in front of a block
+-- lines before a block
 lines_before : (is_study : Bool) (xs ys : List (List ℕ)) → AllByRecursion IsNoPgn xs → IsWritten is_study ys → IsWritten is_study (xs ++ ys)
 lines_before true xs ys h k = pgn_behind xs ys h k
 lines_before false xs ys h k = each_append IsNoPgn xs ys h k
@@ -407,7 +407,7 @@ study_written e start aim is r counted h =
 
 -- ---- a block
 
--- a block that comes to this study, or to none
+-- a block that leads to this study, or to none
 record Reads (block : Block) (o : Option Plainly) : Type 0 where
   is_study : block.is_study ≡ is_some o
   lines : List (List ℕ)

@@ -1,4 +1,4 @@
--- The texts of moves, of starts and of paths are words that print.
+-- The texts of moves, of starts and of paths are printable words.
 use Rattle.std.proofs.Common.{◌≡◌, ℕ, zero, suc, ◌+◌, ◌*◌, ◌/◌, ◌<◌, ◌≤◌, Bool, true, false, List, [], ◌∷◌, ◌++◌, length, Option, Some, None, refl, sym, ap, subst, inl, inr, arith, length-append, append_assoc}
 use Rattle.std.specs.Prelude.{IfSome, decimal, ◌==◌, if◌then◌else◌}
 use Rattle.std.proofs.lemmas.Bool.{cases_Bool, eqb-true, and_parts, ltb-false}
@@ -34,7 +34,7 @@ pub record IsShort (n : ℕ) (w : List ℕ) : Type 0 where
 
 -- ---- moves
 
--- a text of at most so many bytes, with a word behind it
+-- a text of at most so many bytes, then a word
 both : (m n : ℕ) (xs ys : List ℕ) → IsShort m xs → IsShort n ys → IsShort (m + n) (xs ++ ys)
 both m n xs ys h k = record { ink = ink_append xs ys h.ink k.ink; few = omega (arith, length-append xs ys, h.few, k.few) }
 
@@ -191,7 +191,7 @@ counted n le = record { ink = decimal_ink n; few = length-decimal-le 4 n (omega 
 spaced : (xs ys : List ℕ) → Ink xs → Print ys → Print (xs ++ (32 ∷ ys))
 spaced xs ys h k = print_append xs (32 ∷ ys) (ink_prints xs h) (omega arith, omega arith, k)
 
--- the text of a start: words that print, the last of which is the number
+-- the text of a start: printable words, the last of which is the number
 pub record IsFen (t : List ℕ) : Type 0 where
   pub first : ℕ
   pub rest : List ℕ

@@ -46,7 +46,7 @@ ended_twice (x ∷ xs) = elim (cases_Bool (list_all is_space (x ∷ xs))) [
       rw some (rw none (ap (λ (t : List ℕ). x ∷ t) (ended_twice xs)))
 ]
 
--- ---- spaces in front
+-- ---- spaces at the front
 
 abbrev Starts : List ℕ → Type 0
 Starts [] = Unit {0}

@@ -1,4 +1,4 @@
--- A tail is looked for token by token.
+-- A tail is searched token by token.
 use Rattle.std.proofs.Common.{◌≡◌, ℕ, zero, suc, ◌-◌, ◌≤◌, Bool, true, List, [], ◌∷◌, ◌++◌, length, take, Option, Some, None, Ok, Err, refl, ap, ◌∙◌, inl, inr, arith, append_assoc}
 use Rattle.std.specs.Prelude.{◌==◌, map, unwrap_or}
 use Rattle.std.specs.List.{list_all}
@@ -28,7 +28,7 @@ abbrev lexed_or : Option Lexed → Lexed
 lexed_or o = unwrap_or o (Err Byte)
 
 module _ (n m : ℕ) (fresh : Bool) (s : Sought) where
-  -- where no token begins there is no tail
+  -- if no token begins there is no tail
   pub none_on : (rest : List ℕ) (fault : TokenFault) → n ≡ suc m → token_at fresh rest ≡ Some (Err fault) → tail_from n fresh rest s ≡ None
   none_on [] fault e k = absurd cc
   none_on (b ∷ bs) fault e k =
@@ -55,7 +55,7 @@ goes_on next text s bytes t act.Name h k = refl
 goes_on next text s bytes t act.Begin h k = absurd (h refl)
 goes_on next text s bytes t act.Stop h k = absurd (k refl)
 
--- the search goes on behind the token
+-- the search continues after the token
 pub next_on : (n m : ℕ) (fresh : Bool) (s : Sought) (rest : List ℕ) (t : Token) (behind : List ℕ) (what : Act) → n ≡ suc m
     → token_at fresh rest ≡ Some (Ok (t, behind)) → act_of s.search (part_of t) ≡ what → (what ≡ act.Begin → ⊥) → (what ≡ act.Stop → ⊥)
     → tail_from n fresh rest s ≡ tail_from m (begins_feed rest) behind (sought_then s (take (length rest - length behind) rest) t what)

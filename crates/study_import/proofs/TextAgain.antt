@@ -1,4 +1,4 @@
--- The moves of a game's lines are read again.
+-- The moves in a game's lines read back as themselves.
 use Rattle.std.proofs.Common.{◌≡◌, ℕ, zero, suc, Bool, true, false, List, [], ◌∷◌, Option, Some, None, refl}
 use Rattle.std.specs.Prelude.{not, if◌then◌else◌}
 use Rattle.study_board.specs.Position.{Position, IsValid}

@@ -36,7 +36,7 @@ module _ (n m : ℕ) (fresh : Bool) (r : GameRead) (t : Token) (behind : List �
   stop_on [] why e k h = absurd cc
   stop_on (b ∷ bs) why e k h = read_by b bs e k ∙ ap (goes_on (read_moves m (b == 10) behind) (length (b ∷ bs)) behind) h
 
--- a reason that is told, or want of memory
+-- a reported reason, or want of memory
 pub told_by : (why : Reason) (x : Result GameTaken Reason) (new : GameRead) (expected : Result Ended MovesFault) (left : ℕ) → TakesIn (Err why) x new
     → (x ≡ Err why → expected ≡ Err (record { why = stop.Taking why; left = left })) → IsTold (stop.Taking why) expected left
 told_by (reason.Move move_fault.NoSuchNode) x new expected left h f = f h
@@ -50,7 +50,7 @@ told_by (reason.Line line_fault.NotOpened) x new expected left h f = f h
 told_by (reason.Line line_fault.OutOfMemory) x new expected left h f = tt
 told_by reason.TagInMoves x new expected left h f = f h
 
--- a token that was taken, with what is noted of it
+-- a token that was taken, with its note
 pub noted_takes : (answer : Result Bool Reason) (x : Result Taken Reason) (new : Reading) (n : Notes) → Takes answer x new
     → TakesIn answer (noted_on n x) (record { reading = new; notes = n })
 noted_takes (Ok ended) x new n h = ap (noted_on n) h

@@ -84,7 +84,7 @@ pub position_on : (p : Position) (ms ns : List Move) → position_after p (ms ++
 position_on p [] ns = refl
 position_on p (m ∷ ms) ns = position_on (after p m) ms ns
 
--- ---- nodes side by side
+-- ---- sibling nodes
 
 pub beside : Plain → Plain → Plain
 beside none y = y
@@ -139,7 +139,7 @@ by_move : (c : Bool) (j : ℕ) (r s : Option ℕ) → (if c then Some j else r) 
 by_move true j r s e f = absurd cc
 by_move false j r s e f = f e
 
--- a move that is none of them
+-- a move that is not among them
 pub beside_place : (x : Plain) (j : ℕ) (m n : Move) (b : Plain) → place_from j m x ≡ None → same_move m n ≡ false → place_from j m (beside x (more n tt b none)) ≡ None
 unfolding beside
 beside_place none j m n b e f = rw f refl

@@ -111,7 +111,7 @@ said_number : (ds : List ℕ) → list_all is_digit ds ≡ true → said_of ds �
 unfolding said_of
 said_number ds h = rw h refl
 
--- a change of texts
+-- equal texts
 text_is : (s : Plainly) (path : List ℕ) (from : ℕ) (ws : List Waiting) (o : Option Stipulation) (g : GameRead) (t u rest : List ℕ) → t ≡ u
     → Reached u rest s path from ws o g → Reached t rest s path from ws o g
 text_is s path from ws o g t u rest e r = subst (λ (x : List ℕ). Reached x rest s path from ws o g) (sym e) r
@@ -164,7 +164,7 @@ module _ (s : Plainly) (path : List ℕ) (from : ℕ) (ws : List Waiting) (o : O
       dots_ink White = ink_of (codes ".") refl
       dots_ink Black = ink_of (codes "...") refl
 
-  -- a NAG, or none
+  -- a NAG, or nothing
   glyph_word : (d : ℕ) (rest t : List ℕ) → is_digit d ≡ true → 32 < d → d ≤ 126 → Same (32 ∷ 36 ∷ d ∷ 32 ∷ rest) t → (back : List ℕ) × Same (32 ∷ rest) back × Passes t back
   glyph_word d rest t digit low high h =
       let a = space_cut (36 ∷ d ∷ 32 ∷ rest) t h in
@@ -224,7 +224,7 @@ pub record Node (s : Plainly) (f : Plain) (path : List ℕ) (st : Start) : Type 
   pub position : position_after s.start.position (moves_to f path) ≡ st.position
   pub valid : IsValid st.position
 
--- the text of a move that is new below the node, and what is behind it
+-- the text of a move that is new below the node, and the rest
 record Moved (s : Plainly) (f : Plain) (path : List ℕ) (x : Plain) (m : Move) (rest t : List ℕ) (from : ℕ) (ws : List Waiting) (o : Option Stipulation) (g : GameRead) : Type 0 where
   back : List ℕ
   same : Same rest back
@@ -308,7 +308,7 @@ module _ (s : Plainly) (f : Plain) (path : List ℕ) (st : Start) (node : Node s
 
 -- ---- trees
 
--- what follows a node was read: its nodes stand below it
+-- the text after a node was read: its nodes are below it
 pub record Followed (s : Plainly) (f : Plain) (path : List ℕ) (x : Plain) (rest t : List ℕ) (from : ℕ) (ws : List Waiting) (o : Option Stipulation) (g : GameRead) : Type 0 where
   pub back : List ℕ
   pub same : Same rest back
@@ -388,7 +388,7 @@ vary_none s f path st from ws o d x rest text node playable distinct apart limit
   reached = record { next = g; goes = λ fresh. (fresh, refl); at = subst (λ (y : Plain). At (on_tree s (put f path y)) (path ++ 0 ∷ []) from ws o g) (sym (beside_none x)) at };
 }
 
--- one behind the other
+-- one after the other
 joined : (t mid rest : List ℕ) (s u : Plainly) (p q : List ℕ) (b c : ℕ) (ws vs : List Waiting) (o : Option Stipulation) (g : GameRead) (r : Reached t mid s p b ws o g)
     → Reached mid rest u q c vs o r.next → Reached t rest u q c vs o g
 joined t mid rest s u p q b c ws vs o g r k =
@@ -495,7 +495,7 @@ ended u path k way from ws o rest text h g at =
           (subst (λ (p : List ℕ). Reached (41 ∷ cut.back) cut.back u p from ws o g) back_to close_line);
     }
 
--- what follows the move of a variation was read
+-- the text after the move of a variation was read
 record Body (s : Plainly) (t : Plain) (path : List ℕ) (k : ℕ) (rest text : List ℕ) (ws : List Waiting) (o : Option Stipulation) (g : GameRead) : Type 0 where
   way : List ℕ
   piece : Piece text rest (on_tree s t) ((path ++ k ∷ []) ++ way) (length path) ws o g
@@ -504,7 +504,7 @@ module _ (m : Move) (mark : Mark) (b : Forest Mark) (fb : FollowOk b) (s : Plain
     (legal : is_legal st.position m ≡ true) (playable : IsPlayable (after st.position m) (plainly b)) (distinct : AreDistinct (plainly b)) (d : ℕ)
     (deep : length path + suc d ≡ 256) (within : IsWithin d (plainly b)) (ws : List Waiting) (few : length ws ≤ length path + 1) (o : Option Stipulation)
     (x : Plain) (new : place_from 0 m x ≡ None) (room : nodes_in (put f path x) + nodes_in (plainly b) + 2 ≤ 4096) where
-  -- behind the move
+  -- after the move
   behind_move : (rest text : List ℕ) → Same (following (start_after st m) b ++ rest) text → (g : GameRead)
       → At (on_tree s (put f path (with_last m tt x))) (path ++ width x ∷ []) (length path) ws o g
       → Body s (put f path (beside x (more m tt (plainly b) none))) path (width x) rest text ws o g

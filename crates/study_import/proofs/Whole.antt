@@ -1,4 +1,4 @@
--- Each token has a byte at least, so that a game is read to its end.
+-- Each token has at least one byte, so that a game is read to its end.
 use Rattle.std.proofs.Common.{◌≡◌, ℕ, zero, suc, ◌+◌, ◌≤◌, Bool, true, false, List, [], ◌∷◌, length, drop, Option, Some, None, Result, Ok, Err, refl, sym, ap, ◌∙◌, arith, length-drop}
 use Rattle.std.specs.Prelude.{◌==◌, ◌&&◌, ◌||◌, if◌then◌else◌}
 use Rattle.std.specs.List.{prefix_len}
@@ -12,7 +12,7 @@ use Rattle.study_import.specs.declared.movetext.MovesFault.{MovesFault}
 use Rattle.study_import.specs.Notes.{GameRead, GameTaken, game_taken}
 use Rattle.study_import.specs.Movetext.{Ended, goes_on, on_token, read_moves}
 
--- what follows a token has so many bytes at most
+-- after a token there are at most so many bytes
 abbrev pub Within : ℕ → Lexed → Type 0
 Within n (Err fault) = Unit {0}
 Within n (Ok x) = length x.1 ≤ n

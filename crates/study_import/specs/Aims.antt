@@ -1,4 +1,4 @@
--- What a game says it is to come to.
+-- The stipulation that a game states.
 use Rattle.std.specs.Prelude.{ℕ, ◌-◌, Bool, ◌&&◌, ◌||◌, ◌==◌, nat_le, List, [], ◌∷◌, length, take, slice_index, codes, Option, Some, None, is_some, if◌then◌else◌}
 use Rattle.std.specs.Str.{bytes_eq}
 use Rattle.study_board.specs.declared.men.Side.{Side}
@@ -14,7 +14,7 @@ use Rattle.study_import.specs.declared.aims.AimSource.{AimSource}
 use Rattle.study_import.specs.declared.aims.AimSource.TheVariants.{Comment, StipulationTag, ResultTag, Result, Given}
 use Rattle.study_import.specs.declared.aims.Aim.{Aim}
 
--- a word, and what follows it
+-- a word, and the rest
 abbrev pub Found : Type 0
 Found = Option (List ℕ × List ℕ)
 
@@ -23,7 +23,7 @@ Found = Option (List ℕ × List ℕ)
 abbrev pub ends_with_colon : List ℕ → Bool
 ends_with_colon word = nat_le 1 (length word) && slice_index word (length word - 1) == 58
 
--- the last word of a phrase: it ends with a colon, which is no part of it, or nothing follows
+-- the last word of a phrase: it ends with a colon, which is not part of it, or it ends the text
 unfoldable pub last_of_phrase : List ℕ → List ℕ → Option (List ℕ)
 last_of_phrase word behind =
     if ends_with_colon word then Some (take (length word - 1) word)
@@ -40,12 +40,12 @@ abbrev pub moves_named : Option (List ℕ) → Option ℕ
 moves_named None = None
 moves_named (Some word) = mate_moves_of word
 
--- behind `mate in`
+-- after `mate in`
 abbrev pub moves_in : Found → Option ℕ
 moves_in None = None
 moves_in (Some x) = moves_named (last_of_phrase x.0 x.1)
 
--- behind `mate`
+-- after `mate`
 abbrev pub moves_behind_in : Found → Option ℕ
 moves_behind_in None = None
 moves_behind_in (Some x) = if bytes_eq x.0 (codes "in") then moves_in (first_word x.1) else None
@@ -58,12 +58,12 @@ abbrev pub goal_or_mate : Option Goal → List ℕ → List ℕ → Option Goal
 goal_or_mate (Some goal) word behind = Some goal
 goal_or_mate None word behind = if bytes_eq word (codes "mate") then mate_goal (moves_behind_in (first_word behind)) else None
 
--- behind `to`
+-- after `to`
 abbrev pub goal_in : Found → Option Goal
 goal_in None = None
 goal_in (Some x) = goal_or_mate (goal_named (last_of_phrase x.0 x.1)) x.0 x.1
 
--- behind the hero
+-- after the hero
 abbrev pub goal_behind_to : Found → Option Goal
 goal_behind_to None = None
 goal_behind_to (Some x) = if bytes_eq x.0 (codes "to") then goal_in (first_word x.1) else None
@@ -76,7 +76,7 @@ abbrev pub aim_by : Found → Option Stipulation
 aim_by None = None
 aim_by (Some x) = aimed (hero_of x.0) (goal_behind_to (first_word x.1))
 
--- what a comment says first
+-- the stipulation at the beginning of a comment
 unfoldable pub aim_in : List ℕ → Option Stipulation
 aim_in text = aim_by (first_word text)
 
@@ -86,7 +86,7 @@ abbrev pub mate_by : Side → Option ℕ → Option Stipulation
 mate_by hero None = None
 mate_by hero (Some count) = Some (record { hero = hero; goal = MateIn count })
 
--- `#K`, by the side that is to move
+-- `#K`, for the side to move
 abbrev pub mate_tag : List ℕ → Side → Option Stipulation
 mate_tag [] to_move = None
 mate_tag (b ∷ bs) to_move = if b == 35 then mate_by to_move (mate_moves_of bs) else None
@@ -129,7 +129,7 @@ outcome_of_text text =
 unfoldable pub outcome_of_tag : List ℕ → Option Outcome
 outcome_of_tag value = outcome_of_text (trimmed value)
 
--- ---- the first that says one
+-- ---- the first stipulation that is stated
 
 abbrev pub from_source : AimSource → Option Stipulation → Option Aim
 from_source source None = None

@@ -1,4 +1,4 @@
--- What is written of a game.
+-- The text written for a game.
 use Rattle.std.specs.Prelude.{ℕ, ◌+◌, ◌-◌, ◌^◌, min, Bool, true, false, not, ◌&&◌, ◌||◌, ◌==◌, nat_le, List, [], ◌∷◌, ◌++◌, length, take, drop, map, codes, decimal, count_by}
 use Rattle.std.specs.Prelude.{Option, Some, None, Result, Ok, Err, if◌then◌else◌}
 use Rattle.std.specs.List.{flat_map}
@@ -57,7 +57,7 @@ use Rattle.study_import.specs.Tails.{Tail, position_text, tail_in}
 abbrev pub moved_on : Place → ℕ → Place
 moved_on p b = if b == 10 then record { line = one_more p.line; column = 1 } else record { line = p.line; column = one_more p.column }
 
--- the place behind a text that begins at a place; columns are counted in bytes
+-- the place after a text that begins at a place; columns are counted in bytes
 abbrev pub place_behind : Place → List ℕ → Place
 place_behind p [] = p
 place_behind p (b ∷ bs) = place_behind (moved_on p b) bs
@@ -68,11 +68,11 @@ pub record Entry : Type 0 where
   pub line : ℕ
   pub text : List ℕ
 
--- what a contract sees of it
+-- the entry as contracts see it
 abbrev pub entry_seen : EntryRead → Entry
 entry_seen e = record { number = e.number; line = e.line; text = e.text.now }
 
--- what stands from a place on, of which so many bytes are left
+-- the text from a place on, given the number of bytes left
 abbrev pub text_at : Entry → ℕ → List ℕ
 text_at e left = drop (length e.text - left) e.text
 
@@ -110,7 +110,7 @@ stop_name (stop.Token fault) = token_name fault
 stop_name (stop.Taking why) = reason_name why
 stop_name stop.OpenVariation = codes "OpenVariation"
 
--- a move that is not read is told with its symbol, 40 bytes at most
+-- a move that cannot be read is reported with its symbol, 40 bytes at most
 abbrev pub symbol_words : Stop → List ℕ → List ℕ
 symbol_words (stop.Taking (reason.Move (move_fault.San fault))) text = codes " at " ++ take 40 (front is_symbol_byte text)
 symbol_words other text = []
@@ -132,7 +132,7 @@ place_words p = codes "line " ++ (decimal p.line ++ (codes ", column " ++ decima
 unfoldable pub fault_words : ℕ → Place → List ℕ → List ℕ → List ℕ
 fault_words number p name symbol = game_words number ++ (codes ", " ++ (place_words p ++ (codes ": " ++ (name ++ (symbol ++ codes "\n\n")))))
 
--- what is written of a game, and whether it is a study
+-- the text written for a game, and whether it is a study
 pub record Block : Type 0 where
   pub text : List ℕ
   pub is_study : Bool
@@ -142,7 +142,7 @@ no_study text = record { text = text; is_study = false }
 
 -- ---- counts
 
--- ` NAME N`, behind a comma if it is not the first
+-- ` NAME N`, after a comma if it is not the first
 abbrev pub count_words : Bool → List ℕ → ℕ → List ℕ
 count_words first name n = if n == 0 then [] else (if first then codes " " else codes ", ") ++ (name ++ (codes " " ++ decimal n))
 
@@ -153,7 +153,7 @@ counts_words first (c ∷ cs) = count_words first c.0 c.1 ++ counts_words (first
 abbrev pub counts_line : List ℕ → List ℕ
 counts_line words = if length words == 0 then [] else codes "# not taken over:" ++ (words ++ codes "\n")
 
--- tags that have no place in a study, and those behind the first of their name
+-- tags that a study does not have, and repeated tags
 abbrev pub known_names : List (List ℕ)
 known_names = codes "Event" ∷ codes "Site" ∷ codes "Date" ∷ codes "Round" ∷ codes "White" ∷ codes "Black"
     ∷ codes "FEN" ∷ codes "SetUp" ∷ codes "Result" ∷ codes "Stipulation" ∷ []
@@ -173,7 +173,7 @@ at_most n = min n (2 ^ 32 - 1)
 abbrev pub other_tags : List Pair → ℕ
 other_tags tags = at_most (length tags - known_count known_names tags)
 
--- moves that were played and are no new node
+-- played moves that are not new nodes
 abbrev pub repeated_moves : Notes → Plainly → ℕ
 repeated_moves n s = n.moves - (size_of s.tree - 1)
 
@@ -184,7 +184,7 @@ unfoldable pub counted_words : Notes → ℕ → ℕ → List ℕ
 counted_words n tags repeated =
     counts_words true ((codes "comments", n.comments) ∷ (codes "NAGs", n.asides) ∷ (codes "tags", tags) ∷ move_counts n repeated)
 
--- what follows the result is not read, and told by its place
+-- text after the result is ignored, and reported by its place
 unfoldable pub behind_line : Entry → List ℕ → List ℕ
 behind_line e text =
     if length (behind is_blank text) == 0 then []
@@ -199,11 +199,11 @@ six_names = tag_named.Event ∷ tag_named.Site ∷ tag_named.Date ∷ tag_named.
 abbrev pub shown : ℕ → ℕ
 shown b = if nat_le b 31 || b == 127 then 32 else b
 
--- the text that the script can hold
+-- the text in the script
 abbrev pub tag_text : List ℕ → List ℕ
 tag_text value = short_text (spelled_out value)
 
--- `# NAME was: VALUE`, where the text is another than the value without spaces at its ends; 255 bytes of it at most
+-- `# NAME was: VALUE`, if the text differs from the value without spaces at its ends; at most 255 bytes of it
 abbrev pub was_words : TagName → List ℕ → List ℕ → List ℕ
 was_words name value text =
     if bytes_eq text (trimmed value) then []
@@ -254,8 +254,8 @@ head_line e aim = game_words e.number ++ (codes ", line " ++ (decimal e.line ++ 
 unfoldable pub position_line : Start → List ℕ
 position_line start = codes "position " ++ (fen_text start ++ codes "\n")
 
--- what was read of a game, but for its start: what was noted, how many moves were played that are no new node, the text behind the result,
--- and the lines that make the tree
+-- what was read of a game, but for its start: the notes, the number of played moves that are not new nodes, the text after the result, and the lines that
+-- make the tree
 pub record Told : Type 0 where
   pub notes : Notes
   pub repeated : ℕ
@@ -295,7 +295,7 @@ abbrev pub result_of : Option (List ℕ) → Option Outcome
 result_of None = None
 result_of (Some value) = outcome_of_tag value
 
--- the first that says a stipulation: the opening comment, the tag Stipulation, the tag Result, the result, the caller
+-- the first stated stipulation: in the opening comment, the tag Stipulation, the tag Result, the result, or by the caller
 unfoldable pub aim_of_game : Option Stipulation → List Pair → Side → Notes → Option Aim
 aim_of_game given tags to_move n =
     or_aim (from_source Comment n.opening)
@@ -315,7 +315,7 @@ abbrev pub read_block : Option Stipulation → Entry → Start → Result Ended 
 read_block given e start (Err fault) = stopped_block e fault
 read_block given e start (Ok x) = aimed_block e start (told_of x) (aim_of_game given (tags_of e.text) start.position.to_move x.game.notes)
 
--- before the first move. The stipulation says nothing here
+-- before the first move. The stipulation has no effect here
 abbrev pub no_moves : Start → GameRead
 no_moves start = record {
   reading = reading_of (record {
@@ -330,7 +330,7 @@ no_moves start = record {
 unfoldable pub game_read : List ℕ → Start → Result Ended MovesFault
 game_read text start = read_moves (length text) true text (no_moves start)
 
--- how many men a FEN places
+-- the number of men that a FEN places
 abbrev pub men_in : Option (List ℕ × List ℕ) → ℕ
 men_in None = 0
 men_in (Some found) = count_by is_letter found.0
@@ -343,7 +343,7 @@ abbrev pub start_block : Option Stipulation → Entry → List ℕ → Result St
 start_block given e text (Err fault) = no_study (left_out e (fen_words text fault))
 start_block given e text (Ok start) = read_block given e start (game_read e.text start)
 
--- a byte that does not print is read as `?`, which no field of a FEN has
+-- an unprintable byte is read as `?`, which no field of a FEN has
 abbrev pub printed : ℕ → ℕ
 printed b = if is_printable b then b else 63
 
@@ -366,11 +366,11 @@ sized_block given number line None = no_study (fault_words number (record { line
 sized_block given number line (Some text) =
     header_block given (record { number = number; line = line; text = text }) (header_fault text)
 
--- what is written of the game with this number, which begins with at most four men
+-- the text written for the game with this number, which begins with at most four men
 unfoldable pub block_of : Option Stipulation → ℕ → Game → Block
 block_of given number game = sized_block given number game.line game.text
 
--- ---- a game with more men, from a position on that a comment names
+-- ---- a game with more men, from a position on that a comment states
 
 abbrev pub has_more : Result Start FenFault → Bool
 has_more (Err fen.TooManyMen) = true
@@ -381,23 +381,23 @@ abbrev pub has_more_men : Option (List ℕ) → Bool
 has_more_men None = true
 has_more_men (Some value) = has_more (start_of (fen_in value))
 
--- text that has no tags is no game
+-- a text without tags is not a game
 unfoldable pub tail_of_game : List ℕ → Option Tail
 tail_of_game text = if not (length (tags_of text) == 0) && has_more_men (value_of (codes "FEN") (tags_of text)) then tail_in text else None
 
--- of a game that may have too many bytes; tails: whether tails are taken
+-- for a game that may have too many bytes; tails: whether tails are taken
 abbrev pub tail_of : Bool → Option (List ℕ) → Option Tail
 tail_of true (Some text) = tail_of_game text
 tail_of tails text = None
 
--- whose word the position is, and how many moves stand before it
+-- the remark above a tail: the number of moves before it, and that its position is taken from the comment
 unfoldable pub tail_line : ℕ → List ℕ
 tail_line skipped = codes "# a tail: moves before " ++ (decimal skipped ++ codes "; its position is another program's word\n")
 
 abbrev pub under_remark : List ℕ → Block → Block
 under_remark remark block = record { text = remark ++ block.text; is_study = block.is_study }
 
--- the block of the tail as of a game that begins there
+-- the block of the tail, as for a game that begins there
 abbrev pub tail_block : Option Stipulation → ℕ → ℕ → Tail → Block
 tail_block given number line t =
     under_remark (tail_line t.skipped)
@@ -409,7 +409,7 @@ block_or_tail given number game (Some t) = tail_block given number game.line t
 
 -- ---- a file
 
--- what is written of the game with this number
+-- the text written for the game with this number
 abbrev pub block_by : Choice → ℕ → Game → Block
 block_by c number game = block_or_tail c.given number game (tail_of c.tails game.text)
 
@@ -419,17 +419,17 @@ last_line games studies = codes "# games " ++ (decimal games ++ (codes ", studie
 abbrev pub one_if : Bool → ℕ → ℕ
 one_if is_study n = if is_study then one_more n else n
 
--- the games with these numbers are told
+-- the games with these numbers are written
 abbrev pub is_chosen : Choice → ℕ → Bool
 is_chosen c number = nat_le c.from number && nat_le number c.to
 
--- how many games came before, how many of them were told, and how many of these are studies
+-- the numbers of games so far, of those written, and of studies among these
 pub record Tally : Type 0 where
   pub met : ℕ
   pub told : ℕ
   pub studies : ℕ
 
--- the game that follows
+-- with the next game
 abbrev pub tallied : Choice → Tally → Game → Tally
 tallied c t g =
     if is_chosen c (one_more t.met)
@@ -440,11 +440,11 @@ tallied c t g =
     }
     else record { met = one_more t.met; told = t.told; studies = t.studies }
 
--- what is written of it
+-- the text written for it
 abbrev pub told_text : Choice → Tally → Game → List ℕ
 told_text c t g = if is_chosen c (one_more t.met) then (block_by c (one_more t.met) g).text else []
 
--- what is written of these games, and the last line
+-- the text written for these games, and the last line
 abbrev pub blocks : Choice → Tally → List Game → List ℕ
 blocks c t [] = last_line t.told t.studies
 blocks c t (g ∷ gs) = told_text c t g ++ blocks c (tallied c t g) gs

@@ -1,4 +1,4 @@
--- What was answered of a game.
+-- The result for a game.
 use Rattle.std.specs.Prelude.{◌≡◌, ℕ, Bool, true, false, List, ◌++◌, Result, Ok, Err}
 use Rattle.study_import.specs.declared.lines.LineFault.TheVariants as line_fault
 use Rattle.study_import.specs.declared.moves.MoveFault.TheVariants as move_fault

@@ -1,4 +1,4 @@
--- What a script holds after lines of it, by the rules alone: tables and memory apart.
+-- The document after lines of a script, by the rules alone: apart from tables and memory.
 use Rattle.std.specs.Prelude.{ℕ, List, [], ◌∷◌, Option, Some, None, Result, Ok, Err}
 use Rattle.study_moves.specs.declared.moves.Move.{Move}
 use Rattle.study_notation.specs.declared.start.Start.{Start}
@@ -30,7 +30,7 @@ abbrev pub after_position : Document → Result Start FenFault → Option Docume
 after_position d (Err fault) = None
 after_position d (Ok start) = Some (with_start d start)
 
--- a study with the root alone, and no tag known
+-- a study with only the root, and no tag known
 abbrev pub new_study : Start → Stipulation → Plainly
 new_study start aim = record {
   start = start;
@@ -44,7 +44,7 @@ after_stipulate empty aim = None
 after_stipulate (placed start) aim = Some (composed (new_study start aim))
 after_stipulate (composed old) aim = Some (composed (stipulated old aim))
 
--- an edit that is refused leads nowhere
+-- a refused edit gives no document
 abbrev pub unless_refused : Option (Refusal (Unit {0})) → Plainly → Option Document
 unless_refused None new = Some (composed new)
 unless_refused (Some refusal) new = None
@@ -65,7 +65,7 @@ abbrev pub after_pgn : Document → Option Document
 after_pgn (composed s) = Some (composed s)
 after_pgn other = None
 
--- none where a rule refuses the command; the commands that no block has are not looked at
+-- `None` if a rule refuses the command; commands that no block has are not covered
 abbrev pub after_command : Document → Asked → Option Document
 after_command d (fen_command Position fen) = after_position d (start_of fen)
 after_command d (stipulate aim) = after_stipulate d aim
@@ -79,7 +79,7 @@ after_line d (Ok None) = Some d
 after_line d (Ok (Some command)) = after_command d command
 after_line d (Err fault) = None
 
--- after these lines, of which none is refused
+-- after these lines, if none is refused
 abbrev pub after_lines : Option Document → List (List ℕ) → Option Document
 after_lines d [] = d
 after_lines None (line ∷ lines) = None

@@ -1,4 +1,4 @@
--- What a contract sees of a tally.
+-- The tally as contracts see it.
 use Rattle.study_import.specs.declared.importer.Imported.{Imported}
 use Rattle.study_import.specs.Blocks.{Tally}
 

@@ -1,4 +1,4 @@
--- The insertions of which a game's tree is made.
+-- The insertions that make a game's tree.
 use Rattle.std.specs.Prelude.{◌≡◌, ℕ, List, [], ◌∷◌, ◌++◌, Some, None, Ok}
 use Rattle.study_moves.specs.declared.moves.Move.{Move}
 use Rattle.study_notation.specs.Matching.{move_of}
@@ -7,7 +7,7 @@ use Rattle.study_marks.specs.Study.{position_at}
 use Rattle.study_marks.specs.Edits.{Plainly, inserted, insert_refusal}
 use Rattle.study_import.specs.Reading.{Reading, insert_line}
 
--- the path of a node, and the move that is made there
+-- the path of a node, and the move that is inserted there
 abbrev pub Insertion : Type 0
 Insertion = List ℕ × Move
 
@@ -21,17 +21,17 @@ abbrev pub AllAccepted : Type 0 → Plainly → List Insertion → Type 0
 AllAccepted A s [] = Unit {0}
 AllAccepted A s (i ∷ more) = (insert_refusal {A = A} s i.0 i.1 ≡ None) × AllAccepted A (inserted s i.0 i.1) more
 
--- the text of each move, as the lines have it, is read in its turn as that move
+-- the text of each move, as in the lines, is read in its turn as that move
 abbrev pub AllReadAgain : Plainly → List Insertion → Type 0
 AllReadAgain s [] = Unit {0}
 AllReadAgain s (i ∷ more) = (move_of (position_at s i.0) (move_text (position_at s i.0) i.1) ≡ Ok i.1) × AllReadAgain (inserted s i.0 i.1) more
 
--- the lines of the script that ask for them
+-- the lines of the script with these insertions
 abbrev pub lines_for : Plainly → List Insertion → List ℕ
 lines_for s [] = []
 lines_for s (i ∷ more) = insert_line (position_at s i.0) i.0 (Some i.1) ++ lines_for (inserted s i.0 i.1) more
 
--- from the first of these readings insertions lead to the second: none is refused, the study is what they make, and its lines ask for them
+-- insertions lead from the first of these readings to the second: none is refused, they make the study, and its lines are theirs
 pub record Leads (A : Type 0) (r now : Reading) : Type 0 where
   pub insertions : List Insertion
   pub accepted : AllAccepted A r.study insertions

@@ -30,35 +30,34 @@ use Rattle.study_import.specs.Documents.{Document, composed, after_lines}
 use Rattle.study_import.specs.Tails.{Tail, tail_from, not_begun, tail_in}
 use Rattle.study_import.specs.Meant.{study_by}
 
--- the blocks of these games behind a tally, without the last line
+-- the blocks of these games after a tally, without the last line
 abbrev pub told_texts : Choice → Tally → List Game → List ℕ
 told_texts c t [] = []
 told_texts c t (g ∷ gs) = told_text c t g ++ told_texts c (tallied c t g) gs
 
--- where a text whose last line, a line of moves, is whole stands in front of one that begins with a line of a tag, the script of both is the
--- blocks of the first, as they are of the first alone, and then those of the second, whose games and lines are counted on
+-- if a text ends with a whole line of moves, and is followed by one that begins with a line of a tag, the script of both is the blocks of the first, as
+-- they are without the second, and then those of the second, whose numbers of games and lines continue
 abbrev pub IsIsolated : Type 0
 IsIsolated =
     (c : Choice) → (front b : List ℕ) → (a : List ℕ) → a ≡ front ++ 10 ∷ [] → EndsWithMoves 1 (lines_of a)
     → BeginsWithTag (number_behind 1 (lines_of a)) (lines_of b)
     → script_of c (a ++ b) ≡ told_texts c no_game (games_of a) ++ blocks c (tally_of c a) (games_from (number_behind 1 (lines_of a)) None (lines_of b))
 
--- where the moves of a game are read to their end, its tree is made of insertions into the bare start, one after another: none of them is
--- refused in its turn, tables and memory apart, the lines of the game's block ask for them in this order, and the text of each move in
--- them is read in its turn as that move
+-- if the moves of a game are read to the end, its tree is made of insertions into the bare start, one after another: none of them is refused in its turn,
+-- apart from tables and memory, the lines of the game's block have them in this order, and the text of each move in them reads in its turn as that move
 abbrev pub AreAccepted : Type 0
 AreAccepted =
     (text : List ℕ) → (start : Start) → (x : Ended) → game_read text start ≡ Ok x
     → (l : Leads (Unit {0}) (no_moves start).reading x.game.reading) × (IsValid start.position → AllReadAgain (no_moves start).reading.study l.insertions)
 
--- the text of each tag line is one that a study takes: 1 to 60 bytes that print
+-- a study accepts the text of each tag line: 1 to 60 printable bytes
 abbrev pub AreTaken : Type 0
 AreTaken = (tags : List Pair) → (name : TagName) → tag_refusal {A = Unit {0}} (tag_value_text name (value_of (tag_name name) tags)) ≡ None
 
 abbrev pub entry_of : ℕ → ℕ → List ℕ → Entry
 entry_of number line text = record { number = number; line = line; text = text }
 
--- the remark above the block of a tail, and the text that is read
+-- the remark above the block of a tail, and the text of the tail
 abbrev pub remark_above : Option Tail → List ℕ
 remark_above None = []
 remark_above (Some t) = tail_line t.skipped
@@ -67,8 +66,7 @@ abbrev pub text_read : List ℕ → Option Tail → List ℕ
 text_read text None = text
 text_read text (Some t) = t.text
 
--- a game that comes to a study comes to the same one under every number and at every line: its start, its stipulation and what was read
--- are those of its text
+-- a game leads to the same study under every number and at every line: its start, its stipulation and its moves are those of its text
 abbrev pub AreAlike : Type 0
 AreAlike =
     (c : Choice) → (text : List ℕ) → (m k : ℕ) → (block_by c m (record { line = k; text = Some text })).is_study ≡ true
@@ -99,7 +97,7 @@ document_then d (Some s) = composed s
 abbrev pub IsShort : List ℕ → Type 0
 IsShort line = length line ≤ 1024
 
--- a line that does not ask for the PGN
+-- a line that does not request the PGN
 abbrev pub asks_pgn : Asks → Bool
 asks_pgn (Ok (Some pgn)) = true
 asks_pgn other = false
@@ -107,13 +105,13 @@ asks_pgn other = false
 abbrev pub IsNoPgn : List ℕ → Type 0
 IsNoPgn line = asks_pgn (command_of line) ≡ false
 
--- the lines of a study end with the one that asks for its PGN, and an empty one; those of another block do not ask for it
+-- the lines of a study end with the one that requests its PGN, and an empty one; those of another block do not request it
 abbrev pub IsWritten : Bool → List (List ℕ) → Type 0
 IsWritten true lines = (front : List (List ℕ)) × (lines ≡ front ++ (codes "pgn" ∷ [] ∷ [])) × AllByRecursion IsNoPgn front
 IsWritten false lines = AllByRecursion IsNoPgn lines
 
--- the block of a game, as its bytes are, is read line by line as a script that no rule refuses, whatever is held before it: where the game
--- or its tail comes to a study, that study is held then, and else what was held; tables and memory apart
+-- the block of a game, as its bytes are, reads line by line as a script that no rule refuses, whatever document is before it: if the game or its tail leads
+-- to a study, that study is the document after it, and else the document is unchanged; apart from tables and memory
 pub record IsRead (c : Choice) (number : ℕ) (game : Game) : Type 0 where
   pub is_study : (block_by c number game).is_study ≡ is_some (study_by c game.text)
   pub short : AllByRecursion IsShort (script_lines (block_by c number game).text)
@@ -124,13 +122,13 @@ pub record IsRead (c : Choice) (number : ℕ) (game : Game) : Type 0 where
 abbrev pub AreRead : Type 0
 AreRead = (c : Choice) → IsGiven c.given → (number : ℕ) → (game : Game) → IsRead c number game
 
--- what is held behind the blocks of these games, of which so many came before
+-- the document after the blocks of these games, after so many earlier ones
 abbrev pub document_behind : Choice → ℕ → Document → List Game → Document
 document_behind c met d [] = d
 document_behind c met d (g ∷ gs) =
     document_behind c (one_more met) (if is_chosen c (one_more met) then document_then d (study_by c g.text) else d) gs
 
--- the whole script likewise
+-- the same for the whole script
 pub record IsScriptRead (c : Choice) (text : List ℕ) : Type 0 where
   pub short : AllByRecursion IsShort (script_lines (script_of c text))
   pub study : (d : Document) → HasSixTags d → after_lines (Some d) (script_lines (script_of c text)) ≡ Some (document_behind c 0 d (games_of text))
@@ -138,7 +136,7 @@ pub record IsScriptRead (c : Choice) (text : List ℕ) : Type 0 where
 abbrev pub AreScriptsRead : Type 0
 AreScriptsRead = (c : Choice) → IsGiven c.given → (text : List ℕ) → IsScriptRead c text
 
--- a fault that a game can have: none of the importer's own, and no want of memory
+-- a fault that a game can have: neither an internal one of the importer nor want of memory
 abbrev pub IsListed : Stop → Type 0
 IsListed (stop.Taking (reason.Move move_fault.NoSuchNode)) = ⊥
 IsListed (stop.Taking (reason.Move move_fault.OutOfMemory)) = ⊥
@@ -148,7 +146,7 @@ IsListed other = Unit {0}
 abbrev pub AreListed : Type 0
 AreListed = (text : List ℕ) → (start : Start) → (fault : MovesFault) → game_read text start ≡ Err fault → IsListed fault.why
 
--- a game is read to its end: who allows more tokens reads no more of its moves and of its header, and finds the same tail
+-- a game is read to its end: with a larger bound no more of its moves and of its header is read, and the same tail is found
 pub record IsWhole (text : List ℕ) (n : ℕ) : Type 0 where
   pub moves : (start : Start) → read_moves n true text (no_moves start) ≡ game_read text start
   pub tail : tail_from n true text (not_begun []) ≡ tail_in text

@@ -1,4 +1,4 @@
--- The study to which a game comes.
+-- The study of a game.
 use Rattle.std.specs.Prelude.{ℕ, List, map, codes, Option, Some, None, Result, Ok, Err}
 use Rattle.study_notation.specs.declared.start.Start.{Start}
 use Rattle.study_notation.specs.declared.fault.FenFault.{FenFault}
@@ -40,16 +40,16 @@ abbrev pub study_behind_header : Option Stipulation → List ℕ → Option Head
 study_behind_header given text (Some fault) = None
 study_behind_header given text None = study_with_fen given text (value_of (codes "FEN") (tags_of text))
 
--- the start of its FEN, its stipulation, its tags and its tree; none where the game is left out
+-- the start of its FEN, its stipulation, its tags and its tree; `None` if the game is left out
 unfoldable pub study_in : Option Stipulation → List ℕ → Option Plainly
 study_in given text = study_behind_header given text (header_fault text)
 
--- the same of a game that may have too many bytes
+-- the same for a game that may have too many bytes
 abbrev pub study_of_game : Option Stipulation → Option (List ℕ) → Option Plainly
 study_of_game given None = None
 study_of_game given (Some text) = study_in given text
 
--- of a tail it is the same, but for its start
+-- the same for a tail, except for its start
 abbrev pub study_of_tail : Option Stipulation → Option (List ℕ) → Option Tail → Option Plainly
 study_of_tail given text None = study_of_game given text
 study_of_tail given text (Some t) = study_begun given t.text (start_of (position_text t.position))

@@ -1,4 +1,4 @@
--- What was answered of a game's moves.
+-- The result for a game's moves.
 use Rattle.std.specs.Prelude.{◌≡◌, ℕ, Bool, List, Result, Ok, Err}
 use Rattle.study_import.specs.declared.lines.LineFault.TheVariants as line_fault
 use Rattle.study_import.specs.declared.moves.MoveFault.TheVariants as move_fault
@@ -10,7 +10,7 @@ use Rattle.study_import.specs.declared.taking.Reason.{Reason}
 use Rattle.study_import.specs.Notes.{GameRead, GameTaken}
 use Rattle.study_import.specs.Movetext.{Ended}
 
--- a fault that is told, or want of memory, which ends the run
+-- a reported fault, or want of memory, which ends the run
 abbrev pub IsTold : Stop → Result Ended MovesFault → ℕ → Type 0
 IsTold (stop.Taking (reason.Move move_fault.OutOfMemory)) expected left = Unit {0}
 IsTold (stop.Taking (reason.Line line_fault.OutOfMemory)) expected left = Unit {0}
@@ -20,7 +20,7 @@ abbrev pub Ends : {T : Type 0} → (T → List ℕ) → Result T MovesFault → 
 Ends text (Ok x) expected new = expected ≡ Ok (record { game = new; behind = text x })
 Ends text (Err fault) expected new = IsTold fault.why expected fault.left
 
--- what was answered of a token, and what has been read then, are these, unless there was no memory, which ends the run
+-- the result for a token, and the state after it, unless there was no memory, which ends the run
 abbrev pub TakesIn : Result Bool Reason → Result GameTaken Reason → GameRead → Type 0
 TakesIn (Ok ended) expected new = expected ≡ Ok (record { game = new; ended = ended })
 TakesIn (Err (reason.Move move_fault.OutOfMemory)) expected new = Unit {0}

@@ -7,7 +7,7 @@ use Rattle.study_import.specs.declared.movetext.Stop.TheVariants as stop
 use Rattle.study_import.specs.Notes.{GameRead, GameTaken, game_taken}
 use Rattle.study_games.specs.Tokens.{Lexed, lexed}
 
--- what has been read, and the text behind the result
+-- the state after reading, and the text after the result
 pub record Ended : Type 0 where
   pub game : GameRead
   pub behind : List ℕ
@@ -27,7 +27,7 @@ abbrev pub on_token : (List ℕ → GameRead → Result Ended MovesFault) → �
 on_token next left g (Err fault) = fault_at (stop.Token fault) left
 on_token next left g (Ok x) = goes_on (next x.1) left x.1 (game_taken g x.0)
 
--- at most n tokens are read, and each has a byte at least, so that a text's length is enough. A fault is told by how many bytes are left
+-- at most n tokens are read, and each has at least one byte, so that a text's length is enough. A fault is reported by the number of bytes left
 abbrev pub read_moves : ℕ → Bool → List ℕ → GameRead → Result Ended MovesFault
 read_moves zero fresh text g = at_end g
 read_moves (suc n) fresh [] g = at_end g

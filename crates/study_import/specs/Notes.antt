@@ -1,4 +1,4 @@
--- What is counted and noted beside the moves.
+-- Counts and notes beside the moves.
 use Rattle.std.specs.Prelude.{ℕ, Bool, true, false, not, ◌&&◌, ◌==◌, nat_le, List, length, codes, Option, Some, None, Result, Ok, Err, if◌then◌else◌}
 use Rattle.std.specs.Str.{bytes_eq}
 use Rattle.study_marks.specs.declared.stipulation.Stipulation.{Stipulation}
@@ -30,21 +30,21 @@ none_yet = record {
   outcome = None;
 }
 
--- a token that is no tag, no blank and no comment ends the header
+-- a token other than a tag, a blank and a comment ends the header
 abbrev pub begun : Notes → Notes
 begun n = record n { in_header = false }
 
 abbrev pub with_aside : Notes → Notes
 with_aside n = record n { in_header = false; asides = one_more n.asides }
 
--- the first comment in braces says the stipulation, if no move stands before it
+-- the first comment in braces states the stipulation, if no move precedes it
 abbrev pub with_comment : Notes → Option Stipulation → Notes
 with_comment n aim =
     if n.before_moves && not n.has_comment
     then record n { comments = one_more n.comments; has_comment = true; opening = aim }
     else record n { comments = one_more n.comments }
 
--- cut: a null move of this line stands before it
+-- cut: a null move of this line precedes it
 abbrev pub with_null_move : Notes → Bool → Notes
 with_null_move n cut = record n { in_header = false; before_moves = false; null_moves = if cut then n.null_moves else one_more n.null_moves }
 
@@ -56,7 +56,7 @@ with_move n cut = record n {
   moves_behind = if cut then one_more n.moves_behind else n.moves_behind;
 }
 
--- waits: a line waits, so that a result says nothing
+-- waits: a line waits, so that a result is ignored
 abbrev pub with_result : Notes → Bool → Outcome → Notes
 with_result n waits outcome = record n { in_header = false; outcome = if waits then n.outcome else Some outcome }
 
@@ -84,7 +84,7 @@ noted n cut waits (symbol text) = with_said n cut waits (said_of text)
 
 -- ---- both together
 
--- what has been read of a game, and what was noted
+-- the state of reading a game, and the notes
 pub record GameRead : Type 0 where
   pub reading : Reading
   pub notes : Notes
@@ -96,7 +96,7 @@ pub record GameTaken : Type 0 where
   pub game : GameRead
   pub ended : Bool
 
--- a tag of the header, which was read before
+-- a tag of the header, already read
 abbrev pub is_header_tag : Notes → Token → Bool
 is_header_tag n (tag name value) = n.in_header
 is_header_tag n other = false

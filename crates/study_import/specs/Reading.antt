@@ -1,4 +1,4 @@
--- What has been read of a game's moves, and what a move makes of it.
+-- The state of reading a game's moves, and the effect of a move.
 use Rattle.std.specs.Prelude.{◌≡◌, ℕ, nat_le, nat_lt, List, [], ◌∷◌, ◌++◌, length, codes, Option, Some, None, Result, Ok, Err, if◌then◌else◌}
 use Rattle.std.specs.List.{list_all}
 use Rattle.study_board.specs.Position.{Position}
@@ -14,13 +14,13 @@ use Rattle.study_import.specs.Lines.{Lines}
 use Rattle.study_import.specs.Moves.{After, moved}
 use Rattle.study_games.specs.Symbols.{san_in}
 
--- the study so far, the line at hand with those that wait, and the lines of the script that make the tree
+-- the study so far, the current line with the waiting ones, and the lines of the script that make the tree
 pub record Reading : Type 0 where
   pub study : Plainly
   pub lines : Lines
   pub inserts : List ℕ
 
--- the line that inserts a move at a node; none for a move that is there
+-- the line that inserts a move at a node; empty if the node exists
 abbrev pub insert_line : Position → List ℕ → Option Move → List ℕ
 insert_line p at None = []
 insert_line p at (Some m) = codes "insert " ++ (path_text at ++ (codes " " ++ (move_text p m ++ codes "\n")))
@@ -36,18 +36,18 @@ abbrev pub read_on : Reading → Result After MoveFault → Result Reading MoveF
 read_on r (Err fault) = Err fault
 read_on r (Ok a) = Ok (gone_on r a)
 
--- the text that stands for a move is read at the node at hand
+-- the text for a move is read at the current node
 unfoldable pub played : Reading → List ℕ → Result Reading MoveFault
 played r san = read_on r (moved r.study r.lines.path san)
 
--- a symbol that stands for a move. Behind a null move it says nothing; one that is too long, or whose SAN does not print, is none
+-- a symbol for a move. After a null move it is ignored; a symbol that is too long, or whose SAN is not printable, is not a move
 unfoldable pub symbol_played : Reading → List ℕ → Result Reading MoveFault
 symbol_played r symbol =
     if nat_le 1 r.lines.cut then Ok r
     else (if nat_lt 32 (length symbol) then Err (San NotSan)
     else (if list_all is_printable (san_in symbol) then played r (san_in symbol) else Err (San NotSan)))
 
--- what was answered, and what has been read then, are these, unless there was no memory, which ends the run
+-- the result, and the state after it, unless there was no memory, which ends the run
 abbrev pub Reads : {T : Type 0} → Result T MoveFault → Result Reading MoveFault → Reading → Type 0
 Reads (Ok x) expected new = expected ≡ Ok new
 Reads (Err OutOfMemory) expected new = Unit {0}

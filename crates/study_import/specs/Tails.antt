@@ -1,4 +1,4 @@
--- A tail of a game: the game from a position on that a comment of its main line names.
+-- A tail of a game: the game from a position that a comment of its main line states.
 use Rattle.std.specs.Prelude.{◌≡◌, ℕ, zero, suc, ◌-◌, Bool, true, false, ◌&&◌, ◌==◌, List, [], ◌∷◌, ◌++◌, length, take, map, codes, Option, Some, None, Result, Ok, Err, if◌then◌else◌}
 use Rattle.std.specs.Str.{bytes_eq}
 use Rattle.study_board.specs.declared.men.Side.TheVariants.{White}
@@ -23,9 +23,9 @@ use Rattle.study_import.specs.declared.tails.Search.{Search}
 use Rattle.study_import.specs.declared.tails.Named.{Named}
 use Rattle.study_import.specs.Aims.{aim_in, aim_of_tag}
 
--- ---- what a token is to the search
+-- ---- the kinds of tokens in the search
 
--- a comment as a FEN: a byte that does not print, as the end of a line, is read as a space
+-- a comment as a FEN: an unprintable byte, such as the end of a line, is read as a space
 abbrev pub spaced : ℕ → ℕ
 spaced b = if is_printable b then b else 32
 
@@ -40,7 +40,7 @@ abbrev pub is_mate : Goal → Bool
 is_mate (MateIn count) = true
 is_mate other = false
 
--- the moves of a mate are counted from the game's own start, so that it is no stipulation of a tail
+-- the moves of a mate are counted from the game's own start, so it is not a stipulation of a tail
 abbrev pub says_mate : Option Stipulation → Bool
 says_mate None = false
 says_mate (Some aim) = is_mate aim.goal
@@ -67,9 +67,9 @@ part_of (symbol text) = part_said (said_of text)
 part_of (tag name value) = part.Tag (is_mate_tag name value)
 part_of (comment text) = part.Comment (says_mate (aim_in text)) (is_start (start_of (position_text text)))
 
--- ---- what becomes of it
+-- ---- the action for a token
 
--- before the first move all is kept, but for a mate in so many moves
+-- before the first move all is kept, except for a mate in so many moves
 abbrev pub act_before : Part → Act
 act_before part.Quiet = act.Keep
 act_before (part.Tag is_mate) = if is_mate then act.Blank else act.Keep
@@ -77,7 +77,7 @@ act_before (part.Comment is_mate is_position) = if is_mate then act.Blank else a
 act_before part.Move = act.Skip
 act_before other = act.Stop
 
--- in front of the position, and in variations; main: this is the main line
+-- before the position, and in variations; main: this is the main line
 abbrev pub act_among : Bool → Part → Act
 act_among main part.Quiet = act.Blank
 act_among main (part.Tag is_mate) = act.Stop
@@ -87,7 +87,7 @@ act_among main part.Open = act.Deepen
 act_among main part.Close = if main then act.Stop else act.Rise
 act_among main part.End = if main then act.Stop else act.Blank
 
--- behind the position, variations replace the move that led to it, up to the next move
+-- after the position, variations replace the move that led to it, up to the next move
 abbrev pub act_behind : Part → Act
 act_behind part.Quiet = act.Keep
 act_behind (part.Comment is_mate is_position) = act.Keep
@@ -104,7 +104,7 @@ act_of s p =
 
 -- ---- the search
 
--- blanks in place of a text, so that lines and columns of what follows stay
+-- blanks in place of a text, so that the lines and columns of the rest are unchanged
 abbrev pub blank_for : ℕ → ℕ
 blank_for b = if b == 10 then 10 else 32
 
@@ -127,13 +127,13 @@ abbrev pub position_then : List ℕ → Token → Act → List ℕ
 position_then position token act.Name = comment_text token
 position_then position token other = position
 
--- where the search stands, the text of the tail so far, and the comment that names its position
+-- the state of the search, the text of the tail so far, and the comment that states its position
 pub record Sought : Type 0 where
   pub search : Search
   pub kept : List ℕ
   pub position : List ℕ
 
--- a tail: the comment that names its position; its text, which is the game's with blanks in place of what is skipped; and how many moves are
+-- a tail: the comment that states its position; its text, which is the game's with blanks in place of the skipped parts; and the number of skipped moves
 pub record Tail : Type 0 where
   pub position : List ℕ
   pub text : List ℕ
@@ -161,7 +161,7 @@ abbrev pub on_part : (List ℕ → Sought → Option Tail) → List ℕ → Soug
 on_part next text s (Err fault) = None
 on_part next text s (Ok x) = on_act (next x.1) text s (take (length text - length x.1) text) x.0 (act_of s.search (part_of x.0))
 
--- at most n tokens are read, and each has a byte at least, so that a text's length is enough
+-- at most n tokens are read, and each has at least one byte, so that a text's length is enough
 abbrev pub tail_from : ℕ → Bool → List ℕ → Sought → Option Tail
 tail_from zero fresh text s = tail_at_end s
 tail_from (suc n) fresh [] s = tail_at_end s
@@ -173,7 +173,7 @@ not_begun kept = record { search = record { skipped = 0; depth = 0; named = fals
 unfoldable pub tail_in : List ℕ → Option Tail
 tail_in text = tail_from (length text) true text (not_begun [])
 
--- ---- what a contract sees
+-- ---- a tail as contracts see it
 
 abbrev pub sought_seen : Search → List ℕ → List ℕ → Sought
 sought_seen search kept position = record { search = search; kept = kept; position = position }

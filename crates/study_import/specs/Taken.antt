@@ -1,4 +1,4 @@
--- What a token makes of what has been read.
+-- The effect of a token.
 use Rattle.std.specs.Prelude.{◌≡◌, ℕ, Bool, true, false, ◌==◌, nat_le, List, length, codes, Result, Ok, Err, if◌then◌else◌}
 use Rattle.std.specs.Str.{bytes_eq}
 use Rattle.study_marks.specs.Edits.{Plainly}
@@ -19,7 +19,7 @@ use Rattle.study_games.specs.Tokens.{Token, blank, aside, opening, closing, star
 abbrev pub reading_of : Plainly → List ℕ → ℕ → List Waiting → ℕ → List ℕ → Reading
 reading_of study path begun waiting cut inserts = record { study = study; lines = lines_of path begun waiting cut; inserts = inserts }
 
--- what has been read, and whether the game ends here
+-- the state of reading, and whether the game ends here
 pub record Taken : Type 0 where
   pub reading : Reading
   pub ended : Bool
@@ -31,7 +31,7 @@ abbrev pub on_line : Reading → Result Lines LineFault → Result Taken Reason
 on_line r (Ok l) = going_on (record { study = r.study; lines = l; inserts = r.inserts })
 on_line r (Err fault) = Err (reason.Line fault)
 
--- a result ends the game where no line waits
+-- a result ends the game if no line waits
 abbrev pub at_result : Reading → Result Taken Reason
 at_result r = Ok (record { reading = r; ended = length r.lines.waiting == 0 })
 
@@ -69,7 +69,7 @@ taken r (tag name value) = Err reason.TagInMoves
 taken r (sign text) = taken_sign r (bytes_eq text (codes "--"))
 taken r (symbol text) = taken_symbol r text (said_of text)
 
--- what was answered, and what has been read then, are these, unless there was no memory, which ends the run
+-- the result, and the state after it, unless there was no memory, which ends the run
 abbrev pub Takes : Result Bool Reason → Result Taken Reason → Reading → Type 0
 Takes (Ok ended) expected new = expected ≡ Ok (record { reading = new; ended = ended })
 Takes (Err (reason.Move move_fault.OutOfMemory)) expected new = Unit {0}

@@ -20,13 +20,13 @@ use Rattle.study_import.specs.Laws.{IsCounted}
 abbrev pub plainly : Forest Mark → Forest (Unit {0})
 plainly f = mapped (λ _. tt) f
 
--- a tag that is known has a text that a study takes, without spaces at its ends
+-- a known tag has a text that a study accepts, without spaces at its ends
 abbrev pub IsTagged : Option (List ℕ) → Type 0
 IsTagged None = Unit {0}
 IsTagged (Some text) = (is_tag_text text ≡ true) × (trimmed text ≡ text)
 
--- a study that commands of a script can make: its start is a FEN's, its moves are legal, no two siblings have one move, it is at most 256
--- plies deep, and has at most 4,096 nodes
+-- a study that commands of a script can make: its start is that of a FEN, its moves are legal, no two siblings have the same move, it is at most 256 plies
+-- deep, and has at most 4,096 nodes
 pub record CanBeMade (s : Study Mark) : Type 0 where
   pub valid : IsValid s.start.position
   pub clock : s.start.clock ≤ 9999
@@ -39,7 +39,7 @@ pub record CanBeMade (s : Study Mark) : Type 0 where
   pub within : IsWithin 256 (plainly s.tree.below)
   pub few : nodes_in (plainly s.tree.below) + 1 ≤ 4096
 
--- the same study without marks; of a tag that is not known the text that is written for it
+-- the same study without marks; for an unknown tag the text that is written for it
 abbrev pub unmarked_study : Study Mark → Plainly
 unmarked_study s = record {
   start = s.start;
@@ -48,11 +48,11 @@ unmarked_study s = record {
   tree = record { label = tt; below = plainly s.tree.below };
 }
 
--- the PGN of a study comes to that study again: its start, stipulation, tags and tree, in order
+-- the PGN of a study reads back as that study: its start, stipulation, tags and tree, in order
 abbrev pub AreReadBack : Type 0
 AreReadBack = (s : Study Mark) → CanBeMade s → study_in None (pgn_text s) ≡ Some (unmarked_study s)
 
--- a file of such studies, one behind the other, is cut into their texts again, in order, and each comes to its study
+-- a file of such studies, one after the other, is cut into their texts again, in order, and each reads back as its study
 pub record IsFileReadBack (ss : List (Study Mark)) : Type 0 where
   pub texts : map (λ g. g.text) (games_of (flat_map pgn_text ss)) ≡ map (λ s. Some (pgn_text s)) ss
   pub studies : map (λ g. study_of_game None g.text) (games_of (flat_map pgn_text ss)) ≡ map (λ s. Some (unmarked_study s)) ss

@@ -1,4 +1,4 @@
-//! What a game says it is to come to.
+//! The stipulation that a game states.
 ghost use Rattle.std.specs.Prelude.{◌≡◌, ◌≤◌, length};
 ghost use Rattle.std.specs.Option.{option_map};
 ghost use Rattle.study_games.specs.Words.{first_word, trimmed};
@@ -11,20 +11,20 @@ use study_command::read_place;
 use study_games::{Outcome, next_word, trim_end, trim_start};
 use study_marks::{Goal, MateMoves, Stipulation};
 
-/// Where a stipulation comes from.
+/// The source of a stipulation.
 #[derive(Clone, Copy, Debug, PartialEq, Eq)]
 pub enum AimSource {
     /// The first comment, before the first move.
     Comment,
     StipulationTag,
     ResultTag,
-    /// The result behind the moves.
+    /// The result after the moves.
     Result,
     /// The caller.
     Given,
 }
 
-/// A stipulation, and where it comes from.
+/// A stipulation, and its source.
 #[derive(Clone, Copy, Debug, PartialEq, Eq)]
 pub struct Aim {
     pub stipulation: Stipulation,
@@ -38,7 +38,7 @@ fn ends_with_colon(word: &[u8]) -> bool
     n >= 1 && word[n - 1] == b':'
 }
 
-/// The last word of a phrase: it ends with a colon, which is no part of it, or nothing follows.
+/// The last word of a phrase: it ends with a colon, which is not part of it, or it ends the text.
 #[tactic(auto, unfolding(crate::specs::Aims::last_of_phrase))]
 fn last_of_phrase<'t>(word: &'t [u8], behind: &[u8]) -> Option<&'t [u8]>
     ensures { option_map (λ w. w.now) result ≡ last_of_phrase word.now behind.now }
@@ -91,7 +91,7 @@ fn read_mate_moves(word: &[u8]) -> Option<MateMoves>
     }
 }
 
-/// Behind `mate in`.
+/// After `mate in`.
 fn moves_in(text: &[u8]) -> Option<MateMoves>
     ensures { result ≡ moves_in (first_word text.now) }
 {
@@ -102,7 +102,7 @@ fn moves_in(text: &[u8]) -> Option<MateMoves>
     }
 }
 
-/// Behind `mate`.
+/// After `mate`.
 fn moves_behind_in(text: &[u8]) -> Option<MateMoves>
     ensures { result ≡ moves_behind_in (first_word text.now) }
 {
@@ -123,7 +123,7 @@ fn mate_goal(moves: Option<MateMoves>) -> Option<Goal>
     }
 }
 
-/// Behind `to`.
+/// After `to`.
 fn goal_in(text: &[u8]) -> Option<Goal>
     ensures { result ≡ goal_in (first_word text.now) }
 {
@@ -138,7 +138,7 @@ fn goal_in(text: &[u8]) -> Option<Goal>
     }
 }
 
-/// Behind the hero.
+/// After the hero.
 fn goal_behind_to(text: &[u8]) -> Option<Goal>
     ensures { result ≡ goal_behind_to (first_word text.now) }
 {
@@ -162,7 +162,7 @@ pub fn aim_in(text: &[u8]) -> Option<Stipulation>
     }
 }
 
-/// `#K`, by the side that is to move.
+/// `#K`, for the side to move.
 fn mate_tag(text: &[u8], to_move: Side) -> Option<Stipulation>
     ensures { result ≡ mate_tag text.now to_move }
 {
@@ -211,7 +211,7 @@ fn aim_of_text(text: &[u8], to_move: Side) -> Option<Stipulation>
     }
 }
 
-/// The value of a tag Stipulation, where this side is to move.
+/// The value of a tag Stipulation, if this side is to move.
 #[tactic(auto, unfolding(crate::specs::Aims::aim_of_tag))]
 pub fn aim_of_tag(value: &[u8], to_move: Side) -> Option<Stipulation>
     ensures { result ≡ aim_of_tag value.now to_move }
@@ -253,7 +253,7 @@ pub fn outcome_of_tag(value: &[u8]) -> Option<Outcome>
     outcome_of_text(trim_end(trim_start(value)))
 }
 
-/// The words for where a stipulation comes from.
+/// The words for the source of a stipulation.
 pub fn source_words(source: AimSource) -> &'static [u8]
     ensures { result.now ≡ source_words source }
 {

@@ -1,4 +1,4 @@
-//! What is written of a game.
+//! The text written for a game.
 ghost use Rattle.std.specs.Prelude.{◌≡◌, ◌≤◌, ◌++◌, ◌-◌, true, length, map, codes, count_by, OnOk, IfOk, IsErr};
 ghost use Rattle.std.specs.List.{list_all, prefix_len};
 ghost use Rattle.std.specs.Option.{option_map};
@@ -109,7 +109,7 @@ fn blanks_len(text: &[u8]) -> usize
     text.iter().take_while(|b| is_blank(**b)).count()
 }
 
-/// Adds the place of what follows the result, where anything does.
+/// Adds the place of the text after the result, if there is any.
 #[tactic(auto, unfolding(crate::specs::Blocks::behind_line))]
 fn add_behind<A: Allocator>(
     out: &mut Text<'_, A>,
@@ -127,26 +127,26 @@ fn add_behind<A: Allocator>(
     out.add(b"\n")
 }
 
-/// What was read of a game, but for its start.
+/// What was read of a game, except its start.
 #[derive(Clone, Copy)]
 pub struct Told<'t> {
     pub notes: Notes,
-    /// How many moves were played that are no new node.
+    /// The number of played moves that are not new nodes.
     pub repeated: u32,
-    /// The text behind the result.
+    /// The text after the result.
     pub behind: &'t [u8],
     /// The lines that make the tree.
     pub inserts: &'t [u8],
 }
 
-/// How many moves were played that are no new node.
+/// The number of played moves that are not new nodes.
 fn repeated_moves<'a, A: Allocator>(notes: &Notes, bench: &Bench<'a, A>) -> u32
     ensures { result ≡ repeated_moves notes.now (plain_study (marked bench.now)) }
 {
     notes.moves.saturating_sub(new_nodes(bench.size()))
 }
 
-/// How many nodes of a tree are not its root.
+/// The number of nodes of a tree besides its root.
 fn new_nodes(size: usize) -> u32
     requires { size ≤ 4096 }
     ensures { result ≡ size - 1 }
@@ -255,7 +255,7 @@ fn or_aim(first: Option<Aim>, later: Option<Aim>) -> Option<Aim>
     }
 }
 
-/// The first stipulation that a game says.
+/// The first stipulation that a game states.
 #[tactic(auto, unfolding(crate::specs::Blocks::aim_of_game))]
 fn aim_of_game<'a, A: Allocator>(
     alloc: &'a A,
@@ -292,15 +292,15 @@ fn add_block<'a, A: Allocator>(
     add_study(alloc, out, entry, start, &aim.stipulation, told.inserts)
 }
 
-/// What the caller knows of a game before its moves are read.
+/// What the caller of the block knows of a game before its moves are read.
 #[derive(Clone, Copy, Debug)]
 pub struct Setting<'t> {
-    /// The stipulation of a game that says none.
+    /// The stipulation of a game that states none.
     pub given: Option<Stipulation>,
     pub entry: Entry<'t>,
 }
 
-/// Adds the block of a game whose moves are read, or that it has no stipulation.
+/// Adds the block of a game whose moves are read, or the line that it has no stipulation.
 fn add_aimed<'a, A: Allocator>(
     alloc: &'a A,
     out: &mut Text<'_, A>,
@@ -394,7 +394,7 @@ fn add_stopped<'a, A: Allocator>(
     Ok(false)
 }
 
-/// How many men the first field of a FEN places.
+/// The number of men that the first field of a FEN places.
 fn men_in(fen: &[u8]) -> u32
     ensures { result ≡ at_most (men_in (first_word fen.now)) }
 {
@@ -418,7 +418,7 @@ fn letters_in(text: &[u8]) -> usize
     n
 }
 
-/// Adds that a game's FEN is refused.
+/// Adds the line that a game's FEN is refused.
 fn add_fen_fault<'a, A: Allocator>(
     alloc: &'a A,
     out: &mut Text<'_, A>,
@@ -465,7 +465,7 @@ pub fn add_start<'a, A: Allocator>(
     }
 }
 
-/// A byte that prints, or `?`.
+/// A printable byte, or `?`.
 fn printed(byte: u8) -> u8
     ensures { result ≡ printed byte }
 {
@@ -476,7 +476,7 @@ fn printed(byte: u8) -> u8
     }
 }
 
-/// Adds bytes, with `?` for each that does not print.
+/// Adds bytes, with `?` for each unprintable one.
 fn add_printed<A: Allocator>(out: &mut Text<'_, A>, bytes: &[u8]) -> Result<(), AllocError>
     ensures { OnOk result (out.new ≡ out.old ++ map printed bytes.now) }
 {
@@ -542,7 +542,7 @@ fn add_entry<'a, A: Allocator>(
     add_tagged(alloc, out, setting)
 }
 
-/// Adds the block of a game that begins with at most four men, or the line that tells why there is none; tells which.
+/// Adds the block of a game that begins with at most four men, or the line with the reason why there is none. Returns whether there is one.
 #[tactic(auto, unfolding(crate::specs::Blocks::block_of))]
 pub fn add_game<'a, A: Allocator>(
     alloc: &'a A,

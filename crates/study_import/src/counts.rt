@@ -1,4 +1,4 @@
-//! What is not taken over of a game.
+//! Counts of what the script omits.
 ghost use Rattle.std.specs.Prelude.{◌≡◌, ◌++◌, ◌∷◌, [], ◌&&◌, ◌==◌, ◌≤◌, codes, OnOk};
 ghost use Rattle.study_games.specs.Header.{tags_of, value_of};
 ghost use Rattle.study_import.specs.Blocks.{count_words, counts_words, move_counts, counted_words, counts_line, found_count, known_count, known_names, other_tags};
@@ -9,7 +9,7 @@ use std::alloc::{AllocError, Allocator};
 use study_games::{count_tags, tag_value};
 use study_text::Text;
 
-/// How many tags with this name are taken over: one at most.
+/// The number of tags with this name that are used: one at most.
 fn found_count(game: &[u8], name: &[u8]) -> usize
     ensures value { result ≡ found_count (value_of name.now (tags_of game.now)) }
     ensures few { result ≤ 1 }
@@ -35,14 +35,14 @@ fn known_count(game: &[u8]) -> usize
                                         + found_count(game, b"Stipulation")))))))))
 }
 
-/// How many tags of a game have no place in a study, or stand behind the first of their name.
+/// The number of tags of a game that a study does not have, or that repeat a name.
 pub fn other_tags(game: &[u8]) -> u32
     ensures { result ≡ other_tags (tags_of game.now) }
 {
     at_most(count_tags(game).saturating_sub(known_count(game)))
 }
 
-/// Adds ` NAME N`, behind a comma if it is not the first.
+/// Adds ` NAME N`, after a comma if it is not the first.
 fn add_count<A: Allocator>(
     out: &mut Text<'_, A>,
     first: bool,
@@ -60,7 +60,7 @@ fn add_count<A: Allocator>(
     out.add_number(n)
 }
 
-/// Whether the next count is the first that is told.
+/// Whether the next count is the first to be printed.
 fn is_first(before: bool, n: u32) -> bool
     ensures { result ≡ (before && n == 0) }
 {
@@ -143,7 +143,7 @@ fn add_last_count<A: Allocator>(
     add_count(out, first, name, n)
 }
 
-/// Adds the line of the counts, where there are any.
+/// Adds the line of the counts, if there are any.
 pub fn add_counts_line<A: Allocator>(out: &mut Text<'_, A>, words: &[u8]) -> Result<(), AllocError>
     ensures { OnOk result (out.new ≡ out.old ++ counts_line words.now) }
 {

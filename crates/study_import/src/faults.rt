@@ -1,4 +1,4 @@
-//! The names of faults, and the lines that tell them.
+//! The names of faults, and the lines that report them.
 ghost use Rattle.std.specs.Prelude.{◌≡◌, ◌≤◌, ◌++◌, codes, length, take, OnOk};
 ghost use Rattle.std.specs.List.{prefix_len};
 ghost use Rattle.study_games.specs.Bytes.{is_symbol_byte};
@@ -16,7 +16,7 @@ use study_games::{TokenFault, shortened};
 use study_reply::Refusal;
 use study_text::Text;
 
-/// How much of a symbol is told.
+/// The number of bytes of a symbol that are printed.
 const LONGEST_TOLD: usize = 40;
 
 pub fn token_name(fault: TokenFault) -> &'static [u8]
@@ -65,7 +65,7 @@ fn stop_name(why: Stop) -> &'static [u8]
     }
 }
 
-/// Whether the moves were not read on for want of memory.
+/// Whether reading the moves stopped for want of memory.
 pub fn is_of_memory(why: Stop) -> bool
     ensures { result ≡ is_of_memory why }
 {
@@ -83,7 +83,7 @@ fn symbol_len(text: &[u8]) -> usize
     text.iter().take_while(|b| is_symbol_byte(**b)).count()
 }
 
-/// Adds ` at SYMBOL`, where the fault is a move that is not read.
+/// Adds ` at SYMBOL`, if the fault is a move that cannot be read.
 fn add_symbol<A: Allocator>(out: &mut Text<'_, A>, why: Stop, text: &[u8]) -> Result<(), AllocError>
     ensures { OnOk result (out.new ≡ out.old ++ symbol_words why text.now) }
 {
@@ -105,7 +105,7 @@ pub fn add_game_words<A: Allocator>(out: &mut Text<'_, A>, number: u32) -> Resul
     out.add_number(number)
 }
 
-/// Adds the line that tells why the whole game is left out.
+/// Adds the line with the reason why the whole game is left out.
 #[tactic(auto, unfolding(crate::specs::Blocks::left_out))]
 pub fn add_left_out<A: Allocator>(
     out: &mut Text<'_, A>,
@@ -122,7 +122,7 @@ pub fn add_left_out<A: Allocator>(
     out.add(b"\n\n")
 }
 
-/// Adds the line that tells a fault at a place.
+/// Adds the line that reports a fault at a place.
 #[tactic(auto, unfolding(crate::specs::Blocks::fault_words))]
 pub fn add_fault<A: Allocator>(
     out: &mut Text<'_, A>,
@@ -142,7 +142,7 @@ pub fn add_fault<A: Allocator>(
     out.add(b"\n\n")
 }
 
-/// Adds the line that tells the first fault of a game's moves.
+/// Adds the line that reports the first fault of a game's moves.
 pub fn add_stop<'a, A: Allocator>(
     alloc: &'a A,
     out: &mut Text<'_, A>,

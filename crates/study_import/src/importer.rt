@@ -1,4 +1,4 @@
-//! A file of games, as it comes in.
+//! A file of games, read byte by byte.
 ghost use Rattle.std.specs.Prelude.{◌≡◌, ◌++◌, ◌∷◌, [], ◌==◌, length, OnOk, IfOk};
 ghost use Rattle.study_games.specs.Games.{unmarked, kind_of, longer, with_next, game_seen};
 ghost use Rattle.study_import.specs.Blocks.{tallied, told_text, last_line};
@@ -12,17 +12,17 @@ use study_games::{Game, Gathering, LONGEST_LINE, LineKind, kind_of, unmarked};
 use study_marks::Stipulation;
 use study_text::Text;
 
-/// Which games are told, by their numbers, and the stipulation of those that say none.
+/// The games to write, by their numbers, and the stipulation of the games that state none.
 #[derive(Clone, Copy, Debug, PartialEq, Eq)]
 pub struct Choice {
     pub given: Option<Stipulation>,
     pub from: u32,
     pub to: u32,
-    /// Of a game with more than four men its tail is taken, where it has one.
+    /// For a game with more than four men its tail is used, if it has one.
     pub tails: bool,
 }
 
-/// How many games came before, how many of them were told, and how many of these came to a study.
+/// The numbers of games so far, of those written, and of studies among these.
 #[derive(Clone, Copy, Debug, Default, PartialEq, Eq)]
 pub struct Imported {
     pub met: u32,
@@ -30,7 +30,7 @@ pub struct Imported {
     pub studies: u32,
 }
 
-/// An import: the line and the game at hand, and what came before.
+/// An import: the current line and game, and the tally before.
 #[derive(Drop)]
 pub struct Importer<'a, A: Allocator> {
     alloc: &'a A,
@@ -63,7 +63,7 @@ impl<'a, A: Allocator> Importer<'a, A> {
         }
     }
 
-    /// How many games have ended.
+    /// The number of games that have ended.
     pub fn met(&self) -> u32
         ensures { result ≡ self.now.tally.met }
     {
@@ -82,7 +82,7 @@ impl<'a, A: Allocator> Importer<'a, A> {
         Ok(())
     }
 
-    /// The file ends: writes the last game, and how many there are.
+    /// The end of the file: writes the last game, and how many there are.
     #[tactic(auto, using(crate::proofs::Ended::written_at_end, crate::proofs::Ended::tally_at_end))]
     pub fn finish(&mut self, out: &mut Text<'_, A>) -> Result<Imported, AllocError>
         ensures written { OnOk result (out.new ≡ out.old ++ still_written self.old []) }
@@ -94,7 +94,7 @@ impl<'a, A: Allocator> Importer<'a, A> {
         Ok(self.tally)
     }
 
-    /// The file ends: the line at hand is whole, if it has a byte.
+    /// The end of the file: the current line is whole, if it has a byte.
     fn end_last_line(&mut self, out: &mut Text<'_, A>) -> Result<(), AllocError>
         ensures written { OnOk result (out.old ++ still_written self.old [] ≡ out.new ++ written_of self.new []) }
         ensures tally { OnOk result (still_tallied self.old [] ≡ tally_ahead self.new []) }
@@ -105,7 +105,7 @@ impl<'a, A: Allocator> Importer<'a, A> {
         self.end_line(out)
     }
 
-    /// No byte of the line at hand was read.
+    /// Whether no byte of the current line was read.
     fn has_no_line(&self) -> bool
         ensures { result ≡ (length self.now.line == 0) }
     {
@@ -127,7 +127,7 @@ impl<'a, A: Allocator> Importer<'a, A> {
         kind_of(unmarked(self.gathering.next(), self.line.as_slice()))
     }
 
-    /// The line at hand is whole.
+    /// The current line is whole.
     fn end_line(&mut self, out: &mut Text<'_, A>) -> Result<(), AllocError>
         ensures written { OnOk result (EndsLine self.old out.old self.new out.new) }
         ensures tally { OnOk result (EndsLineTallied self.old self.new) }
@@ -140,7 +140,7 @@ impl<'a, A: Allocator> Importer<'a, A> {
         self.add_line(kind)
     }
 
-    /// Adds the line at hand to the game at hand.
+    /// Adds the current line to the current game.
     fn add_line(&mut self, kind: LineKind) -> Result<(), AllocError>
         ensures { OnOk result (self.new ≡ record self.old {
           line = [];
@@ -153,7 +153,7 @@ impl<'a, A: Allocator> Importer<'a, A> {
         Ok(())
     }
 
-    /// Writes the game at hand, if there is one and it is chosen, and puts it away.
+    /// Writes the current game, if there is one and it is chosen, and drops it.
     fn end_game(&mut self, out: &mut Text<'_, A>) -> Result<(), AllocError>
         ensures text { OnOk result (out.new ≡ out.old ++ text_at_hand self.old self.old.gathered.begun) }
         ensures then { OnOk result (self.new ≡ put_away self.old) }
@@ -229,7 +229,7 @@ fn import_chosen<'a, A: Allocator>(
     Ok(out)
 }
 
-/// The script of a file of PGN: the blocks of its games, and how many there are. `given` is the stipulation of the games that say none.
+/// The script of a PGN file: the blocks of its games, and how many there are. `given` is the stipulation of the games that state none.
 pub fn import<'a, A: Allocator>(
     alloc: &'a A,
     text: &[u8],

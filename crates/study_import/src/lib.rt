@@ -1,10 +1,10 @@
 //! Studies from PGN: the games of a file as a script of studybench.
 //!
-//! `import` gives the script of a whole text, and `Importer` that of a file that comes in byte by byte, with one game in memory. What
-//! becomes of a game is `block_of` of `specs/Blocks.antt`: a block of lines that stands alone, or one line that tells why there is none.
-//! With `Choice::tails` a game with more men is read from a position on that a comment of its main line names (`block_by`).
-//! The moves are read by a `Bench` whose values nobody looks at, so that the call that accepts a move here is the one that accepts it
-//! in a script. `MoveFault::NoSuchNode` never comes (`faults_are_listed`).
+//! `import` makes the script of a whole text, and `Importer` that of a file that is read byte by byte, with one game in memory. The text written for
+//! a game is `block_of` of `specs/Blocks.antt`: a block of lines that is complete in itself, or one line with the reason why there is none. With
+//! `Choice::tails` a game with more men is read from a position that a comment of its main line states (`block_by`). The moves are read by a `Bench`
+//! whose values are never used, so that the call that accepts a move here is the one that accepts it in a script. `MoveFault::NoSuchNode` never
+//! occurs (`faults_are_listed`).
 #![tactic(auto)]
 
 mod aims;

@@ -13,7 +13,7 @@ use crate::taking::Reason;
 use std::alloc::Allocator;
 use study_games::{Token, TokenFault, begins_feed, read_token};
 
-/// Why the moves of a game are not read to their end.
+/// Why the moves of a game cannot be read to the end.
 #[derive(Clone, Copy, Debug, PartialEq, Eq)]
 pub enum Stop {
     Token(TokenFault),
@@ -21,14 +21,14 @@ pub enum Stop {
     OpenVariation,
 }
 
-/// The first fault of the moves, and how many bytes of the text stand from its place on.
+/// The first fault of the moves, and the number of bytes from its place on.
 #[derive(Clone, Copy, Debug, PartialEq, Eq)]
 pub struct MovesFault {
     pub why: Stop,
     pub left: usize,
 }
 
-/// What has been read of a game, and what was noted.
+/// The state of reading a game, and the notes.
 #[derive(Drop)]
 pub struct GameReading<'a, A: Allocator> {
     pub reading: Reading<'a, A>,
@@ -45,7 +45,7 @@ fn is_header_tag(notes: &Notes, token: Token<'_>) -> bool
 }
 
 impl<'a, A: Allocator> GameReading<'a, A> {
-    /// Takes a token; tells whether the game ends there.
+    /// Takes a token. Returns whether the game ends there.
     #[tactic(auto, using(crate::proofs::TokenByToken::noted_takes))]
     fn take(&mut self, token: Token<'_>) -> Result<bool, Reason>
         ensures { TakesIn result (game_taken (game_of (plain_study (marked self.old.reading.bench)) self.old.reading.lines.path.items self.old.reading.lines.begun
@@ -79,7 +79,7 @@ impl<'a, A: Allocator> GameReading<'a, A> {
         }
     }
 
-    /// Reads a game from its first line up to its result or the end of the text, and gives what is behind.
+    /// Reads a game from its first line up to its result or the end of the text, and returns the rest of the text.
     pub fn read<'t>(&mut self, text: &'t [u8], fresh: bool) -> Result<&'t [u8], MovesFault>
         ensures { Ends (λ t. t.now) result (read_moves (length text.now) fresh text.now (game_of (plain_study (marked self.old.reading.bench)) self.old.reading.lines.path.items self.old.reading.lines.begun
             self.old.reading.lines.waiting.items self.old.reading.lines.cut self.old.reading.inserts self.old.notes))

@@ -1,4 +1,4 @@
-//! What is counted and noted beside the moves.
+//! Counts and notes beside the moves.
 ghost use Rattle.std.specs.Prelude.{◌≡◌, codes};
 ghost use Rattle.std.specs.Str.{bytes_eq};
 ghost use Rattle.study_games.specs.Games.{one_more};
@@ -10,24 +10,24 @@ use crate::aims::aim_in;
 use study_games::{Outcome, Said, Token, say};
 use study_marks::Stipulation;
 
-/// What is not taken over of a game, and what it says of its stipulation. Counts stay at the last value of their type.
+/// Counts of what the script omits, and the stipulation that the game states. Counts saturate.
 #[derive(Clone, Copy, Debug)]
 pub struct Notes {
     pub comments: u32,
     /// NAGs and glyphs.
     pub asides: u32,
-    /// Moves that are played, those that repeat one of the tree among them.
+    /// Moves played, including those that repeat a move of the tree.
     pub moves: u32,
     pub null_moves: u32,
-    /// Moves behind a null move.
+    /// Moves after a null move.
     pub moves_behind: u32,
-    /// Nothing but tags, comments and blanks was read.
+    /// Only tags, comments and blanks were read.
     pub in_header: bool,
     pub before_moves: bool,
     pub has_comment: bool,
-    /// What the first comment before the moves says.
+    /// The stipulation in the first comment before the moves.
     pub opening: Option<Stipulation>,
-    /// The result behind the moves.
+    /// The result after the moves.
     pub outcome: Option<Outcome>,
 }
 
@@ -164,7 +164,7 @@ impl Notes {
         }
     }
 
-    /// With a token noted; `cut` tells that a null move of its line stands before it, `waits` that a line waits.
+    /// With a token noted; `cut`: a null move of its line precedes it; `waits`: a line waits.
     pub fn noted(self, cut: bool, waits: bool, token: Token<'_>) -> Notes
         ensures { result ≡ noted self cut waits (token_seen token.entry) }
     {

@@ -6,7 +6,7 @@ ghost use Rattle.study_import.specs.Blocks.{moved_on, place_behind, entry_seen, 
 use std::alloc::{AllocError, Allocator};
 use study_text::Text;
 
-/// A line, counted from 1, and a column in bytes, counted from 1. Both stay at the last value of their type.
+/// A line and a column in bytes, each counted from 1. Both saturate.
 #[derive(Clone, Copy, Debug, PartialEq, Eq)]
 pub struct Place {
     pub line: u32,
@@ -37,7 +37,7 @@ fn moved_on(place: Place, byte: u8) -> Place
     }
 }
 
-/// The place behind a text that begins at a place.
+/// The place after a text that begins at a place.
 fn place_behind(place: Place, text: &[u8]) -> Place
     ensures { result ≡ place_behind place text.now }
 {
@@ -50,7 +50,7 @@ fn place_behind(place: Place, text: &[u8]) -> Place
     at
 }
 
-/// Where a place of the game stands, of which so many bytes are left.
+/// The place in the game with so many bytes left.
 pub fn place_in(entry: &Entry<'_>, left: usize) -> Place
     ensures { result ≡ place_in (entry_seen entry.now) left }
 {
@@ -63,7 +63,7 @@ pub fn place_in(entry: &Entry<'_>, left: usize) -> Place
     place_behind(first, before)
 }
 
-/// What stands from such a place on.
+/// The text from such a place on.
 pub fn text_at<'t>(entry: &Entry<'t>, left: usize) -> &'t [u8]
     ensures { result.now ≡ text_at (entry_seen entry.now) left }
 {
@@ -83,7 +83,7 @@ pub fn add_place<A: Allocator>(out: &mut Text<'_, A>, place: Place) -> Result<()
     out.add_number(place.column)
 }
 
-/// A count as a u32 can hold it.
+/// A count as a u32; it saturates.
 pub fn at_most(n: usize) -> u32
     ensures { result ≡ at_most n }
 {

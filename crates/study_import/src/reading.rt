@@ -1,4 +1,4 @@
-//! What has been read of a game's moves.
+//! The state of reading a game's moves.
 ghost use Rattle.std.specs.Prelude.{◌≡◌, IfOk};
 ghost use Rattle.study_marks.specs.Study.{plain_study};
 ghost use Rattle.study_marks.specs.BenchState.{marked};
@@ -16,7 +16,7 @@ use study_notation::SanFault;
 use study_text::Text;
 use study_tree::Path;
 
-/// The study so far, the line at hand with those that wait, and the lines of the script that make the tree.
+/// The study so far, the current line with the waiting ones, and the lines of the script that make the tree.
 #[derive(Drop)]
 pub struct Reading<'a, A: Allocator> {
     pub alloc: &'a A,
@@ -37,7 +37,7 @@ fn path_of<'a, A: Allocator>(alloc: &'a A, steps: &[u16]) -> Result<Path<'a, A>,
 }
 
 impl<'a, A: Allocator> Reading<'a, A> {
-    /// Reads a symbol that stands for a move.
+    /// Reads a symbol for a move.
     #[tactic(auto, unfolding(crate::specs::Reading::symbol_played))]
     pub fn play_symbol(&mut self, symbol: &[u8]) -> Result<(), MoveFault>
         ensures { Reads result (symbol_played (record {
@@ -65,7 +65,7 @@ impl<'a, A: Allocator> Reading<'a, A> {
         }
     }
 
-    /// Reads the text that stands for a move at the node at hand.
+    /// Reads the text for a move at the current node.
     #[tactic(auto, unfolding(crate::specs::Reading::played))]
     pub fn play(&mut self, san: &str) -> Result<(), MoveFault>
         ensures { Reads result (played (record {

@@ -10,7 +10,7 @@ use study_games::{short_text, shortened, spell_out, tag_value, trim_end, trim_st
 use study_marks::{TagName, tag_name};
 use study_text::Text;
 
-/// How much of an original a remark has.
+/// The number of bytes of an original in a remark.
 const LONGEST_ORIGINAL: usize = 255;
 
 fn shown(byte: u8) -> u8
@@ -35,7 +35,7 @@ fn add_shown<A: Allocator>(out: &mut Text<'_, A>, bytes: &[u8]) -> Result<(), Al
     Ok(())
 }
 
-/// Adds the original of a tag, where the text is another.
+/// Adds the original of a tag, if the text differs.
 fn add_was<A: Allocator>(
     out: &mut Text<'_, A>,
     name: TagName,
@@ -73,7 +73,7 @@ fn add_was_line<'a, A: Allocator>(
     }
 }
 
-/// Adds the originals of the six tags, where their texts are others.
+/// Adds the originals of the six tags whose texts differ.
 pub fn add_was_lines<'a, A: Allocator>(
     alloc: &'a A,
     out: &mut Text<'_, A>,
@@ -89,7 +89,7 @@ pub fn add_was_lines<'a, A: Allocator>(
     add_was_line(alloc, out, game, TagName::Black)
 }
 
-/// The text of a tag that is not known.
+/// The text for an unknown tag.
 fn unknown_text(name: TagName) -> &'static [u8]
     ensures { result.now ≡ unknown_text name }
 {

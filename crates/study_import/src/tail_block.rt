@@ -1,4 +1,4 @@
-//! What is written of a game by choice: its block, or that of its tail.
+//! The text written for a game by choice: its block, or that of its tail.
 ghost use Rattle.std.specs.Prelude.{◌≡◌, ◌++◌, [], codes, OnOk, IfOk};
 ghost use Rattle.std.specs.Option.{option_map};
 ghost use Rattle.study_notation.specs.Fen.{start_of};
@@ -34,7 +34,7 @@ fn has_more_men<'a, A: Allocator>(alloc: &'a A, raw: Option<&[u8]>) -> Result<bo
     }
 }
 
-/// Adds the text of a game's tail, and gives its position; none where it has no tail.
+/// Adds the text of a game's tail, and returns its position; `None` if the game has no tail.
 #[tactic(auto, unfolding(crate::specs::Blocks::tail_of_game, crate::specs::Tails::tail_in))]
 fn add_tail_of_game<'t, 'a, A: Allocator>(
     alloc: &'a A,
@@ -50,7 +50,7 @@ fn add_tail_of_game<'t, 'a, A: Allocator>(
     add_tail(alloc, out, game)
 }
 
-/// The same of a game that may have too many bytes, where tails are taken.
+/// The same for a game that may have too many bytes, if tails are taken.
 fn add_tail_of<'t, 'a, A: Allocator>(
     alloc: &'a A,
     out: &mut Text<'_, A>,
@@ -66,7 +66,7 @@ fn add_tail_of<'t, 'a, A: Allocator>(
     }
 }
 
-/// Adds the line that tells how many moves stand before a tail.
+/// Adds the line with the number of moves before a tail.
 #[tactic(auto, unfolding(crate::specs::Blocks::tail_line))]
 fn add_tail_line<A: Allocator>(out: &mut Text<'_, A>, skipped: u32) -> Result<(), AllocError>
     ensures { OnOk result (out.new ≡ out.old ++ tail_line skipped) }
@@ -91,7 +91,7 @@ fn add_tail_block<'a, A: Allocator>(
     add_start(alloc, out, setting, fen.as_slice())
 }
 
-/// Adds the block of a game or of its tail, as the choice has it, or the line that tells why there is none; tells which.
+/// Adds the block of a game or of its tail, by the choice, or the line with the reason why there is none. Returns whether there is one.
 pub fn add_chosen<'a, A: Allocator>(
     alloc: &'a A,
     out: &mut Text<'_, A>,

@@ -1,4 +1,4 @@
-//! A tail of a game: the game from a position on that a comment of its main line names.
+//! A tail of a game: the game from a position that a comment of its main line states.
 ghost use Rattle.std.specs.Prelude.{◌≡◌, ◌++◌, ◌-◌, true, false, length, take, map, codes, OnOk, IfOk};
 ghost use Rattle.std.specs.List.{list_all};
 ghost use Rattle.std.specs.Str.{bytes_eq};
@@ -19,35 +19,35 @@ use study_marks::{Goal, Stipulation};
 use study_notation::read_fen;
 use study_text::Text;
 
-/// What a token is to the search for a tail.
+/// The kind of a token in the search for a tail.
 #[derive(Clone, Copy, Debug, PartialEq, Eq)]
 pub enum Part {
-    /// It is no move and says nothing.
+    /// Not a move, and without effect.
     Quiet,
     Move,
     Open,
     Close,
     /// A result.
     End,
-    /// Whether it says a mate in so many moves.
+    /// Whether it states a mate in so many moves.
     Tag(bool),
-    /// Whether it says a mate in so many moves, and whether it is a position of at most four men.
+    /// Whether it states a mate in so many moves, and whether it is a position of at most four men.
     Comment(bool, bool),
 }
 
-/// What becomes of a token.
+/// The action for a token.
 #[derive(Clone, Copy, Debug, PartialEq, Eq)]
 pub enum Act {
     Keep,
-    /// Blanks stand for it.
+    /// Replace it by blanks.
     Blank,
-    /// Blanks stand for a move.
+    /// Replace a move by blanks.
     Skip,
     /// A variation begins.
     Deepen,
     /// A variation ends.
     Rise,
-    /// It names the position.
+    /// It states the position.
     Name,
     /// The tail begins before it.
     Begin,
@@ -55,18 +55,18 @@ pub enum Act {
     Stop,
 }
 
-/// Where a search stands.
+/// The state of a search.
 #[derive(Clone, Copy, Debug)]
 pub struct Search {
-    /// How many moves were skipped.
+    /// The number of moves skipped.
     pub skipped: u32,
-    /// How many variations deep the text is.
+    /// The depth of variations.
     pub depth: u32,
-    /// The position is named.
+    /// The position has been stated.
     pub named: bool,
 }
 
-/// The comment that names the position of a tail, and how many moves are skipped.
+/// The comment that states the position of a tail, and the number of skipped moves.
 #[derive(Clone, Copy, Debug)]
 pub struct Named<'t> {
     pub position: &'t [u8],
@@ -108,7 +108,7 @@ pub fn position_text<'a, A: Allocator>(
     Ok(out)
 }
 
-/// Whether a comment is a position that the script takes.
+/// Whether a comment is a position that the script accepts.
 fn is_position<'a, A: Allocator>(alloc: &'a A, comment: &[u8]) -> Result<bool, AllocError>
     ensures { IfOk result (λ is. is ≡ is_start (start_of (position_text comment.now))) }
 {
@@ -240,7 +240,7 @@ fn add_bytes<A: Allocator>(out: &mut Text<'_, A>, act: Act, bytes: &[u8]) -> Res
     }
 }
 
-/// The comment that names the position, behind a token.
+/// The comment that states the position, after a token.
 fn position_then<'t>(position: &'t [u8], token: Token<'t>, act: Act) -> &'t [u8]
     ensures { result.now ≡ position_then position.now (token_seen token.entry) act }
 {
@@ -313,7 +313,7 @@ impl Search {
     }
 }
 
-/// What stands in front of a part of a text that is its end.
+/// The front of a text, before a part that is its end.
 fn before<'t>(text: &'t [u8], end: &[u8]) -> &'t [u8]
     ensures { result.now ≡ take (length text.now - length end.now) text.now }
 {
@@ -321,7 +321,7 @@ fn before<'t>(text: &'t [u8], end: &[u8]) -> &'t [u8]
     front
 }
 
-/// Adds the text of a game's tail, and gives its position; none where the game has no tail.
+/// Adds the text of a game's tail, and returns its position; `None` if the game has no tail.
 pub fn add_tail<'t, 'a, A: Allocator>(
     alloc: &'a A,
     out: &mut Text<'_, A>,

@@ -1,4 +1,4 @@
-//! What a token makes of what has been read.
+//! The effect of a token.
 ghost use Rattle.std.specs.Prelude.{◌≡◌, codes};
 ghost use Rattle.std.specs.Str.{bytes_eq};
 ghost use Rattle.study_marks.specs.Study.{plain_study};
@@ -16,7 +16,7 @@ use std::alloc::Allocator;
 use study_games::{Said, Token, say};
 use thiserror::Error;
 
-/// Why the moves of a game are not read on.
+/// Why reading the moves of a game stops.
 #[derive(Clone, Copy, Debug, PartialEq, Eq, Error)]
 pub enum Reason {
     #[error("{0}")]
@@ -115,7 +115,7 @@ impl<'a, A: Allocator> Reading<'a, A> {
         }
     }
 
-    /// Takes a token; tells whether the game ends there.
+    /// Takes a token. Returns whether the game ends there.
     pub fn take(&mut self, token: Token<'_>) -> Result<bool, Reason>
         ensures { Takes result (taken (reading_of (plain_study (marked self.old.bench)) self.old.lines.path.items self.old.lines.begun self.old.lines.waiting.items
             self.old.lines.cut self.old.inserts) (token_seen token.entry))

@@ -1,4 +1,4 @@
-//! Values for a tree whose marks nobody reads.
+//! Values for a tree whose marks are never read.
 ghost use Rattle.std.specs.Prelude.{◌≡◌, ◌↔◌, ℕ, true, false, Ok, IfOk, IfErr, IsErrOf};
 ghost use Rattle.study_material.specs.declared.class.Class.{Class as AClass};
 ghost use Rattle.study_material.specs.Class.{IsOf};
@@ -12,7 +12,7 @@ use study_board::Position;
 use study_material::Class;
 use study_values::{ProbeFault, Value, Values};
 
-/// Each position is told as a draw, and no table is needed. These values are not the game's.
+/// Each position is evaluated as a draw, and no table is needed. These values are not the game's.
 #[derive(Drop)]
 pub struct NoValues {
     pub asked: u64,

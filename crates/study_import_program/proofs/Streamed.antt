@@ -14,7 +14,7 @@ use Rattle.study_import_program.specs.Status.{stop_text, IsTold}
 use Rattle.study_import_program.specs.Ended.{HasRun}
 use Rattle.study_import_program.specs.Streams.{AppendsFront, PutsByte, StopsAtByte, PutsRest, IsWhole, IsFront}
 
--- what is written so far, and what is left to read
+-- the text written so far, and the rest to read
 pub record Reached (now old new : Option (List ℕ)) (c : Choice) (h : Held) (text : List ℕ) : Type 0 where
   pub rest : List ℕ
   pub done : List ℕ
@@ -104,12 +104,12 @@ stops_at_end now now' old mid new c h text r eaten end f =
     let none = at_end now now' r.rest r.left eaten end in
     stops_in now old mid new c h text r (subst (λ (x : List ℕ). AppendsFront mid new (still_written h x)) (sym none) f)
 
--- ---- a text that is written in part
+-- ---- a partly written text
 
 pub prefix_front : (old new : Option (List ℕ)) (text : List ℕ) → TakesPrefix old new text → AppendsFront old new text
 prefix_front old new text (front, byte, back, e, h) = (front, byte ∷ back, e, h)
 
--- ---- under an answer
+-- ---- given the result
 
 pub stopped_put : (byte : ℕ) (before now : Held) (old new : Option (List ℕ)) (text : List ℕ)
     → ((bytes : List ℕ) → [] ++ still_written before (byte ∷ bytes) ≡ text ++ still_written now bytes)
@@ -121,7 +121,7 @@ stopped_put byte before now old new text kept (front, back, e, h) = λ bytes. (
   h,
 )
 
--- ---- what a run comes to
+-- ---- the result of a run
 
 whole_kept : (c : Choice) (left old mid new : Option (List ℕ)) (i : Imported) → Keeps mid new → IsWhole c left old mid i → IsWhole c left old new i
 whole_kept c left old mid new i kept h = λ text is. let (put, counted) = h text is in (Appends-kept old mid new (script_of c text) put kept, counted)
@@ -134,7 +134,7 @@ pub has_run : (c : Choice) (left old mid new : Option (List ℕ)) (answer : Resu
 has_run c left old mid new (Ok i) kept whole front = whole_kept c left old mid new i kept whole
 has_run c left old mid new (Err fault) kept whole front = front_kept c left old mid new kept front
 
--- what is told behind nothing
+-- a text appended after nothing
 appends_behind : (a b c : Option (List ℕ)) (text : List ℕ) → Keeps a b → Appends b c text → Appends a c text
 appends_behind None b c text kept h = tt
 appends_behind (Some xs) None c text kept h = absurd kept

@@ -1,4 +1,4 @@
--- What a run comes to, and how it ends.
+-- The result of a run, and its exit status.
 use Rattle.std.specs.Prelude.{◌≡◌, ℕ, Bool, false, ◌⊎◌, List, Option, Result, Ok, Err}
 use Rattle.study_import.specs.declared.importer.Choice.{Choice}
 use Rattle.study_import.specs.declared.importer.Imported.{Imported}
@@ -7,13 +7,12 @@ use Rattle.study_import_program.specs.declared.streaming.ImportFault.TheVariants
 use Rattle.study_import_program.specs.Status.{status_told, IsTold}
 use Rattle.study_import_program.specs.Streams.{IsWhole, IsFront}
 
--- the whole script is written, or a front of it and a fault is answered
+-- the whole script is written, or a prefix of it and a fault is reported
 abbrev pub HasRun : Choice → Option (List ℕ) → Option (List ℕ) → Option (List ℕ) → Result Imported ImportFault → Type 0
 HasRun c left old new (Ok imported) = IsWhole c left old new imported
 HasRun c left old new (Err fault) = IsFront c left old new
 
--- a run that has such an answer, or could not flush what it wrote, ends by this status; standard error is told of it alone where no
--- progress is
+-- a run with such a result, or one that could not flush what it wrote, ends by this status; standard error has only the message if no progress is reported
 abbrev pub EndsBy : (Result Imported ImportFault → Type 0) → ℕ → Bool → Option (List ℕ) → Option (List ℕ) → Type 0
 EndsBy Ran status progress old new = (ran answer : Result Imported ImportFault) × Ran ran × ((answer ≡ ran) ⊎ (answer ≡ Err WriteDevice))
     × (status ≡ status_told answer) × (progress ≡ false → IsTold answer old new)

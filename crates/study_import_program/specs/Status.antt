@@ -8,7 +8,7 @@ use Rattle.study_import.specs.declared.importer.Imported.{Imported}
 use Rattle.study_import_program.specs.declared.streaming.ImportFault.{ImportFault}
 use Rattle.study_import_program.specs.declared.streaming.ImportFault.TheVariants.{ReadDevice, WriteDevice, OutOfMemory}
 
--- 0 if each game that was written is a study, 1 if some is not, 3 if the run stopped at a fault
+-- 0 if each game that was written is a study, 1 if some game is not, 3 if the run stopped at a fault
 abbrev pub status_told : Result Imported ImportFault → ℕ
 status_told (Ok imported) = if imported.told == imported.studies then 0 else 1
 status_told (Err fault) = 3
@@ -30,7 +30,7 @@ stop_text ReadDevice = codes "studyimport: ReadDevice\n"
 stop_text WriteDevice = codes "studyimport: WriteDevice\n"
 stop_text OutOfMemory = codes "studyimport: OutOfMemory\n"
 
--- a run that stopped is reported, or a prefix of that if standard error fails; of another nothing is written
+-- a run that stopped is reported, or a prefix of the report if standard error fails; for another run nothing is written
 abbrev pub IsTold : Result Imported ImportFault → Option (List ℕ) → Option (List ℕ) → Type 0
 IsTold (Ok imported) old new = Keeps old new
 IsTold (Err fault) old new = Appends old new (stop_text fault) ⊎ TakesPrefix old new (stop_text fault)

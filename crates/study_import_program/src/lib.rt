@@ -1,7 +1,7 @@
 //! The program studyimport as a library: its command line, the reader that holds one game in memory, and the exit status.
 //!
-//! `studyimport` is all that the program does. `import_stream` does the same over whatever streams, so that tests see the exit status
-//! and what is written to standard error.
+//! `studyimport` is the whole program. `import_stream` does the same over any streams, so that tests see the exit status and what is written to
+//! standard error.
 #![tactic(auto)]
 
 mod options;

@@ -29,10 +29,10 @@ pub struct Options {
     pub progress: bool,
 }
 
-/// Reads the words of the command line, of which the first is the program's name; none where `--stipulate` has no stipulation.
-/// `--help` and `--version` are answered as errors whose exit code is 0.
+/// Reads the words of the command line, the first of which is the program's name; `None` if `--stipulate` has no valid stipulation. `--help` and
+/// `--version` are reported as errors whose exit code is 0.
 ///
-/// No contract: clap has none on the words that it takes. The tests say what it reads.
+/// No contract: clap has none on the words that it takes. Tests check what it reads.
 pub fn read_words(alloc: Global, words: &[String]) -> Result<Option<Options>, Error> {
     let matches = command(alloc)?.try_get_matches_from(words)?;
     let given = match matches.get_strs("stipulate") {
@@ -104,7 +104,7 @@ fn number<'a>(alloc: Global, name: &'a str, value: &'a str, help: &'a str) -> Ar
         .help(help)
 }
 
-/// What a line `stipulate` of a script says with these words.
+/// The stipulation that a script's line `stipulate` sets with these words.
 fn stipulation_in(alloc: Global, words: &[&str]) -> Result<Option<Stipulation>, AllocError> {
     let mut line = Text::new(&alloc);
     line.add(b"stipulate")?;

@@ -1,4 +1,4 @@
-//! What the program does, over the streams of its process or over any others.
+//! The program, over the streams of its process or over any others.
 ghost use Rattle.std.specs.Prelude.{◌≡◌};
 ghost use Rattle.study_import_program.specs.Status.{status_told, IsTold};
 ghost use Rattle.study_import_program.specs.Ended.{HasRun, EndsBy};
@@ -15,10 +15,10 @@ use study_import::Imported;
 
 /// Reads games of PGN from standard input and writes their script to standard output.
 ///
-/// The exit status is 0 where each game has its block, 1 where some has not, 2 where the command line was refused, and 3 where the run
-/// stopped at a fault, whose name then goes to standard error.
+/// The exit status is 0 if each game has its block, 1 if some game has none, 2 if the command line was refused, and 3 if the run stopped at a fault,
+/// whose name then goes to standard error.
 ///
-/// No contract: of the streams and the words of a process no clause can say what they hold. `import_stream` has one.
+/// No contract: no clause can name the content of the streams and the words of a process. `import_stream` has one.
 pub fn studyimport(rt: &HostRuntime) -> ExitCode {
     let words = match words_of(rt) {
         Ok(words) => words,
@@ -31,12 +31,12 @@ pub fn studyimport(rt: &HostRuntime) -> ExitCode {
     }
 }
 
-/// The words of the command line, of which the first is the program's name.
+/// The words of the command line, the first of which is the program's name.
 fn words_of(rt: &HostRuntime) -> io::Result<Vec<String>> {
     Ok(env::args(rt)?.collect(rt.alloc())?)
 }
 
-/// The words of the command line are not known.
+/// The words of the command line cannot be read.
 fn not_read(rt: &HostRuntime, error: &io::Error) -> u8 {
     if error.kind() == ErrorKind::OutOfMemory {
         return ended(&mut rt.stderr(), &Err(ImportFault::OutOfMemory));
@@ -52,7 +52,7 @@ fn no_stipulation(rt: &HostRuntime) -> u8 {
     2
 }
 
-/// Help, the version, or why the words are refused.
+/// Prints help, the version, or why the words are refused.
 fn answered(rt: &HostRuntime, error: &Error) -> u8 {
     if error.kind() == clap::error::ErrorKind::OutOfMemory {
         return ended(&mut rt.stderr(), &Err(ImportFault::OutOfMemory));
@@ -89,7 +89,7 @@ pub fn import_stream<A: Allocator, R: Read, W: Write, E: Write>(
         (E.contents errors.old) (E.contents errors.new) }
 {
     let mut answer = import_games(alloc, games, out, errors, options.choice, options.progress);
-    // What is left in a buffer of the writer are blocks too.
+    // Blocks may still be in the writer's buffer.
     if out.flush().is_err() {
         answer = Err(ImportFault::WriteDevice);
     }

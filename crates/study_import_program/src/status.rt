@@ -24,7 +24,7 @@ pub fn status_of(answer: &Result<Imported, ImportFault>) -> u8
     }
 }
 
-/// The exit status where the words of the command line give no options, by what clap says of them and whether that was printed.
+/// The exit status if the words of the command line give no options, by clap's message and whether that was printed.
 pub fn status_without_options(error: &Error, printed: bool) -> u8
     ensures { result ≡ status_unread (kind_of error.now) printed }
 {
@@ -35,7 +35,7 @@ pub fn status_without_options(error: &Error, printed: bool) -> u8
     }
 }
 
-/// Tells why a run stopped, in a line of its own: `studyimport: ReadDevice`.
+/// Reports why a run stopped, in a line of its own: `studyimport: ReadDevice`.
 pub fn put_stop<W: Write>(out: &mut W, fault: ImportFault) -> Result<(), DeviceFailed>
     ensures ok { OnOk result (Appends (W.contents out.old) (W.contents out.new) (stop_text fault)) }
     ensures err { OnErr result (TakesPrefix (W.contents out.old) (W.contents out.new) (stop_text fault)) }
@@ -47,7 +47,7 @@ pub fn put_stop<W: Write>(out: &mut W, fault: ImportFault) -> Result<(), DeviceF
     }
 }
 
-/// Tells how many games were read, in a line of its own: `300 games`.
+/// Reports how many games were read, in a line of its own: `300 games`.
 pub fn put_games<W: Write>(out: &mut W, count: u32) -> Result<(), DeviceFailed>
     ensures ok { OnOk result (Appends (W.contents out.old) (W.contents out.new) (decimal count ++ codes " games\n")) }
     ensures err { OnErr result (TakesPrefix (W.contents out.old) (W.contents out.new) (decimal count ++ codes " games\n")) }

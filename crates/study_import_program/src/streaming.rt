@@ -19,7 +19,7 @@ pub enum ImportFault {
     OutOfMemory,
 }
 
-/// Writes the script of the games of a reader. If `progress` is set, `errors` takes how far it came.
+/// Writes the script of the games of a reader. If `progress` is set, the progress goes to `errors`.
 pub fn import_games<A: Allocator, R: Read, W: Write, E: Write>(
     alloc: &A,
     games: &mut R,
@@ -56,7 +56,7 @@ fn tell_progress<E: Write>(errors: &mut E, before: u32, met: u32) {
     }
 }
 
-/// Takes a byte, and writes the block of a game that ends there.
+/// Takes a byte, and writes the block of a game that it ends.
 fn take<'a, A: Allocator, W: Write>(
     alloc: &'a A,
     importer: &mut Importer<'a, A>,
@@ -83,7 +83,7 @@ fn put_block<W: Write>(out: &mut W, text: &[u8]) -> Result<(), ImportFault>
     }
 }
 
-/// The reader ends: writes the last block, and how many games there are.
+/// The end of the reader: writes the last block, and how many games there are.
 fn finish<'a, A: Allocator, W: Write>(
     alloc: &'a A,
     mut importer: Importer<'a, A>,

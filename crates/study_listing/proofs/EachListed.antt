@@ -1,4 +1,4 @@
--- Each position that the filters let through is listed.
+-- Each position that passes the filters is listed.
 use Rattle.std.proofs.Common.{sym, ap, subst, ◌∙◌}
 use Rattle.std.proofs.lemmas.Bool.{false≢true}
 use Rattle.study_board.specs.Symmetry.{turned_side}

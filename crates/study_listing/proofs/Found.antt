@@ -1,18 +1,18 @@
--- The numbers that are found, and their texts, as they grow.
+-- The growing list of found numbers and their texts.
 use Rattle.std.proofs.Common.{ℕ, ◌+◌, ◌<◌, ◌≤◌, List, [], ◌∷◌, ◌++◌, ◌∙◌, ap, refl, sym, arith, append_assoc, inl, inr}
 use Rattle.std.proofs.lemmas.List.{append-nil}
 use Rattle.std.proofs.lemmas.Bool.{cases_lt}
 use Rattle.study_search.specs.Finding.{HoldsOfNone, AreFound}
 use Rattle.study_listing.specs.Lists.{AreTexts}
 
--- of none up to m, and of none from there on
+-- P holds of no number up to m, nor from there on
 pub none-joined : (P : ℕ → Type 0) (a m n : ℕ) → HoldsOfNone P a m → HoldsOfNone P m n → HoldsOfNone P a n
 none-joined P a m n h none k from below = elim (cases_lt k m) [
   | inl l ↦ h k from l
   | inr g ↦ (let on : m ≤ k = omega (arith, g) in none k on below)
 ]
 
--- no more up to n
+-- no more numbers up to n
 pub found-on : (P : ℕ → Type 0) (ns : List ℕ) (a m n : ℕ) → AreFound P a m ns → m ≤ n → HoldsOfNone P m n → AreFound P a n ns
 found-on P [] a m n h l none = none-joined P a m n h none
 found-on P (x ∷ xs) a m n h l none =
@@ -20,7 +20,7 @@ found-on P (x ∷ xs) a m n h l none =
     let less : x < n = omega (arith, below, l) in
     ((h.0.0, less, h.0.2, h.0.3), found-on P xs (x + 1) m n h.1 l none)
 
--- the next is n
+-- the next number is n
 pub found-more : (P : ℕ → Type 0) (ns : List ℕ) (a m n : ℕ) → AreFound P a m ns → a ≤ m → m ≤ n → HoldsOfNone P m n → P n
     → AreFound P a (n + 1) (ns ++ n ∷ [])
 found-more P [] a m n h from l none p =
@@ -33,7 +33,7 @@ found-more P (x ∷ xs) a m n h from l none p =
     let on : x + 1 ≤ m = omega (arith, below) in
     ((h.0.0, less, h.0.2, h.0.3), found-more P xs (x + 1) m n h.1 on l none p)
 
--- none is found below the first
+-- P holds of no number below the first
 pub found-none : (P : ℕ → Type 0) (ns : List ℕ) (a b : ℕ) → AreFound P a a ns → b ≤ a → AreFound P a b ns
 found-none P [] a b h l = λ k on below. absurd (omega (arith, on, below, l))
 found-none P (x ∷ xs) a b h l =

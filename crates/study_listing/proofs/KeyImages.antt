@@ -1,4 +1,4 @@
--- The key of a position is that of its images, and it captures and gives check there as here.
+-- The key of an image is the image of the key, and it captures or gives check if and only if the key does.
 use Rattle.std.proofs.Common.{◌≡◌, ℕ, true, refl, sym, ap, subst, ◌∙◌}
 use Rattle.std.specs.Prelude.{length, nat_lt, not, ◌&&◌}
 use Rattle.study_board.specs.declared.symmetry.Symmetry.{Symmetry}
@@ -77,7 +77,7 @@ module _ (s : Symmetry) (p : Position) (t : IsTurnable s p) (m : Move) (l : IsLe
   through-image : (f : Filters) → is_let_through f (image s p) (image_move s m) ≡ is_let_through f p m
   through-image f = rw (capture-image, check-image) refl
 
--- ---- a passed square on which no legal move captures makes no difference
+-- ---- a passed square is irrelevant if no legal move captures on it
 
 module _ (law : AllAgreeWithBare) (p : Position) (valid : IsValid p) where
   Has-bare : (o : Outcome) → Has o p → Has o (bare p)

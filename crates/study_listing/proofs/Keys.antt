@@ -1,4 +1,4 @@
--- Words that are refused, keys that are let through, and positions that are listed.
+-- Words that are refused, keys that pass the filters, and positions that are listed.
 use Rattle.std.proofs.Common.{◌≡◌, ◌↔◌, ◌||◌, ℕ, Bool, true, List, [], ◌∷◌, Option, Some, None, is_some, Result, Ok, Err, refl, sym, subst}
 use Rattle.std.specs.Prelude.{IfOk}
 use Rattle.std.proofs.lemmas.Bool.{false≢true}
@@ -25,7 +25,7 @@ has_key_let_through f p None one = ((λ e. absurd (false≢true e)), (λ h. absu
 has_key_let_through f p (Some m) one =
     ((λ e. (m, (one m).0 refl, e)), (λ h. subst (λ (k : Move). is_let_through f p k ≡ true) (sym (same-some m h.0 ((one h.0).1 h.1))) h.2))
 
--- if a filter speaks of the key it is the same
+-- the same if a filter concerns the key
 pub if-asked : {E : Type 0} (f : Filters) (p : Position) (r : Result Bool E) → f.no_capture || f.no_check ≡ true
     → IfOk r (λ b. (b ≡ true) ↔ HasKeyLetThrough f p) → IfOk r (λ b. (b ≡ true) ↔ HasWantedKey f p)
 if-asked f p (Ok b) asked h = ((λ e. λ x. h.0 e), (λ k. h.1 (k asked)))

@@ -1,4 +1,4 @@
--- One list alone is that of a range.
+-- A range has exactly one list.
 use Rattle.std.proofs.Common.{◌≡◌, ℕ, ◌+◌, ◌≤◌, Bool, true, false, List, [], ◌∷◌, ◌++◌, length, Option, Some, None, ◌∙◌, ap, refl, sym, subst, arith, inl, inr, Result, Ok, Err, IfOk}
 use Rattle.std.proofs.lemmas.Bool.{cases_lt}
 use Rattle.study_board.specs.Position.{Position}
@@ -33,11 +33,11 @@ found-unique P a b (n ∷ ns) (m ∷ ms) h k = elim (cases_lt n m) [
   ]
 ]
 
--- so the count is one
+-- so the counts are equal
 pub one-count : (s : Selection) (a b c : ℕ) (ns : List ℕ) → AreSoMany s a b c → AreFound (IsListedAt s) a b ns → length ns ≡ c
 one-count s a b c ns w h = ap (λ (xs : List ℕ). length xs) (found-unique (IsListedAt s) a b ns w.0 h w.1) ∙ w.2
 
--- and so few as were counted are written
+-- and as many are written as were counted
 pub few-written : {E : Type 0} (s : Selection) (form : Form) (a b c limit : ℕ) (old new : Option (List ℕ)) (r : Result ℕ E) → AreSoMany s a b c
     → c ≤ limit → IfOk r (HasWritten s form a b old new) → IfOk r (λ k. k ≤ limit)
 few-written s form a b c limit old new (Ok k) many few w =

@@ -1,4 +1,4 @@
--- The words of a piece, and what is written of it.
+-- The words of a piece, and its text.
 use Rattle.std.proofs.Common.{◌≡◌, ℕ, ◌+◌, ◌^◌, ◌≤◌, zero, suc, List, [], ◌∷◌, ◌++◌, map, take, drop, Option, refl, sym, ap, subst, ◌∙◌, arith, inl, inr, Result, Ok, Err}
 use Rattle.std.specs.Prelude.{OnOk}
 use Rattle.std.specs.Io.KnownBytes.{Appends}
@@ -12,7 +12,7 @@ use Rattle.study_listing.specs.Lists.{IsSelectionOf}
 use Rattle.study_listing.specs.Pieces.{end_of, how_far, AreLines, HasWrittenLines, HasWrittenPiece}
 use Rattle.study_listing.specs.Requests.{class_of_request}
 
--- ---- the words before the last two, and these
+-- ---- the last two words, and the words before them
 
 pub fronts : {A B : Type 0} (f : A → B) (n : ℕ) (xs : List A) → map f (take n xs) ≡ take n (map f xs)
 fronts f zero xs = refl
@@ -60,6 +60,6 @@ piece-written piece selection end all old mid new (Ok x) e a s (lines, listed, h
     )
 piece-written piece selection end all old mid new (Err x) e a s h k = tt
 
--- the lines of a result that is good
+-- the lines of a successful result
 pub written-of : {E : Type 0} (P : Type 0) (r : Result (Unit {0}) E) (x : Unit {0}) → OnOk r P → r ≡ Ok x → P
 written-of {E = E} P r x h e = subst (λ (s : Result (Unit {0}) E). OnOk s P) e h

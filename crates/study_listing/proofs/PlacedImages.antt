@@ -1,4 +1,4 @@
--- Where a position has men where the filters want them, so has an image of the position that its number reads as.
+-- If a position has men on the wanted squares, so has an image of the position that its number reads as.
 use Rattle.std.proofs.Common.{◌≡◌, Bool, true, false, List, Option, Some, refl, sym, ap, subst, ◌∙◌}
 use Rattle.std.specs.Prelude.{if◌then◌else◌}
 use Rattle.std.proofs.lemmas.Bool.{false≢true}
@@ -44,7 +44,7 @@ bare-men p = by_live (has_legal_en_passant p)
     by_live true = refl
     by_live false = refl
 
--- q is an image of the bare position, the colours kept
+-- q is an image of the bare position that keeps the colours
 pub record IsKept (p q : Position) : Type 0 where
   pub by : Symmetry
   pub colours : by.colours ≡ false

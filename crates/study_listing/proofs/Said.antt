@@ -1,4 +1,4 @@
--- What is said of a position, by the values.
+-- The facts printed for a position, by its values.
 use Rattle.std.proofs.Common.{◌≡◌, ℕ, Some, None}
 use Rattle.std.proofs.lemmas.Bool.{false≢true}
 use Rattle.study_board.specs.Position.{Position}
@@ -15,7 +15,7 @@ use Rattle.study_listing.specs.Facts.{IsOneKey}
 none-some : (m : Move) → None ≡ Some m → ⊥
 none-some m e = cc
 
--- who is mated has no key
+-- a side that is mated has no key
 pub no-key-of-loss : EachHasAtMostOneValue → (p : Position) (n : ℕ) → IsValueOf p (values.Loss n) → IsOneKey p None
 no-key-of-loss law p n h m = ((λ e. absurd (none-some m e)), (λ x. absurd (none x.0 x.1.0)))
   where

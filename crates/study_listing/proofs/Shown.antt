@@ -1,4 +1,4 @@
--- The image that is shown has men where the filters want them, and there is one where some image has.
+-- The listed image has men on the wanted squares, and there is one if some image has.
 use Rattle.std.proofs.Common.{◌≡◌, ◌⊎◌, Bool, true, false, List, [], ◌∷◌, Option, Some, None, is_some, inl, inr, refl, sym, ap, subst, ◌∙◌}
 use Rattle.std.specs.List.{list_any}
 use Rattle.std.specs.Prelude.{◌&&◌, ◌||◌, not, if◌then◌else◌}
@@ -14,7 +14,7 @@ use Rattle.study_listing.specs.Filters.{no_filters, are_placed, turned_by, turns
 use Rattle.study_listing.specs.Lists.{is_paired, second_placed, shown}
 use Rattle.study_listing.specs.Laws.{HasImageShown, IsShownRightly, ImagesAreShown}
 
--- ---- what is there
+-- ---- wanted men
 
 pub both : (x y : Bool) → (x && y) ≡ true → (x ≡ true) × (y ≡ true)
 both true y e = (refl, e)

@@ -1,4 +1,4 @@
--- What is written, as it grows.
+-- The growing list.
 use Rattle.std.proofs.Common.{◌≡◌, ℕ, ◌+◌, ◌≤◌, List, [], ◌∷◌, ◌++◌, Option, Some, None, ◌⊎◌, ◌∙◌, ap, refl, subst, arith, inl, inr}
 use Rattle.std.specs.Prelude.{IfSome, IfNone}
 use Rattle.std.proofs.lemmas.List.{length-append}
@@ -13,11 +13,11 @@ use Rattle.study_listing.specs.declared.text.Form.{Form}
 use Rattle.study_listing.specs.Lists.{IsListedAt, IsTextAt, AreSoMany, HasWritten, HasStopped}
 use Rattle.study_listing.proofs.Found.{found-on, found-more, found-none, texts-more}
 
--- what is not found is not listed
+-- a number that is not found is not listed
 pub not-listed : (s : Selection) (a b : ℕ) → HoldsOfNone (IsFound s.search) a b → HoldsOfNone (IsListedAt s) a b
 not-listed s a b none k from below x = none k from below (x.0, x.1, x.2.sought)
 
--- the first that is found is not listed
+-- no number before the first that is found is listed
 pub none-listed : (s : Selection) (a n : ℕ) → HoldsOfNone (IsFound s.search) a n → ¬ (IsListedAt s n) → HoldsOfNone (IsListedAt s) a (n + 1)
 none-listed s a n none not k from below x = elim (cases_lt k n) [
   | inl l ↦ none k from l (x.0, x.1, x.2.sought)
@@ -113,7 +113,7 @@ written-end s form a at b old new c w within past = elim within [
       }
 ]
 
--- ---- what the search gives
+-- ---- the result of the search
 
 pub next-none : (P : ℕ → Type 0) (a b : ℕ) (next : Option ℕ) → IsNext P a b next → next ≡ None → HoldsOfNone P a b
 next-none P a b next h e = subst (λ (x : Option ℕ). IsNext P a b x) e h

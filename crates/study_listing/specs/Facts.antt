@@ -1,4 +1,4 @@
--- What the text of a position says of it: the game's values, and the one move that holds.
+-- The facts in the text of a position: the game's values, and the only move that holds.
 use Rattle.std.specs.Prelude.{◌≡◌, ◌↔◌, ℕ, Bool, true, false, List, Option, Some, None, MatchOption}
 use Rattle.study_board.specs.Position.{Position, IsValid}
 use Rattle.study_moves.specs.declared.moves.Move.{Move}
@@ -14,15 +14,15 @@ use Rattle.study_listing.specs.declared.text.Form.{Form}
 use Rattle.study_listing.specs.declared.text.Form.TheVariants.{Lines, Script}
 use Rattle.study_listing.specs.Lines.{line_of, study_of}
 
--- the value of the same men with the other side to move, if they are a position then
+-- the value with the other side to move, if that position is valid
 abbrev pub IsOtherValue : Position → Option Value → Type 0
 IsOtherValue p other = MatchOption other (¬ (IsValid (handed_on p))) (λ v. IsValid (handed_on p) × IsValueOf (handed_on p) v)
 
--- the one move that keeps what the side to move has, a win or a draw, if there is one
+-- the only move that keeps a win or a draw for the side to move, if there is one
 abbrev pub IsOneKey : Position → Option Move → Type 0
 IsOneKey p key = (m : Move) → (key ≡ Some m) ↔ ((o : Outcome) × IsKey o p m)
 
--- it is said if it is wanted
+-- the fact is printed if it is wanted
 abbrev pub SaidIf : {A : Type 0} → Bool → (Option A → Type 0) → Option A → Type 0
 SaidIf true P x = P x
 SaidIf false P x = x ≡ None
@@ -32,7 +32,7 @@ pub record AreFacts (wants_other wants_key : Bool) (p : Position) (f : Facts) : 
   pub other : SaidIf wants_other (IsOtherValue p) f.other
   pub key : SaidIf wants_key (IsOneKey p) f.key
 
--- of a mutual zugzwang a line has both values
+-- the line of a mutual zugzwang has both values
 abbrev pub has_other : Theme → Bool
 has_other theme.Zugzwang = true
 has_other (theme.OnlyMoves o n) = false
@@ -41,7 +41,7 @@ has_other (theme.IntoZugzwang o) = false
 has_other (theme.ZugzwangTry o) = false
 has_other (theme.MateIn n) = false
 
--- the key; of a mutual zugzwang and of a long mate a line has none
+-- a line has the key, except for a mutual zugzwang and a mate in n
 abbrev pub has_key : Theme → Bool
 has_key theme.Zugzwang = false
 has_key (theme.OnlyMoves o n) = true

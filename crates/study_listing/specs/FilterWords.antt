@@ -1,4 +1,4 @@
--- The words that stand behind a theme.
+-- The words after a theme.
 use Rattle.std.specs.Prelude.{ℕ, ◌+◌, ◌*◌, ◌-◌, ◌==◌, ◌&&◌, nat_le, Bool, true, List, [], ◌∷◌, Option, Some, None, is_some, Result, Ok, Err, codes, if◌then◌else◌}
 use Rattle.std.specs.Option.{option_map}
 use Rattle.std.specs.Str.{bytes_eq}
@@ -63,12 +63,12 @@ placed_told (letter ∷ file ∷ rank ∷ hyphen ∷ last_file ∷ last_rank ∷
     if hyphen == 45 then placed_by letter (square_spelled file rank) (square_spelled last_file last_rank) else None
 placed_told _ = None
 
--- ---- what stands behind a theme
+-- ---- the words after a theme
 
 abbrev pub nothing_behind : Behind
 nothing_behind = record { side = None; filters = no_filters }
 
--- one more man, if there is room for him
+-- one more man, if there is room for it
 abbrev pub put_placed : Placed → List (Option Placed) → Option (List (Option Placed))
 put_placed w [] = None
 put_placed w (None ∷ ws) = Some (Some w ∷ ws)
@@ -90,11 +90,11 @@ abbrev pub with_side_or_man : Behind → List ℕ → Option Side → Result Beh
 with_side_or_man b word (Some side) = with_side b side
 with_side_or_man b word None = with_placed b (placed_told word)
 
--- a filter of the key needs a theme that has one
+-- a filter on the key needs a theme that has one
 abbrev pub if_key : Theme → Behind → Result Behind Unread
 if_key t b = if has_key t then Ok b else Err NoKeyMove
 
--- `white`, `black`, `no-capture`, `no-check`, or where a man stands
+-- `white`, `black`, `no-capture`, `no-check`, or the square of a man
 abbrev pub with_word : Theme → Behind → List ℕ → Result Behind Unread
 with_word t b word =
     if bytes_eq word (codes "no-capture") then if_key t (record b { filters = record b.filters { no_capture = true } })

@@ -1,4 +1,4 @@
--- Filters: where men stand, and how the key goes.
+-- Filters: the squares of men, and the kind of key.
 use Rattle.std.specs.Prelude.{◌≡◌, ◌&&◌, ◌||◌, not, ℕ, nat_le, nat_lt, Bool, true, false, length, replicate, List, [], ◌∷◌, Option, Some, None, if◌then◌else◌}
 use Rattle.std.specs.List.{list_all, list_any}
 use Rattle.study_board.specs.declared.men.Man.{Man}
@@ -14,7 +14,7 @@ use Rattle.study_search.specs.OnlyMoves.{IsKey}
 use Rattle.study_listing.specs.declared.filters.Placed.{Placed}
 use Rattle.study_listing.specs.declared.filters.Filters.{Filters}
 
--- nothing is left out
+-- every position passes
 abbrev pub no_filters : Filters
 no_filters = record { men = replicate 4 None; no_capture = false; no_check = false }
 
@@ -29,12 +29,12 @@ is_within w x = is_from_to (file_of w.from) (file_of w.to) (file_of x) && is_fro
 abbrev pub is_placed : Placed → Man → Bool
 is_placed w m = same_side m.side w.side && (same_kind m.kind w.kind && is_within w m.at)
 
--- there is such a man, if the filters name one
+-- there is such a man, or no filter
 abbrev pub has_placed : List Man → Option Placed → Bool
 has_placed men None = true
 has_placed men (Some w) = list_any (is_placed w) men
 
--- all that the filters name are there
+-- all men that the filters name are there
 abbrev pub are_placed : List (Option Placed) → Position → Bool
 are_placed ws p = list_all (has_placed p.men) ws
 
@@ -43,7 +43,7 @@ are_placed ws p = list_all (has_placed p.men) ws
 abbrev pub turned_by : Bool → Bool → Bool → Symmetry
 turned_by files ranks diagonal = record { files = files; ranks = ranks; diagonal = diagonal; colours = false }
 
--- the board mirrored and turned in each way, and the colours kept; as it is first
+-- the board mirrored and turned in each way, colours kept; the identity first
 unfoldable pub turns : List Symmetry
 turns =
     turned_by false false false ∷ turned_by true false false ∷ turned_by false true false ∷ turned_by true true false
@@ -53,7 +53,7 @@ abbrev pub or_else : {A : Type 0} → Option A → Option A → Option A
 or_else None b = b
 or_else (Some x) b = Some x
 
--- the image, if the men admit it (pawns go along files) and the men that the filters name are there
+-- the image, if the men admit it (pawns move along files) and it has the men that the filters name
 abbrev pub image_placed : List (Option Placed) → Position → Symmetry → Option Position
 image_placed ws p g = if admits p g && are_placed ws (image g p) then Some (image g p) else None
 
@@ -78,15 +78,15 @@ is_capture p m = nat_lt (length (after p m).men) (length p.men)
 abbrev pub gives_check : Position → Move → Bool
 gives_check p m = in_check (after p m).men (after p m).to_move
 
--- neither a capture nor a check, if the filters say so
+-- neither a capture nor a check, if the filters require that
 abbrev pub is_let_through : Filters → Position → Move → Bool
 is_let_through f p m = not (f.no_capture && is_capture p m) && not (f.no_check && gives_check p m)
 
--- just one move holds, and it is let through
+-- exactly one move holds, and it passes the filters
 abbrev pub HasKeyLetThrough : Filters → Position → Type 0
 HasKeyLetThrough f p = (m : Move) × ((o : Outcome) × IsKey o p m) × (is_let_through f p m ≡ true)
 
--- if a filter speaks of the key
+-- the same, if a filter concerns the key
 abbrev pub HasWantedKey : Filters → Position → Type 0
 HasWantedKey f p = f.no_capture || f.no_check ≡ true → HasKeyLetThrough f p
 

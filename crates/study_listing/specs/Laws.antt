@@ -1,4 +1,4 @@
--- What a list is worth.
+-- Laws of lists.
 use Rattle.std.specs.Prelude.{◌≡◌, ◌↔◌, ◌⊎◌, ℕ, ◌<◌, ◌≤◌, true, false, List, Some, is_some}
 use Rattle.std.specs.List.{Contains, AllPairs}
 use Rattle.study_board.specs.Position.{Position, IsValid}
@@ -14,21 +14,21 @@ use Rattle.study_listing.specs.declared.text.Form.{Form}
 use Rattle.study_listing.specs.Filters.{no_filters, are_placed, HasImagePlaced, HasWantedKey}
 use Rattle.study_listing.specs.Lists.{is_paired, shown, IsListedAt, IsList}
 
--- One list alone is that of a range of numbers.
+-- A range of numbers has exactly one list.
 abbrev pub ListsAreUnique : Type 0
 ListsAreUnique = (s : Selection) (form : Form) (a b : ℕ) (ns ms text other : List ℕ)
     → IsList s form a b ns text → IsList s form a b ms other → (ns ≡ ms) × (text ≡ other)
 
--- Of the range it has each number that is listed, once and ascending, and no other.
+-- The list has each number of the range that is listed, once and ascending, and no others.
 abbrev pub ListsHaveAll : Type 0
 ListsHaveAll = (s : Selection) (form : Form) (a b : ℕ) (ns text : List ℕ) → IsList s form a b ns text
     → ((k : ℕ) → Contains ns k ↔ ((a ≤ k) × (k < b) × IsListedAt s k)) × AllPairs (λ x y. x < y) ns
 
--- some image of the position has men where the filters want them; or some image of its counterpart, where it has one in the list
+-- some image of the position has men on the wanted squares; or some image of its counterpart has, if the counterpart has a place in the list
 abbrev pub HasImageShown : Selection → Position → Type 0
 HasImageShown s p = HasImagePlaced s.filters.men p ⊎ ((is_paired s.search ≡ true) × HasImagePlaced s.filters.men (counterpart p))
 
--- An image is shown just where there is such an image, and it has men where the filters want them; where none are, it is the position itself.
+-- An image is shown exactly if there is such an image, and it has men on the wanted squares; without such filters it is the position itself.
 pub record IsShownRightly (s : Selection) (p : Position) : Type 0 where
   pub some : (is_some (shown s p) ≡ true) ↔ HasImageShown s p
   pub placed : (q : Position) → shown s p ≡ Some q → are_placed s.filters.men q ≡ true
@@ -37,14 +37,14 @@ pub record IsShownRightly (s : Selection) (p : Position) : Type 0 where
 abbrev pub ImagesAreShown : Type 0
 ImagesAreShown = (s : Selection) (p : Position) → IsShownRightly s p
 
--- Where a position of the class has men where the filters want them, an image of the position that its number reads as is shown: so a filter loses
--- no position. White has the class's first list.
+-- If a position of the class has men on the wanted squares, an image of the position that its number reads as is shown: so a filter loses no position.
+-- White has the class's first list of men.
 abbrev pub PlacedAreShown : Type 0
 PlacedAreShown = (s : Selection) (p q : Position) → IsValid p → IsOf s.search.class p → is_swapped p.men ≡ false
     → are_placed s.filters.men p ≡ true → position_numbered s.search.class (index_of p) ≡ Some q → is_some (shown s q) ≡ true
 
--- Each position of the class that has the theme, White having the class's first list, with the side to move that is looked for, men where they are
--- asked for and a key that is let through, is listed by its index. (Of a mutual zugzwang in two placements one is.)
+-- Each position of the class with the theme, White having the class's first list, with the wanted side to move, men on the wanted squares and a key that
+-- passes the filters, is listed by its index. (Of a mutual zugzwang in two placements one is.)
 abbrev pub EachIsListed : Type 0
 EachIsListed = (s : Selection) (p : Position) → IsValid p → IsOf s.search.class p → is_swapped p.men ≡ false → is_for s.search.side p.to_move ≡ true
     → HasTheme s.search.theme p → are_placed s.filters.men p ≡ true → HasWantedKey s.filters p → is_paired s.search ≡ false

@@ -12,7 +12,7 @@ use Rattle.study_notation.specs.Written.{move_text}
 use Rattle.study_reply.specs.Words.{value_words}
 use Rattle.study_listing.specs.declared.facts.Facts.{Facts}
 
--- the position alone: no moves are counted
+-- the position alone, without move counters
 abbrev pub fen_of : Position → List ℕ
 fen_of p = fen_text (record { position = p; clock = 0; number = 1 })
 
@@ -26,11 +26,11 @@ abbrev pub move_after : Position → Option Move → List ℕ
 move_after p None = []
 move_after p (Some m) = 32 ∷ move_text p m
 
--- `FEN VALUE`, then the value with the other side to move, or the one move that holds
+-- `FEN VALUE`, then the value with the other side to move, or the only move that holds
 unfoldable pub line_of : Position → Facts → List ℕ
 line_of p f = fen_of p ++ (value_after (Some f.value) ++ (value_after f.other ++ (move_after p f.key ++ 10 ∷ [])))
 
--- who wins; or who draws, being on the move
+-- the side that wins; in a draw the side to move
 abbrev pub hero_of : Side → Value → Side
 hero_of side (value.Win n) = side
 hero_of side (value.Loss n) = other_side side
@@ -53,7 +53,7 @@ abbrev pub insert_line : Position → Option Move → List ℕ
 insert_line p None = []
 insert_line p (Some m) = codes "insert root " ++ (move_text p m ++ 10 ∷ [])
 
--- `position FEN`, `stipulate SIDE win` or `draw`, `insert root SAN` where one move alone holds, and `pgn`
+-- `position FEN`, `stipulate SIDE win` or `draw`, `insert root SAN` if exactly one move holds, and `pgn`
 unfoldable pub study_of : Position → Facts → List ℕ
 study_of p f =
     codes "position " ++ (fen_of p ++ (10 ∷ (stipulation_line p.to_move f.value ++ (insert_line p f.key ++ codes "pgn\n"))))

@@ -1,4 +1,4 @@
--- The whole list: the texts of all numbers that are found, one after the other.
+-- The whole list: the texts of all found numbers, one after the other.
 use Rattle.std.specs.Prelude.{◌≡◌, ℕ, ◌≤◌, Bool, true, false, ◌&&◌, List, [], ◌∷◌, ◌++◌, length, Option, Some, None, MatchOption, is_some, if◌then◌else◌}
 use Rattle.std.specs.Io.KnownBytes.{Appends}
 use Rattle.study_text.specs.Taken.{TakesPrefix}
@@ -42,21 +42,21 @@ is_for_white (Some Black) = false
 abbrev pub is_paired : Search → Bool
 is_paired s = is_of_zugzwangs s.theme && (is_for_white s.side && has_like_sides s.class)
 
--- of two placements of a mutual zugzwang one is listed
+-- one of two placements of a mutual zugzwang is listed
 abbrev pub IsOneOfPair : Search → Position → Type 0
 IsOneOfPair s p = is_paired s ≡ true → IsListedOfTwo p
 
--- the counterpart of a mutual zugzwang that is there in two placements
+-- the counterpart of a mutual zugzwang that has two placements
 abbrev pub second_placed : Selection → Position → Option Position
 second_placed s p = if is_paired s.search then first_placed s.filters.men (counterpart p) turns else None
 
--- The image of the position that is listed: the first, as it is first of all, that has men where the filters want them; and where none
--- of the one placement of a mutual zugzwang has, that of the other.
+-- The image of the position that is listed: the first, starting with the identity, that has men on the wanted squares; if there is none, and the position
+-- is one placement of a mutual zugzwang, that of the other placement.
 abbrev pub shown : Selection → Position → Option Position
 shown s p = or_else (first_placed s.filters.men p turns) (second_placed s p)
 
--- The position is looked for, and is not the second placement of a mutual zugzwang; some image of it has men where they are wanted
--- for; and its key is let through.
+-- The position matches the search, and is not the second placement of a mutual zugzwang; some image of it has men on the wanted squares; and its key passes
+-- the filters.
 pub record IsListed (s : Selection) (p : Position) : Type 0 where
   pub sought : IsLookedFor s.search p
   pub first : IsOneOfPair s.search p
@@ -77,7 +77,7 @@ abbrev pub AreTexts : (ℕ → List ℕ → Type 0) → List ℕ → List ℕ �
 AreTexts T [] text = text ≡ []
 AreTexts T (n ∷ ns) text = (first : List ℕ) × (rest : List ℕ) × T n first × AreTexts T ns rest × (text ≡ first ++ rest)
 
--- Of the numbers from a on and below b, these are listed, each once and ascending, and this is their list.
+-- Of the numbers from a on and below b, exactly these are listed, ascending, and this is their list.
 pub record IsList (s : Selection) (form : Form) (a b : ℕ) (ns text : List ℕ) : Type 0 where
   pub found : AreFound (IsListedAt s) a b ns
   pub texts : AreTexts (IsTextAt s form) ns text
@@ -107,7 +107,7 @@ pub record HasStopped (s : Selection) (form : Form) (a b : ℕ) (old new : Optio
   pub list : IsList s form a end numbers text
   pub taken : TakesPrefix old new text
 
--- what is listed: of a longest mate, the mates of this length, if the side mates at all
+-- the selection: for the longest mate, the mates of this length, if the side mates at all
 abbrev pub IsSelectionOf : Request → Option Selection → Type 0
 IsSelectionOf (Positions s) selection = selection ≡ Some s
 IsSelectionOf (Longest c side) selection = MatchOption selection

@@ -1,4 +1,4 @@
--- A list piece by piece: the lines of a range of numbers, and how far the list has come.
+-- A list piece by piece: the lines of a range of numbers, and the progress of the list.
 use Rattle.std.specs.Prelude.{◌≡◌, ℕ, ◌-◌, nat_le, min, Bool, true, false, List, [], ◌∷◌, ◌++◌, length, take, drop, Option, Some, None, Result, Ok, Err, codes, decimal, if◌then◌else◌}
 use Rattle.std.specs.Io.KnownBytes.{Appends}
 use Rattle.study_material.specs.declared.class.Class.{Class}
@@ -50,17 +50,17 @@ abbrev pub AreThese : Bool → Class → List Class → Type 0
 AreThese true c classes = classes ≡ c ∷ []
 AreThese false c classes = IsOrder c classes
 
--- the classes whose tables are looked at: for a mutual zugzwang and the longest mate the class alone is enough
+-- the classes whose tables are used: for a mutual zugzwang and the longest mate the class alone is enough
 abbrev pub AreLookedAt : Request → List Class → Type 0
 AreLookedAt r classes = AreThese (needs_one_table r) (class_of_request r) classes
 
 -- ---- the text
 
--- where the range ends: at its last number, or with the class
+-- the end of the range: its last number, or the end of the class
 abbrev pub end_of : Piece → ℕ
 end_of piece = min piece.numbers.to (cells_of (class_of_request piece.request))
 
--- the lines of what is listed between two numbers
+-- the lines of the listed positions between two numbers
 abbrev pub AreLines : Option Selection → ℕ → ℕ → List ℕ → Type 0
 AreLines None from to lines = lines ≡ []
 AreLines (Some s) from to lines = (ns : List ℕ) × IsList s Lines from to ns lines
@@ -69,7 +69,7 @@ AreLines (Some s) from to lines = (ns : List ℕ) × IsList s Lines from to ns l
 unfoldable pub how_far : ℕ → ℕ → List ℕ
 how_far end all = codes "to " ++ (decimal end ++ (codes " of " ++ (decimal all ++ codes "\n")))
 
--- The lines of the positions that are listed between the numbers, and then how far the list has come, of all numbers of the class.
+-- The lines of the listed positions between the numbers, then the progress of the list among all numbers of the class.
 pub record IsPiece (piece : Piece) (text : List ℕ) : Type 0 where
   pub selection : Option Selection
   pub selected : IsSelectionOf piece.request selection

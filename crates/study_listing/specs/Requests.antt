@@ -51,11 +51,11 @@ theme_of_two first second =
     else (if bytes_eq first (codes "try") then by_try (outcome_named second)
     else only_moves_named (outcome_named first) second)
 
--- the side to move where none is named: of the two of a zugzwang, and of two colour images, one is enough
+-- the side to move if none is named: of the two positions of a zugzwang, and of two colour images, one is enough
 abbrev pub usual_side : Class → Theme → Option Side
 usual_side c t = if is_of_zugzwangs t || has_like_sides c then Some White else None
 
--- with what stands behind the theme
+-- with the words after the theme
 abbrev pub selected : Class → Theme → Result Behind Unread → Result Request Unread
 selected c t (Err fault) = Err fault
 selected c t (Ok b) = Ok (Positions (record {
@@ -85,17 +85,17 @@ abbrev pub by_one : Class → Option Theme → List ℕ → List (List ℕ) → 
 by_one c None first rest = by_two c first rest
 by_one c (Some t) first rest = positions_of c t rest
 
--- The theme is read before what stands behind it, and the first of both that is not known is the refusal.
+-- The theme is read before the words after it; the refusal is for the first unknown word.
 abbrev pub request_of : Class → List (List ℕ) → Result Request Unread
 request_of c [] = Err NoSuchTheme
 request_of c (first ∷ rest) = by_one c (theme_of_one first) first rest
 
--- the class whose positions are looked at
+-- the class whose positions are searched
 abbrev pub class_of_request : Request → Class
 class_of_request (Positions s) = s.search.class
 class_of_request (Longest c side) = c
 
--- values of the class alone are looked at
+-- the table of the class alone is enough
 abbrev pub needs_one_table : Request → Bool
 needs_one_table (Positions s) = is_of_zugzwangs s.search.theme
 needs_one_table (Longest c side) = true

@@ -1,4 +1,4 @@
-//! What the text of a position says of it.
+//! The facts in the text of a position.
 ghost use Rattle.std.specs.Prelude.{◌≡◌, ◌↔◌, true, false, IfOk, IfErr, IfSome, IsErrOf};
 ghost use Rattle.study_material.specs.declared.class.Class.{Class as AClass};
 ghost use Rattle.study_moves.specs.Rules.{is_legal};
@@ -12,25 +12,25 @@ use study_search::{Outcome, Theme, key_move};
 use study_values::{ProbeFault, Value, Values};
 use study_zugzwang::handed_on;
 
-/// What the text of a position says of it.
+/// The facts in the text of a position.
 #[derive(Clone, Copy, Debug, PartialEq, Eq)]
 pub struct Facts {
     /// The value of the position.
     pub value: Value,
     /// The value of the same men with the other side to move.
     pub other: Option<Value>,
-    /// The one move that keeps what the side to move has.
+    /// The only move that keeps the result of the side to move.
     pub key: Option<Move>,
 }
 
-/// Which facts are wanted beside the value.
+/// The facts wanted beside the value.
 #[derive(Clone, Copy, Debug, PartialEq, Eq)]
 pub struct Wanted {
     pub other: bool,
     pub key: bool,
 }
 
-/// What a line says of a position with this theme.
+/// The facts in a line for a position with this theme.
 pub fn wanted_for(theme: Theme) -> Wanted
     ensures other { result.other ≡ has_other theme }
     ensures key { result.key ≡ has_key theme }
@@ -51,7 +51,7 @@ pub fn wanted_for(theme: Theme) -> Wanted
     }
 }
 
-/// The move that alone keeps what the side to move has, by its value.
+/// The only move that keeps the result of the side to move, by its value.
 fn find_key<V: Values>(
     p: &Position,
     value: Value,
@@ -92,7 +92,7 @@ fn key_if<V: Values>(
     Ok(None)
 }
 
-/// The value of the same men with the other side to move, if they are a position then.
+/// The value with the other side to move, if that position is valid.
 fn other_value<V: Values>(p: &Position, values: &mut V) -> Result<Option<Value>, ProbeFault>
     ensures game { V.is_honest values.old → IfOk result (IsOtherValue p.now) }
     ensures no_table { (c : AClass) → IsErrOf result (ProbeFault.NoTable c) → V.held values.old c ≡ false }
@@ -127,7 +127,7 @@ fn other_if<V: Values>(
     Ok(None)
 }
 
-/// The facts of a position that are wanted.
+/// The wanted facts of a position.
 pub fn facts_of<V: Values>(
     p: &Position,
     wanted: Wanted,

@@ -7,10 +7,10 @@ use thiserror::Error;
 /// Why a list ends before its last position.
 #[derive(Clone, Copy, Debug, PartialEq, Eq, Error)]
 pub enum Stop {
-    /// A value is not known: no table, or one that is not read.
+    /// A value cannot be read: there is no table, or reading it failed.
     #[error("{0}")]
     Values(ProbeFault),
-    /// A script would have more studies than one can hold.
+    /// A script would have more studies than it may have.
     #[error("there are too many studies for a script")]
     TooManyStudies,
     #[error("the device of the list failed")]

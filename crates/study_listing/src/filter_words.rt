@@ -1,4 +1,4 @@
-//! The words that stand behind a theme.
+//! The words after a theme.
 ghost use Rattle.std.specs.Prelude.{◌≡◌, map, true, Ok};
 ghost use Rattle.study_command.specs.Parser.{side_told};
 ghost use Rattle.study_listing.specs.FilterWords.{side_lettered, capital, kind_lettered, square_spelled, are_corners, placed_by, placed_on};
@@ -15,13 +15,13 @@ use study_search::Theme;
 #[derive(Clone, Copy, Debug, PartialEq, Eq)]
 pub enum Unread {
     NoSuchTheme,
-    /// Behind the theme stands a word that is no filter, a second side to move, or a fifth man.
+    /// A word after the theme is not a filter, or names a second side to move or a fifth man.
     NoSuchFilter,
-    /// A filter speaks of the key move, and the theme has none.
+    /// A filter concerns the key move, and the theme has none.
     NoKeyMove,
 }
 
-/// What stands behind a theme: the side to move, and filters.
+/// The words after the theme: the side to move, and filters.
 #[derive(Clone, Copy, Debug, PartialEq, Eq)]
 pub struct Behind {
     pub side: Option<Side>,
@@ -147,7 +147,7 @@ fn read_placed(word: &[u8]) -> Option<Placed>
     }
 }
 
-/// One more man, if there is room for him.
+/// One more man, if there is room for it.
 fn put_placed(w: Placed, men: [Option<Placed>; 4]) -> Option<[Option<Placed>; 4]>
     ensures { result ≡ put_placed w men }
 {
@@ -171,7 +171,7 @@ fn with_men(behind: Behind, men: [Option<Placed>; 4]) -> Behind
     }
 }
 
-/// One more man of these filters.
+/// One more man for these filters.
 fn put_man(w: Placed, filters: Filters) -> Option<[Option<Placed>; 4]>
     ensures { result ≡ put_placed w filters.men }
 {
@@ -212,7 +212,7 @@ fn with_side_or_man(behind: Behind, word: &[u8]) -> Result<Behind, Unread>
     }
 }
 
-/// A filter of the key move needs a theme that has one.
+/// A filter on the key move needs a theme that has one.
 fn if_key(theme: Theme, behind: Behind) -> Result<Behind, Unread>
     ensures { result ≡ if_key theme behind }
 {

@@ -1,4 +1,4 @@
-//! Filters: where men stand, and how the key goes.
+//! Filters: the squares of men, and the kind of key.
 ghost use Rattle.std.specs.Prelude.{◌≡◌, ◌↔◌, true, false, IfOk, IfErr, IfSome, IsErrOf};
 ghost use Rattle.std.specs.List.{list_any};
 ghost use Rattle.study_material.specs.declared.class.Class.{Class as AClass};
@@ -13,7 +13,7 @@ use study_moves::{Move, in_check, played};
 use study_search::Search;
 use study_values::{ProbeFault, Values};
 
-/// A man that is to stand on one of the squares of a rectangle.
+/// A man wanted on one of the squares of a rectangle.
 #[derive(Clone, Copy, Debug, PartialEq, Eq)]
 pub struct Placed {
     pub side: Side,
@@ -24,18 +24,18 @@ pub struct Placed {
     pub to: Square,
 }
 
-/// What positions are left out of a list: those that no image puts on such squares, and those with another key.
+/// The filters of a list: it keeps the positions that have an image with these men on their squares, and such a key.
 #[derive(Clone, Copy, Debug, PartialEq, Eq)]
 pub struct Filters {
-    /// Men that are to be there, each by itself.
+    /// The wanted men, each by itself.
     pub men: [Option<Placed>; 4],
-    /// The key, the one move that holds, is to capture nothing.
+    /// The key, the only move that holds, must not capture.
     pub no_capture: bool,
-    /// The key is to give no check.
+    /// The key must not give check.
     pub no_check: bool,
 }
 
-/// What is listed: the positions that are looked for and that the filters let through.
+/// A search and its filters.
 #[derive(Clone, Copy, Debug, PartialEq, Eq)]
 pub struct Selection {
     pub search: Search,
@@ -43,7 +43,7 @@ pub struct Selection {
 }
 
 impl Filters {
-    /// Nothing is left out.
+    /// Every position passes.
     pub fn none() -> Filters
         ensures { result ≡ no_filters }
     {
@@ -69,7 +69,7 @@ fn is_within(w: &Placed, x: Square) -> bool
         && is_from_to(w.from.rank(), w.to.rank(), x.rank())
 }
 
-/// Whether it is such a man on such a square.
+/// Whether the man is of the wanted kind on a wanted square.
 fn is_placed(w: &Placed, man: &Man) -> bool
     ensures { result ≡ is_placed w.now man.now }
 {
@@ -111,7 +111,7 @@ fn turned_by(files: bool, ranks: bool, diagonal: bool) -> Symmetry
     }
 }
 
-/// The board mirrored and turned in each way, as it is first.
+/// The board mirrored and turned in each way, the identity first.
 #[tactic(auto, unfolding(crate::specs::Filters::turns))]
 fn turns() -> [Symmetry; 8]
     ensures { result ≡ turns }
@@ -128,7 +128,7 @@ fn turns() -> [Symmetry; 8]
     ]
 }
 
-/// The image, if the men admit it and the men that the filters name are there.
+/// The image, if the men admit it and it has the men that the filters name.
 fn image_placed(wanted: &[Option<Placed>], p: &Position, by: &Symmetry) -> Option<Position>
     ensures { result ≡ image_placed wanted.now p.now by.now }
 {
@@ -155,14 +155,14 @@ fn first_of(wanted: &[Option<Placed>], p: &Position, by: &[Symmetry]) -> Option<
     }
 }
 
-/// The first image of a position, as it is first, in which the men that the filters name are there.
+/// The first image of a position, starting with the identity, that has the men that the filters name.
 pub(crate) fn first_placed(wanted: &[Option<Placed>], p: &Position) -> Option<Position>
     ensures { result ≡ first_placed wanted.now p.now turns }
 {
     first_of(wanted, p, turns().as_slice())
 }
 
-/// Whether a legal move is let through: neither a capture nor a check, if the filters say so.
+/// Whether a legal move passes: neither a capture nor a check, if the filters require that.
 fn is_let_through(filters: &Filters, p: &Position, m: Move) -> bool
     requires { is_legal p.now m ≡ true }
     ensures { result ≡ is_let_through filters.now p.now m }
@@ -172,7 +172,7 @@ fn is_let_through(filters: &Filters, p: &Position, m: Move) -> bool
     !(filters.no_capture && captures) && !(filters.no_check && in_check(&next))
 }
 
-/// Whether the position has one key, and it is let through.
+/// Whether the position has exactly one key, and the key passes.
 #[tactic(auto, using(crate::proofs::Keys::has_key_let_through))]
 fn has_key_let_through<V: Values>(
     filters: &Filters,
@@ -195,7 +195,7 @@ fn has_key_let_through<V: Values>(
     }
 }
 
-/// The same, if a filter speaks of the key move.
+/// The same, if a filter concerns the key move.
 pub(crate) fn has_wanted_key<V: Values>(
     filters: &Filters,
     p: &Position,
@@ -214,7 +214,7 @@ pub(crate) fn has_wanted_key<V: Values>(
     Ok(true)
 }
 
-/// Whether there is a key, and it is let through.
+/// Whether there is a key, and it passes.
 fn is_key_let_through(filters: &Filters, p: &Position, key: Option<Move>) -> bool
     requires { IfSome key (λ m. is_legal p.now m ≡ true) }
     ensures { result ≡ is_key_let_through filters.now p.now key }

@@ -1,8 +1,8 @@
-//! Lists of the positions that are found: the request of words, the line of a position or its study, and the list as it is found.
+//! Lists of found positions: the request of words, the line of a position or its study, and the list as it is found.
 //!
-//! Which positions are listed, and that none is missing, is said and proved in `study_search`; the texts of FENs and moves are those of
-//! `study_notation`. `list_found` writes the whole list, `list_numbers` that of a range of numbers, and `count_found` and
-//! `count_numbers` count; the public functions of `laws` prove that there is one such list, and that it has each position.
+//! `study_search` states and proves which positions are listed, and that none is missing; the texts of FENs and moves are those of `study_notation`.
+//! `list_found` writes the whole list, `list_numbers` that of a range of numbers, and `count_found` and `count_numbers` count; the public functions
+//! of `laws` prove that there is exactly one such list, and that it has each position.
 #![tactic(auto)]
 
 mod facts;

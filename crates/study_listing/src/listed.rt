@@ -1,4 +1,4 @@
-//! Which positions of those that are found are listed, and which image of each.
+//! Which of the found positions are listed, and which image of each.
 ghost use Rattle.std.specs.Prelude.{◌≡◌, ◌↔◌, ◌⊎◌, true, false, Some, is_some, IfOk, IfErr, IfSome, IfNone, IsErrOf};
 ghost use Rattle.study_board.specs.Position.{IsValid, Position as APosition};
 ghost use Rattle.study_index.specs.Computed.{position_numbered};
@@ -55,7 +55,7 @@ fn is_paired(search: &Search) -> bool
     is_of_zugzwangs(search.theme) && is_for_white(search.side) && has_like_sides(search.class)
 }
 
-/// Whether a position that is looked for is listed as the first of two placements, where it has two.
+/// Whether a position that matches the search is listed as the first of two placements, if it has two.
 fn is_one_of_pair<V: Values>(
     search: &Search,
     p: &Position,
@@ -75,7 +75,7 @@ fn is_one_of_pair<V: Values>(
     Ok(true)
 }
 
-/// The colour image of a position with the other side to move, in which men stand where the filters want them.
+/// The colour image of a position with the other side to move, if it has men on the wanted squares.
 fn counterpart_placed(selection: &Selection, p: &Position) -> Option<Position>
     ensures { IsValid (handed_on p.now) → result ≡ first_placed selection.now.filters.men (counterpart p.now) turns }
 {
@@ -89,7 +89,7 @@ fn counterpart_placed(selection: &Selection, p: &Position) -> Option<Position>
     first_placed(selection.filters.men.as_slice(), &other.turned(&swapped))
 }
 
-/// The same, of a mutual zugzwang that is there in two placements.
+/// The same for a mutual zugzwang that has two placements.
 fn second_placed(selection: &Selection, p: &Position) -> Option<Position>
     ensures { (is_paired selection.now.search ≡ true → IsValid (handed_on p.now)) → result ≡ second_placed selection.now p.now }
 {
@@ -100,7 +100,7 @@ fn second_placed(selection: &Selection, p: &Position) -> Option<Position>
     None
 }
 
-/// The image of a position that is listed: the first in which men stand where the filters want them.
+/// The image of a position that is listed: the first with men on the wanted squares.
 fn shown(selection: &Selection, p: &Position) -> Option<Position>
     ensures { (is_paired selection.now.search ≡ true → IsValid (handed_on p.now)) → result ≡ shown selection.now p.now }
 {
@@ -110,7 +110,7 @@ fn shown(selection: &Selection, p: &Position) -> Option<Position>
     }
 }
 
-/// Whether a position that is looked for, and of which an image is shown, is listed.
+/// Whether a position that matches the search, and of which an image is shown, is listed.
 fn is_listed<V: Values>(
     selection: &Selection,
     p: &Position,
@@ -130,7 +130,7 @@ fn is_listed<V: Values>(
     }
 }
 
-/// The image of a position that is listed, if it is.
+/// The image of a position that is listed, or `None`.
 fn image_listed<V: Values>(
     selection: &Selection,
     p: &Position,
@@ -157,7 +157,7 @@ fn image_listed<V: Values>(
     }
 }
 
-/// The image of the position of a number that is found, if it is listed.
+/// The image for a found number, if it is listed.
 pub(crate) fn listed_at<V: Values>(
     selection: &Selection,
     number: u32,
@@ -180,7 +180,7 @@ pub(crate) fn listed_at<V: Values>(
     }
 }
 
-/// The text of a number that is found, if it is listed.
+/// The text for a found number, if it is listed.
 pub(crate) fn text_at<V: Values>(
     selection: &Selection,
     form: Form,

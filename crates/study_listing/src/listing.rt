@@ -1,4 +1,4 @@
-//! The list of the positions that are found, as they are found.
+//! The list of the found positions, written as they are found.
 ghost use Rattle.std.specs.Prelude.{◌≡◌, ◌≤◌, ◌<◌, ℕ, false, Some, IfOk, IfErr, OnErr, IsErrOf};
 ghost use Rattle.study_material.specs.declared.class.Class.{Class as AClass};
 ghost use Rattle.study_search.specs.declared.themes.Theme.TheVariants as theme;
@@ -24,7 +24,7 @@ use study_values::{ProbeFault, Values, cells};
 /// The most studies that a script holds: with four lines a study, 100,000 lines.
 pub const MAX_STUDIES: u32 = 25_000;
 
-/// How many numbers are looked through before it is said how far the search has come.
+/// The number of positions searched between two reports of progress.
 const PIECE: u32 = 100_000;
 
 /// The numbers from one on and below another.
@@ -34,13 +34,13 @@ pub struct Numbers {
     pub to: u32,
 }
 
-/// Is informed how far a search has come.
+/// Receives the progress of a search.
 pub trait Watch: Drop {
-    /// The numbers below this one are looked through, and so many positions found.
+    /// The numbers below this one are searched, and so many positions found.
     fn passed(&mut self, number: u32, end: u32, found: u32);
 }
 
-/// Nobody is informed.
+/// A watcher that does nothing.
 #[derive(Drop)]
 pub struct NoWatch;
 
@@ -48,7 +48,7 @@ impl Watch for NoWatch {
     fn passed(&mut self, _number: u32, _end: u32, _found: u32) {}
 }
 
-/// Where the next piece of a range ends.
+/// The end of the next piece of a range.
 fn piece_end(at: u32, to: u32) -> u32
     requires { at < to }
     ensures on { at < result }
@@ -57,7 +57,7 @@ fn piece_end(at: u32, to: u32) -> u32
     at.saturating_add(PIECE).min(to)
 }
 
-/// How many positions of a range of numbers are listed.
+/// The number of listed positions in a range of numbers.
 pub fn count_numbers<V: Values, H: Watch>(
     selection: &Selection,
     numbers: Numbers,
@@ -93,9 +93,9 @@ pub fn count_numbers<V: Values, H: Watch>(
     Ok(count)
 }
 
-/// Writes the positions of a range of numbers that are listed, as they are found, and gives their number.
+/// Writes the listed positions of a range of numbers, as they are found, and returns their count.
 ///
-/// Where a value is not known or the writer fails, what is found before that has been written.
+/// If a value cannot be read or the writer fails, what is found before that has been written.
 pub fn list_numbers<V: Values, W: Write, H: Watch>(
     selection: &Selection,
     form: Form,
@@ -142,7 +142,7 @@ pub fn list_numbers<V: Values, W: Write, H: Watch>(
     Ok(count)
 }
 
-/// How many positions are listed.
+/// The number of listed positions.
 pub fn count_found<V: Values, H: Watch>(
     selection: &Selection,
     values: &mut V,
@@ -187,7 +187,7 @@ fn list_lines<V: Values, W: Write, H: Watch>(
     list_numbers(selection, Form::Lines, all, values, out, watch)
 }
 
-/// Writes the studies as a script. They are counted first, so that one with too many is refused before its first line.
+/// Writes the studies as a script. They are counted first, so that a list with too many is refused before its first line.
 fn list_studies<V: Values, W: Write, H: Watch>(
     selection: &Selection,
     values: &mut V,
@@ -224,8 +224,7 @@ fn list_studies<V: Values, W: Write, H: Watch>(
     }
 }
 
-/// Writes the positions that are listed, as they are found, and gives their number. A script that would have too many studies is refused
-/// before its first line.
+/// Writes the listed positions, as they are found, and returns their count. A script with too many studies is refused before its first line.
 pub fn list_found<V: Values, W: Write, H: Watch>(
     selection: &Selection,
     form: Form,
@@ -254,7 +253,7 @@ pub fn list_found<V: Values, W: Write, H: Watch>(
     }
 }
 
-/// What a request lists: of the longest mate of a side, the mates of that length; no position, where it has none.
+/// The selection of a request: for the longest mate of a side, the mates of that length; `None` if there is no mate.
 pub fn selection_of<V: Values>(
     request: &Request,
     values: &mut V,
@@ -275,7 +274,7 @@ pub fn selection_of<V: Values>(
     }
 }
 
-/// The mates in so many plies of a side, which is to move.
+/// The mates in so many plies by a side, which is to move.
 fn mates_in(class: Class, side: Side, plies: u8) -> Selection
     ensures search { result.search ≡ record { class = class; theme = theme.MateIn plies; side = Some side } }
     ensures filters { result.filters ≡ no_filters }

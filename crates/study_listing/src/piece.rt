@@ -30,7 +30,7 @@ fn just(class: Class) -> ArrayVec<Class, CLASS_COUNT>
     list
 }
 
-/// The classes whose tables are looked at, each after those that it needs.
+/// The classes whose tables are used, each after those that it needs.
 pub fn classes_for(request: &Request) -> ArrayVec<Class, CLASS_COUNT>
     ensures { AreLookedAt request.now result.items }
 {
@@ -41,7 +41,7 @@ pub fn classes_for(request: &Request) -> ArrayVec<Class, CLASS_COUNT>
     order(request.class())
 }
 
-/// Refuses what wants a table that is not there, by the first class that has none.
+/// Refuses a request if a needed table is missing, naming the first class without one.
 pub fn need_tables<V: Values>(request: &Request, values: &V) -> Result<(), ProbeFault>
     ensures no_table { (c : AClass) → IsErrOf result (ProbeFault.NoTable c) → V.held values.now c ≡ false }
     ensures no_damage { IfErr result IsNotDamage }
@@ -54,14 +54,14 @@ pub fn need_tables<V: Values>(request: &Request, values: &V) -> Result<(), Probe
     Ok(())
 }
 
-/// Where the range ends.
+/// The end of the range.
 fn end_of(piece: &Piece) -> u32
     ensures { result ≡ end_of piece.now }
 {
     piece.numbers.to.min(cells(piece.request.class()))
 }
 
-/// Writes the lines of what is listed.
+/// Writes the lines of the listed positions.
 fn write_lines<V: Values, W: Write>(
     selection: Option<Selection>,
     numbers: Numbers,
@@ -98,7 +98,7 @@ fn how_far(end: u32, all: u32) -> ArrayString<32>
     line
 }
 
-/// Writes how far the list has come, of all numbers of the class.
+/// Writes the progress of the list among all numbers of the class.
 fn write_how_far<W: Write>(out: &mut W, end: u32, all: u32) -> Result<(), Stop>
     ensures written { OnOk result (Appends (W.contents out.old) (W.contents out.new) (how_far end all)) }
     ensures device { IfErr result (λ stop. stop ≡ Stop.WriteDevice) }
@@ -109,7 +109,7 @@ fn write_how_far<W: Write>(out: &mut W, end: u32, all: u32) -> Result<(), Stop>
     }
 }
 
-/// Writes the lines, and how far the list has come.
+/// Writes the lines, and the progress of the list.
 fn write_selected<V: Values, W: Write>(
     piece: &Piece,
     selection: Option<Selection>,
@@ -132,9 +132,8 @@ fn write_selected<V: Values, W: Write>(
     }
 }
 
-/// Writes the lines of the positions that are listed between the numbers, and then how far the list has come: `to N of M`, where all numbers of
-/// the class below N are looked through that are not below the first, and M is how many numbers it has. What stands in `out` after an error is
-/// no piece.
+/// Writes the lines of the listed positions between the numbers, then the progress of the list: `to N of M`. All numbers of the class from the first
+/// and below N are searched, and M is how many numbers the class has. After an error, the content of `out` is not a piece.
 pub fn write_piece<V: Values, W: Write>(
     piece: &Piece,
     values: &mut V,

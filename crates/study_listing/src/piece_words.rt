@@ -7,7 +7,7 @@ use crate::listing::Numbers;
 use crate::request::{Request, read_request};
 use study_material::Class;
 
-/// What is listed, and which numbers of the class are looked through.
+/// A request, and the numbers of the class to search.
 #[derive(Clone, Copy, Debug, PartialEq, Eq)]
 pub struct Piece {
     pub request: Request,
@@ -18,7 +18,7 @@ pub struct Piece {
 #[derive(Clone, Copy, Debug, PartialEq, Eq)]
 pub enum PieceFault {
     Unread(Unread),
-    /// The last two words are no numbers of one to nine digits.
+    /// The last two words are not numbers of one to nine digits.
     NoNumbers,
 }
 

@@ -1,4 +1,4 @@
-//! What is to be found, in words.
+//! Requests for a search, in words.
 ghost use Rattle.std.specs.Prelude.{◌≡◌, map};
 ghost use Rattle.study_listing.specs.Requests.{outcome_named, theme_of_one, theme_of_two, only_moves_named, usual_side, positions_of};
 ghost use Rattle.study_listing.specs.Requests.{longest_for, by_two, request_of};
@@ -23,7 +23,7 @@ pub enum Request {
 }
 
 impl Request {
-    /// The class whose positions are looked at.
+    /// The class whose positions are searched.
     pub fn class(&self) -> Class
         ensures { result ≡ class_of_request self.now }
     {
@@ -95,7 +95,7 @@ fn theme_of_two(first: &[u8], second: &[u8]) -> Option<Theme>
     only_moves_named(outcome_named(first), second)
 }
 
-/// The side to move where the words name none: of the two positions of a zugzwang, and of colour images, one is enough.
+/// The side to move if the words name none: of the two positions of a zugzwang, and of colour images, one is enough.
 fn usual_side(class: Class, theme: Theme) -> Option<Side>
     ensures { result ≡ usual_side class theme }
 {
@@ -106,7 +106,7 @@ fn usual_side(class: Class, theme: Theme) -> Option<Side>
     }
 }
 
-/// The positions with a theme, by the words that stand behind it.
+/// The positions with a theme, by the words after it.
 fn positions_of(class: Class, theme: Theme, rest: &[&[u8]]) -> Result<Request, Unread>
     ensures { result ≡ positions_of class theme (map (λ word. word.now) rest.now) }
 {
@@ -123,7 +123,7 @@ fn positions_of(class: Class, theme: Theme, rest: &[&[u8]]) -> Result<Request, U
     }
 }
 
-/// The side that is named, or the usual one.
+/// The named side, or the usual one.
 fn side_or(named: Option<Side>, usual: Option<Side>) -> Option<Side>
     ensures { result ≡ or_else named usual }
 {
@@ -164,7 +164,7 @@ fn by_two(class: Class, first: &[u8], rest: &[&[u8]]) -> Result<Request, Unread>
     }
 }
 
-/// What is to be found, by the words after the class.
+/// The request that the words after the class spell.
 pub fn read_request(class: Class, words: &[&[u8]]) -> Result<Request, Unread>
     ensures { result ≡ request_of class (map (λ word. word.now) words.now) }
 {

@@ -19,7 +19,7 @@ use study_notation::{Start, write_fen, write_san};
 use study_search::Theme;
 use study_values::{ProbeFault, Value, Values};
 
-/// How positions are listed.
+/// The form of a list.
 #[derive(Clone, Copy, Debug, PartialEq, Eq)]
 pub enum Form {
     /// A position a line, with its values or its key move.
@@ -111,7 +111,7 @@ fn line_of(p: &Position, facts: &Facts) -> Listed
     out
 }
 
-/// Who wins; or who draws, being on the move.
+/// The side that wins; in a draw the side to move.
 fn hero_of(to_move: Side, value: Value) -> Side
     ensures { result ≡ hero_of to_move value }
 {
@@ -200,7 +200,7 @@ fn line_text<V: Values>(p: &Position, theme: Theme, values: &mut V) -> Result<Li
     }
 }
 
-/// The study of a position: what the side to move reaches, and the one move that keeps it, where there is one.
+/// The study of a position: the result of the side to move, and the only move that keeps it, if there is one.
 fn study_text<V: Values>(p: &Position, values: &mut V) -> Result<Listed, ProbeFault>
     ensures game { V.is_honest values.old → (t : ATheme) → IfOk result (λ text. IsTextOf Form.Script t p.now text.bytes) }
     ensures no_table { (c : AClass) → IsErrOf result (ProbeFault.NoTable c) → V.held values.old c ≡ false }

@@ -1,4 +1,4 @@
--- A whole file of pages, by what was written one after the other.
+-- A whole file of pages, from the parts written one after the other.
 use Rattle.std.proofs.Common.{◌≡◌, ℕ, List, ◌++◌, Option, Some, None, Result, Ok, Err, refl, inl, inr, true, false, Bool, is_err}
 use Rattle.std.specs.Prelude.{IfSome, IfErr, OnOk}
 use Rattle.std.specs.Io.KnownBytes.{Appends}
@@ -66,7 +66,7 @@ pub no_shape : (given : Option (List ℕ)) → IfSome given (λ bytes. FileShape
 no_shape None = tt
 no_shape (Some script) = inl (refl, refl)
 
--- ---- what is written of it, whatever is held
+-- ---- what is written, whatever the tables say
 
 pub whole_fits : (left old begun ended new : Option (List ℕ)) (answer : Result Summary RunFault) (count : Count) (rows : List ℕ) (given : Option (List ℕ))
     (ran : Result Summary RunFault) → Appends old begun opening → IfSome given (λ bytes. Fits IsEntry refusal_text bytes left begun ended ran)

@@ -1,4 +1,4 @@
--- The page of an annotated study, which is that of the plain one.
+-- The page of an annotated study is that of the plain one.
 use Rattle.std.proofs.Common.{ℕ, List, Option, refl}
 use Rattle.study_text.specs.Taken.{TakesPrefix}
 use Rattle.study_marks.specs.BenchState.{BenchState, marked, IsKeptRight}

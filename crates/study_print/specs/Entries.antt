@@ -1,4 +1,4 @@
--- The entries of a report, which are listed at its end.
+-- The entries of a report, listed at its end.
 use Rattle.std.specs.Prelude.{◌≡◌, ℕ, List, [], ◌∷◌, ◌++◌}
 use Rattle.study_marks.specs.declared.mark.Mark.{Mark}
 use Rattle.study_marks.specs.Edits.{Plainly}
@@ -14,7 +14,7 @@ count_of [] = Nothing
 count_of (x ∷ []) = One
 count_of (x ∷ y ∷ more) = Several
 
--- a row for each study, of its annotation and with its number, in their order
+-- a row for each study, from its annotation and with its number, in order
 abbrev pub AreRows : List (Plainly × ℕ) → List ℕ → Type 0
 AreRows [] rows = rows ≡ []
 AreRows ((plain, number) ∷ more) rows =

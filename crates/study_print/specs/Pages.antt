@@ -20,7 +20,7 @@ use Rattle.study_print.specs.Reasons.{refusal_in, reason_of}
 abbrev pub refusal_text : ℕ → List ℕ → List ℕ → List ℕ
 refusal_text number line reply = refusal_part number line (refusal_in reply) (reason_of (refusal_in reply))
 
--- the list of all entries, where there are two or more
+-- the list of all entries, if there are two or more
 abbrev pub summary_text : Count → List ℕ → List ℕ
 summary_text Nothing rows = []
 summary_text One rows = []
@@ -35,7 +35,7 @@ abbrev pub is_broken : Result Summary RunFault → Bool
 is_broken (Err WriteDevice) = true
 is_broken ran = false
 
--- what comes after the last page is written, or the writer fails in it, or there is no memory for it
+-- the part after the last page is written, or the writer fails in it, or there is no memory for it
 abbrev pub IsClosed : List ℕ → Option (List ℕ) → Option (List ℕ) → Result Summary RunFault → Result Summary RunFault → Type 0
 IsClosed text old new ran answer =
     ((answer ≡ ran) × Appends old new text)
@@ -49,14 +49,13 @@ IsEndedIf false text old new ran answer = IsClosed text old new ran answer
 abbrev pub IsEnded : List ℕ → Option (List ℕ) → Option (List ℕ) → Result Summary RunFault → Result Summary RunFault → Type 0
 IsEnded text old new ran answer = IsEndedIf (is_broken ran) text old new ran answer
 
--- The entries of a run are those of exactly the studies that it told; of one that stopped at a fault, those that the lines before the stop told.
+-- The entries of a run are exactly its printed studies; if it stops at a fault, those printed before the stop.
 abbrev pub AreItsEntries : State → List ℕ → Option (List ℕ) → Option (List ℕ) → Result Summary RunFault → Count → List ℕ → Type 0
 AreItsEntries first script old new (Ok summary) count rows = AreListed IsPageOf refusal_text first script old new (AreEntries count rows)
 AreItsEntries first script old new (Err fault) count rows = AreListedBefore IsPageOf refusal_text first script old new (AreEntries count rows) fault
 
--- A file of pages, of what is held at the beginning, the bytes of a script, what the reader has left of them, what the writer had and has, and
--- the answer: the opening; in script order the page of each study that an accepted `pgn` line told, and each refused line; the list of the
--- entries; and the closing.
+-- A file of pages, given the state at the beginning, the bytes of a script, what the reader has left of them, what the writer had and has, and the result:
+-- the opening; in script order the page of each study of an accepted `pgn` line, and each refused line; the list of the entries; and the closing.
 abbrev pub IsFile : State → List ℕ → Option (List ℕ) → Option (List ℕ) → Option (List ℕ) → Result Summary RunFault → Type 0
 IsFile first script left old new answer =
     ((answer ≡ Err WriteDevice) × (left ≡ Some script) × TakesPrefix old new opening)
@@ -64,17 +63,17 @@ IsFile first script left old new answer =
     × Outcome IsPageOf refusal_text first script left begun ended ran × AreItsEntries first script begun ended ran count rows
     × IsEnded (end_text count rows) ended new ran answer)
 
--- the answer after a run, where what comes after the last page may fail too
+-- the result after a run, if writing the part after the last page may fail too
 abbrev pub IsAnswerTo : Result Summary RunFault → Result Summary RunFault → Type 0
 IsAnswerTo ran answer = (answer ≡ ran) ⊎ ((answer ≡ Err WriteDevice) ⊎ (answer ≡ Err OutOfMemory))
 
--- the same without what is told, whatever is held
+-- the same without the content of the pages, whatever the state
 abbrev pub FileShape : List ℕ → Option (List ℕ) → Result Summary RunFault → Type 0
 FileShape script left answer =
     ((answer ≡ Err WriteDevice) × (left ≡ Some script)) ⊎ ((ran : Result Summary RunFault) × Shape script left ran × IsAnswerTo ran answer)
 
--- What is written of a file, whatever is held and whatever its tables say: the opening, the entries and the refusals of the lines, of which so many
--- are refusals as are counted, and what comes after the last page.
+-- What is written of a file, whatever the state and its tables: the opening, the entries and the refusals of the lines, with as many refusals as are
+-- counted, and the part after the last page.
 abbrev pub FileFits : List ℕ → Option (List ℕ) → Option (List ℕ) → Option (List ℕ) → Result Summary RunFault → Type 0
 FileFits script left old new answer =
     ((answer ≡ Err WriteDevice) × TakesPrefix old new opening)

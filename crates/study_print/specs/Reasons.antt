@@ -6,7 +6,7 @@ use Rattle.std.specs.Str.{bytes_eq}
 unfoldable pub refusal_in : List ℕ → List ℕ
 refusal_in reply = take (length (drop 6 reply) - 1) (drop 6 reply)
 
--- how many bytes come before the first space
+-- the number of bytes before the first space
 abbrev pub word_length : List ℕ → ℕ
 word_length [] = 0
 word_length (b ∷ rest) = if b == 32 then 0 else 1 + word_length rest

@@ -11,7 +11,7 @@ use study_html::{Html, write_closing};
 use study_page::{PageFault, write_summary};
 use study_script::{RunFault, Summary};
 
-/// Writes the list of all entries, where there are two or more.
+/// Writes the list of all entries, if there are two or more.
 fn write_entries<'s, S: Allocator, W: Write>(
     alloc: &'s S,
     count: Count,

@@ -22,7 +22,7 @@ use study_tablefile::PageSource;
 
 /// Follows a script over these tables, from an empty document, and writes a whole file of pages.
 ///
-/// Where the run stops at a fault, but not at one of the writer, what comes after the last page is written too.
+/// If the run stops at a fault other than one of the writer, the part after the last page is written too.
 pub fn follow_pages<'a, R: Read, W: Write, P: PageSource, A: Allocator, N: Watch>(
     alloc: &'a A,
     script: &mut R,
@@ -42,7 +42,7 @@ pub fn follow_pages<'a, R: Read, W: Write, P: PageSource, A: Allocator, N: Watch
     follow_pages_over(alloc, script, out, watch, tables, &mut store)
 }
 
-/// The same over a store, of which no file is opened: what is known of its files tells for which faults these tables may not be read.
+/// The same over a store, of which no file is opened; the files known to it determine with which faults these tables may fail.
 pub fn follow_pages_over<'a, R: Read, W: Write, S: TableStore, A: Allocator, N: Watch>(
     alloc: &'a A,
     script: &mut R,

@@ -1,7 +1,7 @@
 //! The printed report of a script: a page for each of its studies, its refused lines, and the list of its entries.
 //!
-//! `follow_pages` follows a script over tables and writes a whole file of HTML, which a browser shows and prints. `Pages` is the same as a
-//! `Report`, for what comes between the opening and the list. `reason_of` says in words why a line is refused.
+//! `follow_pages` follows a script over tables and writes a whole HTML file for a browser to show and print. `Pages` is the same as a `Report`, for
+//! the part between the opening and the list. `reason_of` gives in words why a line is refused.
 #![tactic(auto)]
 
 mod ending;

@@ -13,7 +13,7 @@ use study_page::{PageFault, add_entry, write_page, write_refusal};
 use study_report::{NotTold, Report, ReviewFault};
 use study_values::Values;
 
-/// How many studies were told.
+/// The number of studies printed so far.
 #[derive(Clone, Copy, Debug, PartialEq, Eq)]
 pub enum Count {
     Nothing,
@@ -35,7 +35,7 @@ impl Count {
     }
 }
 
-/// A page for each study, and a line for each refused one. Of studies that were told, what the list at the end says is kept.
+/// A page for each study, and a line for each refused one. For each printed study its row of the list at the end is kept.
 #[derive(Drop)]
 pub struct Pages<'s, S: Allocator, N: Watch> {
     alloc: &'s S,
@@ -46,7 +46,7 @@ pub struct Pages<'s, S: Allocator, N: Watch> {
 }
 
 impl<'s, S: Allocator, N: Watch> Pages<'s, S, N> {
-    /// No study was told.
+    /// No study has been printed.
     pub fn new(alloc: &'s S, watch: N) -> Self
         ensures rows { result.rows ≡ [] }
         ensures count { result.count ≡ Count.Nothing }

@@ -17,7 +17,7 @@ pub fn refusal_in(reply: &[u8]) -> &[u8]
     &words[..words.len() - 1]
 }
 
-/// How many bytes come before the first space.
+/// The number of bytes before the first space.
 fn word_length(text: &[u8]) -> usize
     ensures length { result ≡ word_length text.now }
     ensures within { result ≤ length text.now }

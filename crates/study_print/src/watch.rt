@@ -1,13 +1,13 @@
-//! Watching how far a report has come.
+//! Watching the progress of a report.
 
-/// Learns after each study that was printed how many there are.
+/// Receives after each printed study the number of studies so far.
 ///
 /// No contract: it may do anything with the number.
 pub trait Watch: Drop {
     fn told(&mut self, count: u32);
 }
 
-/// Nobody watches.
+/// A watcher that does nothing.
 #[derive(Clone, Copy, Debug, PartialEq, Eq)]
 pub struct Unwatched;
 

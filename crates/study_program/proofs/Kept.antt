@@ -1,4 +1,4 @@
--- A writer that is flushed keeps what a run left.
+-- A flushed writer has everything that a run wrote.
 use Rattle.std.proofs.Common.{ℕ, Bool, false, List, Option, None, Some, Result, Ok, Err, IfSome, IsSomeAnd}
 use Rattle.std.specs.Io.KnownBytes.{Keeps}
 use Rattle.std.proofs.KnownBytes.{Appends-kept, Keeps-trans}

@@ -1,4 +1,4 @@
-//! The files of tables in a folder, one for each class: `KQK.dtm`.
+//! The table files in a folder, one for each class: `KQK.dtm`.
 ghost use Rattle.std.specs.Prelude.{⊤, ◌≡◌, true, None, OnOk, OnErr, vec_len, length, ◌⊎◌, IfErr};
 ghost use Rattle.std.specs.Io.KnownBytes.{Consumes};
 ghost use Rattle.study_tablefile.specs.Reading.{IsShort};
@@ -14,7 +14,7 @@ use study_script::{StoreFault, TableStore};
 use study_tablefile::PageSource;
 use study_values::{HEADER_BYTES, PAGE_BYTES, SourceFault};
 
-/// The files of tables in a folder. The room for their names is taken once.
+/// The table files in a folder. The memory for their names is allocated once.
 #[derive(Drop)]
 pub struct FolderStore<'r, 'a, R: Files, A: Allocator> {
     files: &'r R,
@@ -24,8 +24,8 @@ pub struct FolderStore<'r, 'a, R: Files, A: Allocator> {
 }
 
 impl<'r, 'a, R: Files, A: Allocator> FolderStore<'r, 'a, R, A> {
-    /// The files of a folder, which need not be there.
-    /// No contract: the type proves one path for each class, and nothing is known of what the files give.
+    /// The files of a folder; they need not exist.
+    /// No contract: the type proves one path for each class, and nothing is known of the content of the files.
     pub fn new(files: &'r R, alloc: &'a A, folder: &str) -> Result<Self, AllocError> {
         let mut paths = Vec::with_capacity(alloc, CLASS_COUNT)?;
         for class in Class::all() {
@@ -52,7 +52,7 @@ fn path_in<'a, A: Allocator>(
     Ok(path)
 }
 
-/// Only a file that is not there is `NoFile`.
+/// Only a file that does not exist is `NoFile`.
 fn fault_of(error: &io::Error) -> StoreFault {
     if error.kind() == ErrorKind::NotFound {
         StoreFault::NoFile
@@ -61,7 +61,7 @@ fn fault_of(error: &io::Error) -> StoreFault {
     }
 }
 
-// Nothing is known of what files give, so no class is trusted: a run that loads no table is in the theorem, and one that does is tested.
+// Nothing is known of the content of files, so no class is trusted: the theorem covers runs that load no table; runs that load one are tested.
 impl<'r, 'a, R: Files, A: Allocator> TableStore for FolderStore<'r, 'a, R, A> {
     type Reader = R::File;
 
@@ -107,14 +107,14 @@ impl<'r, 'a, R: Files, A: Allocator> TableStore for FolderStore<'r, 'a, R, A> {
 #[derive(Drop)]
 pub struct FilePages<F: Read + Seek + Drop> {
     pub file: F,
-    /// How many headers and pages were requested. The count stays at the last value of its type.
+    /// The number of headers and pages requested. The count saturates.
     pub asked: u64,
-    /// How many of them it did not read. The count stays at the last value of its type.
+    /// The number of requests that failed. The count saturates.
     pub failures: u64,
 }
 
 impl<F: Read + Seek + Drop> FilePages<F> {
-    /// The bytes of the file from a place on, or a fault that is counted.
+    /// The bytes of the file from a place on, or a fault, which is counted.
     fn bytes(&mut self, start: u64, into: &mut [u8]) -> Result<(), SourceFault>
         ensures len { length into.new ≡ length into.old }
         ensures asked { self.new.asked ≡ counted self.old.asked }
@@ -139,7 +139,7 @@ fn read_at<F: Read + Seek>(file: &mut F, start: u64, into: &mut [u8]) -> Result<
     fill(file, into)
 }
 
-/// Fills a buffer from a reader. Each of its errors ends the call, also one that `read_exact` would try again.
+/// Fills a buffer from a reader. Each of its errors ends the call, also one after which `read_exact` would try again.
 fn fill<R: Read>(input: &mut R, buf: &mut [u8]) -> Result<(), SourceFault>
     ensures len { length buf.new ≡ length buf.old }
     ensures ok { OnOk result (Consumes (R.remaining input.old) (R.remaining input.new) buf.new) }

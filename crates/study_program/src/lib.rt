@@ -1,7 +1,7 @@
 //! The program studybench as a library: its command line, the folder of its tables, the run over both, and the exit status.
 //!
-//! `studybench` is all that the program does. `answer_script` does the same over whatever files and streams, so that tests see the exit
-//! status and what is written to standard error.
+//! `studybench` is the whole program. `answer_script` does the same over any files and streams, so that tests see the exit status and what is written
+//! to standard error.
 #![tactic(auto)]
 
 mod folder;

@@ -38,21 +38,20 @@ Exit status: 0 no line was refused; 1 some line was; 2 the command line was; 3 t
 /// The options of the command line.
 #[derive(Clone, Copy, Debug)]
 pub struct Options<'a> {
-    /// The folder of the files of tables: never an empty text, of which the files would stand in the root folder.
+    /// The folder of the table files; never empty, since an empty name would mean the root folder.
     pub tables: &'a str,
-    /// How many pages of tables are kept, where they are read by pages: 1 to 4,096.
+    /// The number of pages kept in memory, 1 to 4,096; `None` if tables are read whole.
     pub pages: Option<u16>,
-    /// Whether a refused `position` leaves no study that the lines behind it could edit.
+    /// Whether after a refused `position` there is no study for the next lines to edit.
     pub separate: bool,
     ghost named: { 0 < length tables.now },
     ghost range: { IfSome pages (λ n. (1 ≤ n) × (n ≤ 4096)) } by { Prim.hlevel props },
 }
 
-/// Reads the words of the command line, of which the first is the program's name. `--help` and `--version` are answered as errors whose
-/// exit code is 0.
+/// Reads the words of the command line, the first of which is the program's name. `--help` and `--version` are reported as errors whose exit code is
+/// 0.
 ///
-/// No contract: clap has none on the words that it takes. The type proves that the folder has a name, and the range of pages; the tests
-/// tell the rest.
+/// No contract: clap has none on the words that it takes. The type proves that the folder has a name, and the range of pages; tests check the rest.
 pub fn read_words<'a>(alloc: Global, words: &'a [String]) -> Result<Options<'a>, Error> {
     let tables = Arg::new(alloc, "tables")
         .long("tables")
@@ -90,7 +89,7 @@ pub fn read_words<'a>(alloc: Global, words: &'a [String]) -> Result<Options<'a>,
     })
 }
 
-/// So many pages, where it is a number of pages that can be kept.
+/// The number of pages, if it is in range.
 fn pages_of(given: Option<u16>) -> Option<u16>
     ensures { IfSome result (λ n. (1 ≤ n) × (n ≤ 4096)) }
 {

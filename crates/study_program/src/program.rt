@@ -1,4 +1,4 @@
-//! What the program does, over the streams of its process or over any others.
+//! The program, over the streams of its process or over any others.
 ghost use Rattle.std.specs.Prelude.{◌≡◌, Bool, is_some};
 ghost use Rattle.clap.specs.Values.{kind_of};
 ghost use Rattle.study_program.specs.Ended.{EndsBy, HasRun};
@@ -17,10 +17,10 @@ use study_script::{RunFault, Settings, Summary, run};
 
 /// Reads the script from standard input and writes each reply to standard output as soon as its line is answered.
 ///
-/// The exit status is 0 where no line was refused, 1 where some line was, 2 where the command line was refused, and 3
-/// where the run stopped at a fault, whose name then goes to standard error.
+/// The exit status is 0 if no line was refused, 1 if some line was, 2 if the command line was refused, and 3 if the run stopped at a fault, whose
+/// name then goes to standard error.
 ///
-/// No contract: of the streams and the words of a process no clause can say what they hold. `answer_script` has one.
+/// No contract: no clause can name the content of the streams and the words of a process. `answer_script` has one.
 pub fn studybench(rt: &HostRuntime) -> ExitCode {
     let words = match words_of(rt) {
         Ok(words) => words,
@@ -32,14 +32,14 @@ pub fn studybench(rt: &HostRuntime) -> ExitCode {
     }
 }
 
-/// The words of the command line, of which the first is the program's name.
+/// The words of the command line, the first of which is the program's name.
 ///
-/// No contract: no clause can say with which words a process was started.
+/// No contract: no clause can name the words with which a process was started.
 pub fn words_of(rt: &HostRuntime) -> io::Result<Vec<String>> {
     Ok(env::args(rt)?.collect(rt.alloc())?)
 }
 
-/// The words of the command line are not known.
+/// The words of the command line cannot be read.
 fn not_read(rt: &HostRuntime, error: &io::Error) -> u8 {
     if error.kind() == ErrorKind::OutOfMemory {
         return ended(&mut rt.stderr(), &Err(RunFault::OutOfMemory));
@@ -48,7 +48,7 @@ fn not_read(rt: &HostRuntime, error: &io::Error) -> u8 {
     2
 }
 
-/// Help, the version, or why the words are refused.
+/// Prints help, the version, or why the words are refused.
 fn answered(rt: &HostRuntime, error: &Error) -> u8
     ensures { (printed : Bool) × (result ≡ status_unread (kind_of error.now) printed) }
 {
@@ -89,7 +89,7 @@ pub fn answer_script<F: Files, R: Read, W: Write, E: Write, A: Allocator>(
         result (E.contents errors.old) (E.contents errors.new) }
 {
     let mut answer = run_over_files(files, alloc, options, script, out);
-    // What is left in a buffer of the writer are replies too.
+    // Replies may still be in the writer's buffer.
     if out.flush().is_err() {
         answer = Err(RunFault::WriteDevice);
     }
@@ -107,7 +107,7 @@ fn ended<E: Write>(errors: &mut E, answer: &Result<Summary, RunFault>) -> u8
     status_of(answer)
 }
 
-/// Runs a script over the files of a folder. Of a script that loads no table all is known, whatever lies in the folder.
+/// Runs a script over the files of a folder. For a script that loads no table everything is known, whatever files the folder has.
 pub fn run_over_files<F: Files, R: Read, W: Write, A: Allocator>(
     files: &F,
     alloc: &A,

@@ -23,7 +23,7 @@ pub fn status_of(answer: &Result<Summary, RunFault>) -> u8
     }
 }
 
-/// The exit status where the words of the command line give no options, by what clap says of them and whether that was printed.
+/// The exit status if the words of the command line give no options, by clap's message and whether that was printed.
 pub fn status_without_options(error: &Error, printed: bool) -> u8
     ensures { result ≡ status_unread (kind_of error.now) printed }
 {
@@ -34,7 +34,7 @@ pub fn status_without_options(error: &Error, printed: bool) -> u8
     }
 }
 
-/// Tells why a run stopped, in a line of its own: `studybench: LineTooLong 3`.
+/// Reports why a run stopped, in a line of its own: `studybench: LineTooLong 3`.
 pub fn put_stop<W: Write>(out: &mut W, fault: RunFault) -> Result<(), DeviceFailed>
     ensures ok { OnOk result (Appends (W.contents out.old) (W.contents out.new) (stop_text fault)) }
     ensures err { OnErr result (TakesPrefix (W.contents out.old) (W.contents out.new) (stop_text fault)) }

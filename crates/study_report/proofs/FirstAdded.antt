@@ -87,7 +87,7 @@ module _ (tells : Plainly → ℕ → List ℕ → Type 0) (refusal : ℕ → Li
   are-more p (l ∷ lines) [] line a h r = absurd h
   are-more p (l ∷ lines) (x ∷ added) line a h r = (h.0, are-more x.after lines added line a h.1 r)
 
-  -- ---- what the first n lines add is written
+  -- ---- the parts of the first n lines are written
 
   pub record ToldOver (Lists : List (Plainly × ℕ) → Type 0) (all left : List (List ℕ)) (old new : Option (List ℕ)) (first : State) (p : Point)
       (n refused : ℕ) : Type 0 where
@@ -180,7 +180,7 @@ module _ (tells : Plainly → ℕ → List ℕ → Type 0) (refusal : ℕ → Li
         v.refused_is,
       )
 
-  -- what is held at the end of the script is what it leaves
+  -- the state at the end of the script is the one that it leaves
   pub told_after : {Lists : List (Plainly × ℕ) → Type 0} (holds : State → Type 0) (script now next old new : Option (List ℕ)) (first : State)
       (p : Point) (line : List ℕ) (n refused : ℕ) → HasTold Lists script now old new first p n refused → TakesLine now next false line → holds p.state
       → IfSome script (λ bytes. IsFollowed tells refusal first bytes old new holds)
@@ -196,7 +196,7 @@ module _ (tells : Plainly → ℕ → List ℕ → Type 0) (refusal : ℕ → Li
         subst (λ (q : Point). holds q.state) v.point_is held,
       )
 
-  -- what is true of the studies that were told
+  -- what is true of the reported studies
   pub told_listed : (Lists : List (Plainly × ℕ) → Type 0) (script now next old new : Option (List ℕ)) (first : State) (p : Point) (line : List ℕ)
       (n refused : ℕ) → HasTold Lists script now old new first p n refused → TakesLine now next false line
       → IfSome script (λ bytes. AreListed tells refusal first bytes old new Lists)
@@ -302,7 +302,7 @@ module _ (tells : Plainly → ℕ → List ℕ → Type 0) (refusal : ℕ → Li
 
   -- ---- the list of a run that stopped
 
-  -- the lines before the stop are those that were told
+  -- the lines before the stop are those that were reported
   pub told_before : {Lists : List (Plainly × ℕ) → Type 0} (Has : List (Plainly × ℕ) → Type 0) (script now old new : Option (List ℕ)) (first : State)
       (p : Point) (n refused : ℕ) (fault : RunFault) → HasTold Lists script now old new first p n refused
       → ((more : List (Plainly × ℕ)) → Lists more → Has more)
@@ -362,9 +362,9 @@ module _ (tells : Plainly → ℕ → List ℕ → Type 0) (refusal : ℕ → Li
   told_before_stop Has script now next old mid new first p line n refused (LineTooLong k) r t l h = absurd h
   told_before_stop Has script now next old mid new first p line n refused TooManyLines r t l h = absurd h
 
-  -- ---- what the loop knows
+  -- ---- the invariant of the loop
 
-  -- the lines so far are told, what is held is their state, and the counts are theirs
+  -- the lines so far are reported, the session has their state, and the counts are theirs
   pub record ToldOn (holds : State → Type 0) (Lists : List (Plainly × ℕ) → Type 0) (script now old new : Option (List ℕ)) (first : State)
       (n refused studies : ℕ) : Type 0 where
     pub point : Point
@@ -423,7 +423,7 @@ module _ (tells : Plainly → ℕ → List ℕ → Type 0) (refusal : ℕ → Li
         studies_are = j ∙ ap (λ (x : Told). studies + study_count x) same ∙ ap (λ i. i + study_count a.told) r.studies_are ∙ sym counts.1;
       }
 
--- ---- whatever is told
+-- ---- whatever is reported
 
 pub gone_memory : (left script now : Option (List ℕ)) (n : ℕ) → Gone script now n → n ≤ 100000
     → IfSome script (λ bytes. Shape bytes left (Err OutOfMemory))
@@ -439,7 +439,7 @@ gone_stops script now next line n fault (inl e) r t short lt =
 gone_stops script now next line n fault (inr e) r t short lt =
     subst (λ (f : RunFault). IfSome script (λ bytes. Shape bytes next (Err f))) (sym e) (gone_memory next script now n r (omega arith))
 
--- what a line told counts as at most one
+-- a line counts as at most one refusal or study
 pub few-told : (told : Told) → (refusal_count told ≤ 1) × (study_count told ≤ 1)
 few-told Nothing = (omega arith, omega arith)
 few-told AStudy = (omega arith, omega arith)

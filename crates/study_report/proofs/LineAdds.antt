@@ -1,4 +1,4 @@
--- What a line adds, by what was written for it.
+-- The contribution of a line, from what was written for it.
 use Rattle.std.proofs.Common.{◌≡◌, ℕ, suc, Bool, true, false, List, [], ◌++◌, Option, Some, Result, refl, sym, ap, subst, ◌∙◌, inl, inr}
 use Rattle.std.specs.Prelude.{IfOk, IfErr}
 use Rattle.std.specs.Io.KnownBytes.{Appends}
@@ -20,7 +20,7 @@ use Rattle.study_report.specs.Told.{Point, Added, IsLeftOut, IsStudyTold, IsAdde
 use Rattle.study_report.specs.Told.{nothing_added, study_added, refusal_added}
 use Rattle.study_report.specs.Written.{Adds, Stops, StopsIn, IsSection, IsSectionPart, IsReplied}
 
--- what holds of whatever is written of a refusal
+-- what holds of every text written for a refusal
 abbrev pub RefusalWritten : List ℕ → Option (List ℕ) → Option (List ℕ) → Told → Type 0
 RefusalWritten text old new told = (told ≡ ARefusal) × Appends old new text
 
@@ -38,7 +38,7 @@ none-in ARefusal document number e = refl
 pub nothing-listed : (Lists : List (Plainly × ℕ) → Type 0) (told : List (Plainly × ℕ)) → Lists told → Lists (told ++ [])
 nothing-listed Lists told kept = subst Lists (sym (append-nil told)) kept
 
--- where no study was reported, the list stays
+-- if no study was reported, the list is unchanged
 pub none-listed : (Lists : List (Plainly × ℕ) → Type 0) (r : Result Told RunFault) (told : List (Plainly × ℕ)) (document : Document) (number : ℕ)
     → IfOk r (λ t. study_count t ≡ 0) → Lists told → IfOk r (λ t. Lists (told ++ listed_in t document number))
 none-listed Lists r told document number h kept =
@@ -71,7 +71,7 @@ stops-in I a old new (LineTooLong n) is h = absurd h
 stops-in I a old new TooManyLines is h = absurd h
 
 module _ (tells : Plainly → ℕ → List ℕ → Type 0) (refusal : ℕ → List ℕ → List ℕ → List ℕ) where
-  -- a refusal is written: by the number of the line and the bytes of its reply
+  -- a refusal is written, from the number of the line and the bytes of its reply
   pub refusal-adds : (I : Added → Type 0) (H : State → Type 0) (p : Point) (line : List ℕ) (reply : Reply) (number : ℕ) (bytes : List ℕ)
       (r : Result Told RunFault) (old new : Option (List ℕ)) → number ≡ suc p.lines → bytes ≡ reply.text
       → I (refusal_added tells refusal p line reply) → H reply.state → IfOk r (RefusalWritten (refusal number line bytes) old new)
@@ -110,7 +110,7 @@ module _ (tells : Plainly → ℕ → List ℕ → Type 0) (refusal : ℕ → Li
       let at : number ≡ suc p.studies = n ∙ ap suc k in
       (study_added p s there.0, inl (plain, there.0, b, subst (λ i. tells plain i there.0) at there.1, refl), there.2)
 
-  -- a study that is left out
+  -- a study that is refused
   pub left-out : (p : Point) (s : State) (line : List ℕ) (plain : Plainly) (why : Refusal) → s.document ≡ study plain → IsLeftOut s plain why
       → IsStudyTold tells refusal p s line (refusal_added tells refusal p line (refused s why))
   left-out p s line plain why b h = inr (plain, why, b, h, refl)

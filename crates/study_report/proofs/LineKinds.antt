@@ -1,4 +1,4 @@
--- What is known of a line by what is done with it.
+-- What is known of a line, by its kind.
 use Rattle.std.proofs.Common.{◌≡◌, ℕ, Bool, true, false, ◌&&◌, List, Option, Some, None, Ok, Err, refl, sym, ap, ◌∙◌}
 use Rattle.std.specs.Prelude.{IfSome}
 use Rattle.study_material.specs.declared.class.Class.{Class}
@@ -87,7 +87,7 @@ pgn-finds s cut_off (study old) reply r f = found-study s old reply r
 pgn-finds s (file bytes) (study old) reply r f = found-study s old reply r
 pgn-finds s (header told) (study old) reply r f = found-study s old reply r
 
--- the same where studies are kept apart
+-- the same if studies are kept apart
 pub study-finds : (s : State) (line : List ℕ) (o : Outside) (reply : Reply) → kind_in (command_of line) ≡ Study → IsReplyIn true s line o reply
     → reply.refused ≡ false → Finds s s.document reply
 study-finds s line o reply kind (plain, is, e) was =

@@ -1,4 +1,4 @@
--- What is written for lines, whatever is held.
+-- What is written for lines, whatever the tables say.
 use Rattle.std.proofs.Common.{◌≡◌, ◌⊎◌, ℕ, zero, suc, ◌+◌, ◌-◌, ◌<◌, ◌≤◌, Bool, true, false}
 use Rattle.std.proofs.Common.{List, [], ◌∷◌, ◌++◌, length, take, drop, Option, Some, None, Result, Ok}
 use Rattle.std.proofs.Common.{Err, inl, inr, refl, sym, ap, subst, ◌∙◌, arith, append_assoc}
@@ -44,7 +44,7 @@ refused-words (Ok (Some asked)) piece (inl (words, e)) so = (words, ap (λ (p : 
 refused-words (Ok (Some asked)) piece (inr (done, not-so)) so = let bad : true ≡ false = sym so ∙ not-so in absurd cc
 refused-words (Err fault) piece e so = (words_of (Form fault), ap (λ (p : Piece). p.text) e)
 
--- what holds in each case holds where a call fails
+-- what holds in each case holds if a call fails
 pub on-err : {A E : Type 0} (r : Result A E) (P : Type 0) → P → IfErr r (λ e. P)
 on-err (Ok x) P h = tt
 on-err (Err e) P h = h
@@ -124,7 +124,7 @@ module _ (form : ℕ → List ℕ → Type 0) (refusal : ℕ → List ℕ → Li
       → WritesPart (IsPartAs form refusal Study number next line) old new AStudy
   study-in line number next old new (text, is, wrote) = (study_part text, inr (text, is, refl), wrote, refl)
 
-  -- it is left out
+  -- the study is refused
   pub left-out-part : {E : Type 0} (line : List ℕ) (number next : ℕ) (why : Refusal) (r : Result Told E) (old mid new : Option (List ℕ)) → mid ≡ old
       → IfOk r (RefusalWritten (refusal number line (reply_line (codes "error ") (words_of why))) mid new)
       → IfOk r (WritesPart (IsPartAs form refusal Study number next line) old new)
@@ -158,7 +158,7 @@ module _ (form : ℕ → List ℕ → Type 0) (refusal : ℕ → List ℕ → Li
   text-more [] part = append-nil part.text
   text-more (x ∷ parts) part = ap (λ (t : List ℕ). x.text ++ t) (text-more parts part) ∙ sym (append_assoc x.text (parts_text parts) part.text)
 
-  -- n lines were read, their parts are written, and so many studies are told and lines refused
+  -- n lines were read, their parts are written, and so many studies are reported and lines refused
   pub record PartsOver (all left : List (List ℕ)) (old new : Option (List ℕ)) (n refused studies : ℕ) : Type 0 where
     pub left_is : drop n all ≡ left
     pub within : n ≤ length all
@@ -253,7 +253,7 @@ module _ (form : ℕ → List ℕ → Type 0) (refusal : ℕ → List ℕ → Li
   parts_many left (Some bs) (Some rest) old new refused studies r =
       let v = r.known in (refused, (v.parts, v.are, v.written, v.refused_is))
 
-  -- where the writer failed, or there was no memory, nothing is said
+  -- if the writer failed, or there was no memory, nothing is claimed
   pub parts_stop : (left old new script : Option (List ℕ)) (fault : RunFault) → (fault ≡ WriteDevice) ⊎ (fault ≡ OutOfMemory)
       → IfSome script (λ bytes. Fits form refusal bytes left old new (Err fault))
   parts_stop left old new script fault (inl e) =

@@ -1,4 +1,4 @@
--- What values are after a review.
+-- The values after a review.
 use Rattle.std.proofs.Common.{◌≡◌, ℕ, Bool, true, List, [], ◌∷◌, Result, Ok, Err, refl, sym, subst, ◌∙◌, inl, inr}
 use Rattle.study_board.specs.Position.{Position, IsValid}
 use Rattle.study_material.specs.declared.class.Class.{Class}
@@ -63,7 +63,7 @@ module _ {V : Type 0} (held : V → Class → Bool) (gives : V → Position → 
       (by_pages f h.failures, read.0, read.1, read.2)
   untold-by paged old new (PageDamaged c n) honest by_pages h = absurd (h.no_damage honest)
 
-  -- why a study is left out
+  -- why a study is refused
   pub reviewed-why : {T : Type 0} (paged : Bool) (old new : V) (r : Result T ReviewFault) (fault : ProbeFault) → is_honest old
       → ((f : SourceFault) → failed_of new ≡ failures_told {T = Unit {0}} (Err (TableRead f)) (failed_of old) → paged ≡ true)
       → HasReviewed held (within p gives) may_fail asked_of failed_of is_honest {T = T} old r new → r ≡ Err (Values fault)
@@ -72,7 +72,7 @@ module _ {V : Type 0} (held : V → Class → Bool) (gives : V → Position → 
       untold-by paged old new fault honest by_pages
       (subst (λ (x : Result T ReviewFault). HasReviewed held (within p gives) may_fail asked_of failed_of is_honest {T = T} old x new) e h)
 
--- the same classes are held, and tables may fail in no other way
+-- the same classes are loaded, and tables may fail in no further way
 pub untold-same : (h k : Class → Bool) (paged by : Bool) (may m : Class → SourceFault → Type 0) (fault : ProbeFault) → ((c : Class) → h c ≡ k c)
     → paged ≡ by → ((c : Class) (f : SourceFault) → may c f → m c f) → (p : Position) → IsUntoldBy h paged may p fault → IsUntoldBy k by m p fault
 untold-same h k paged by may m (NoTable c) e b w p u = (sym (e c) ∙ u.0, u.1)

@@ -1,4 +1,4 @@
--- The tables that a script holds, after a review by them.
+-- The tables of a script, after a review with them.
 use Rattle.std.proofs.Common.{◌≡◌, ℕ, true, false, is_some, Result, Err, refl, sym, subst, arith}
 use Rattle.study_board.specs.Position.{Position, IsValid}
 use Rattle.study_material.specs.declared.class.Class.{Class}
@@ -20,7 +20,7 @@ use Rattle.study_report.specs.Told.{IsUntoldBy}
 use Rattle.study_report.proofs.Reviewed.{reviewed-fails, reviewed-honest, reviewed-tables, reviewed-why}
 
 module _ {P : Type 0} (honest_of : P → Table → ℕ → Type 0) (gives : GivesOf P) (p : Position) (valid : IsValid p) where
-  -- why a value could not be read, and what stays
+  -- why a value could not be read, and what is unchanged
   pub record TablesReviewed {T A : Type 0} (old : Tables P A) (r : Result T ReviewFault) (new : Tables P A) : Type 0 where
     pub why : (fault : ProbeFault) → tables_honest honest_of old → r ≡ Err (Values fault)
         → IsUntoldBy (tables_held old) (are_paged old) (tables_may_fail gives old) p fault

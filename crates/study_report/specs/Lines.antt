@@ -6,6 +6,6 @@ use Rattle.study_review.specs.Review.{BeginsReview}
 abbrev pub refusal_line : ℕ → List ℕ → List ℕ
 refusal_line number reply = codes "refused " ++ (decimal number ++ (codes " " ++ drop 6 reply))
 
--- each review begins with the number of its study, and so is no refusal
+-- each review begins with the number of its study, so no review is a refusal
 abbrev pub IsReviewForm : ℕ → List ℕ → Type 0
 IsReviewForm number text = BeginsReview number text

@@ -1,4 +1,4 @@
--- What a report over a script leaves behind.
+-- The outcome of a report over a script.
 use Rattle.std.specs.Prelude.{◌≡◌, ℕ, Bool, true, None, ◌+◌, ◌-◌, ◌<◌, ◌≤◌, List, [], ◌∷◌, length, take, drop}
 use Rattle.std.specs.Prelude.{slice_get, Option, Some, Result, Ok, Err, sum_by, IsSomeAnd}
 use Rattle.std.specs.List.{flat_map}
@@ -14,7 +14,7 @@ use Rattle.study_material.specs.declared.class.Class.{Class}
 use Rattle.study_script.specs.Outcome.{AreShort, AreLeft, Shape as ScriptShape}
 use Rattle.study_report.specs.Told.{Point, Added, IsAdded, refusal_count, studies_in}
 
--- no study and no start; these classes are held, and their tables may fail in any way; of files nothing is known
+-- no study and no start; the tables of these classes are loaded and may fail in any way; nothing is known of files
 abbrev pub over_tables : List Class → Bool → State
 over_tables classes paged = record {
   document = empty;
@@ -27,50 +27,50 @@ over_tables classes paged = record {
 abbrev pub begun : State → Point
 begun s = record { state = s; lines = 0; studies = 0 }
 
--- the texts that lines add, one after the other
+-- the texts of the lines, one after the other
 abbrev pub report_text : List Added → List ℕ
 report_text added = flat_map (λ a. a.text) added
 
--- how many of the lines are refused
+-- the number of refused lines
 abbrev pub refusals : List Added → ℕ
 refusals added = sum_by (λ a. refusal_count a.told) added
 
--- where a report is after these lines
+-- the point of a report after these lines
 abbrev pub point_after : Point → List Added → Point
 point_after p [] = p
 point_after p (a ∷ more) = point_after a.after more
 
 module _ (tells : Plainly → ℕ → List ℕ → Type 0) (refusal : ℕ → List ℕ → List ℕ → List ℕ) where
-  -- what lines add, one for each, where each line finds what the one before it left
+  -- the additions of lines, one for each; each line starts at the point after the one before it
   abbrev pub AreAdded : Point → List (List ℕ) → List Added → Type 0
   AreAdded p [] [] = Unit {0}
   AreAdded p [] (a ∷ more) = ⊥
   AreAdded p (line ∷ lines) [] = ⊥
   AreAdded p (line ∷ lines) (a ∷ more) = IsAdded tells refusal p line a × AreAdded a.after lines more
 
-  -- what the lines add is written
+  -- the text of the lines is written
   abbrev pub AreTold : Point → List (List ℕ) → Option (List ℕ) → Option (List ℕ) → Type 0
   AreTold p lines old new = AreShort lines × (added : List Added) × AreAdded p lines added × Appends old new (report_text added)
 
-  -- what the lines add is written, and then a prefix of what one line more adds, of which at least a byte is left out
+  -- the text of the lines is written, and then a proper prefix of the text of one line more
   abbrev pub AreBrokenOff : Point → List (List ℕ) → List ℕ → Option (List ℕ) → Option (List ℕ) → Type 0
   AreBrokenOff p lines line old new =
       AreShort lines × (length line ≤ 1024) × (added : List Added) × AreAdded p lines added
       × (mid : Option (List ℕ)) × Appends old mid (report_text added)
       × (a : Added) × IsAdded tells refusal (point_after p added) line a × TakesPrefix mid new a.text
 
-  -- what all lines of a script add is written, and this is held after them
+  -- the text of all lines of a script is written, and this holds of the state after them
   abbrev pub IsFollowed : State → List ℕ → Option (List ℕ) → Option (List ℕ) → (State → Type 0) → Type 0
   IsFollowed first script old new HoldsIt = (added : List Added) × AreAdded (begun first) (script_lines script) added
       × Appends old new (report_text added) × HoldsIt (point_after (begun first) added).state
 
-  -- what all lines of a script add is written, and this is true of the studies that they reported
+  -- the text of all lines of a script is written, and this is true of the studies that they reported
   abbrev pub AreListed : State → List ℕ → Option (List ℕ) → Option (List ℕ) → (List (Plainly × ℕ) → Type 0) → Type 0
   AreListed first script old new Lists = (added : List Added) × AreAdded (begun first) (script_lines script) added
       × Appends old new (report_text added) × Lists (studies_in added)
 
-  -- what the first n lines added is written, and the run stopped for this fault after them; where the writer failed, a prefix of what the next
-  -- line adds is written too
+  -- the text of the first n lines is written, and the run stopped for this fault after them; if the writer failed, a prefix of the text of the next line
+  -- is written too
   abbrev pub StoppedAfter : Point → List (List ℕ) → ℕ → List Added → Option (List ℕ) → Option (List ℕ) → RunFault → Type 0
   StoppedAfter p lines n added old new WriteDevice =
       (mid : Option (List ℕ)) × Appends old mid (report_text added)
@@ -85,18 +85,18 @@ module _ (tells : Plainly → ℕ → List ℕ → Type 0) (refusal : ℕ → Li
       × AreAdded (begun first) (take n (script_lines script)) added
       × StoppedAfter (begun first) (script_lines script) n added old new fault × Lists (studies_in added)
 
-  -- what is held at the beginning, the bytes of a script, what the reader has left of them, what the writer had and has, and the answer
+  -- the state at the beginning, the bytes of a script, what the reader has left of them, what the writer had and has, and the result
   abbrev pub Outcome : State → List ℕ → Option (List ℕ) → Option (List ℕ) → Option (List ℕ) → Result Summary RunFault → Type 0
   Outcome first script left old new (Ok summary) =
       (length (script_lines script) ≤ 100000) × AreShort (script_lines script)
       × (added : List Added) × AreAdded (begun first) (script_lines script) added × Appends old new (report_text added)
       × (summary.lines ≡ length (script_lines script)) × (summary.refused ≡ refusals added)
-  -- exactly the lines whose ends were read are told
+  -- exactly the lines whose ends were read are reported
   Outcome first script left old new (Err ReadDevice) = (n : ℕ) × (n ≤ 100000) × (n ≤ length (script_lines script))
       × GaveFeeds (Some script) left n
       × (rest : List ℕ) × (drop n (script_lines script) ≡ script_lines rest) × GaveFeeds (Some rest) left 0
       × AreTold (begun first) (take n (script_lines script)) old new
-  -- where the writer failed, the lines after the one whose text it broke off are left
+  -- if the writer failed, the lines after the one whose text it broke off are left
   Outcome first script left old new (Err WriteDevice) =
       (n : ℕ) × (n < 100000) × GaveFeeds (Some script) left (n + 1) × AreLeft left (drop (n + 1) (script_lines script))
       × IsSomeAnd (slice_get (script_lines script) n) (λ line. AreBrokenOff (begun first) (take n (script_lines script)) line old new)
@@ -105,12 +105,12 @@ module _ (tells : Plainly → ℕ → List ℕ → Type 0) (refusal : ℕ → Li
       × AreTold (begun first) (take (n - 1) (script_lines script)) old new
   Outcome first script left old new (Err TooManyLines) =
       (100000 < length (script_lines script)) × AreTold (begun first) (take 100000 (script_lines script)) old new
-  -- of the line for which there is no memory nothing is written
+  -- nothing is written for the line for which there is no memory
   Outcome first script left old new (Err OutOfMemory) = (n : ℕ) × (n ≤ 100000) × (n ≤ length (script_lines script))
       × AreTold (begun first) (take n (script_lines script)) old new
 
--- The same without what is told, whatever is held: the bytes of a script, what the reader has left of them, and the answer. Memory may fail
--- at any line.
+-- The same without what is reported, whatever the state: the bytes of a script, what the reader has left of them, and the result. Memory may fail at any
+-- line.
 abbrev pub Shape : List ℕ → Option (List ℕ) → Result Summary RunFault → Type 0
 Shape script left (Ok summary) = ScriptShape script left (Ok summary)
 Shape script left (Err ReadDevice) = ScriptShape script left (Err ReadDevice)

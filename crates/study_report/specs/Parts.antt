@@ -1,4 +1,4 @@
--- What a report writes, whatever is held and whatever its tables say.
+-- What a report writes, whatever the state and its tables.
 use Rattle.std.specs.Prelude.{◌≡◌, ◌⊎◌, ℕ, suc, ◌+◌, ◌-◌, ◌≤◌, Bool, true, false, List, [], ◌∷◌, length, take}
 use Rattle.std.specs.Prelude.{Option, Some, Result, Ok, Err, sum_by, if◌then◌else◌}
 use Rattle.std.specs.List.{flat_map}
@@ -17,7 +17,7 @@ use Rattle.study_report.specs.declared.told.Told.{Told}
 use Rattle.study_report.specs.declared.told.Told.TheVariants.{Nothing, Study as AStudy, Refusal as ARefusal}
 use Rattle.study_report.specs.Told.{kind_in, study_count, refusal_count}
 
--- what is written for a line, and what that reports
+-- the text written for a line, and what the line reports
 pub record Part : Type 0 where
   pub text : List ℕ
   pub told : Told
@@ -31,7 +31,7 @@ study_part text = record { text = text; told = AStudy }
 abbrev pub parts_text : List Part → List ℕ
 parts_text parts = flat_map (λ part. part.text) parts
 
--- how many studies are reported, and how many lines are refused
+-- the numbers of reported studies and of refused lines
 abbrev pub part_studies : List Part → ℕ
 part_studies parts = sum_by (λ part. study_count part.told) parts
 
@@ -50,12 +50,12 @@ module _ (form : ℕ → List ℕ → Type 0) (refusal : ℕ → List ℕ → Li
   abbrev pub refused_part : ℕ → List ℕ → List ℕ → Part
   refused_part number line reply = record { text = refusal number line reply; told = ARefusal }
 
-  -- nothing where the script's reply is no error
+  -- an empty text if the script's reply is not an error
   abbrev pub checked_part : ℕ → List ℕ → Piece → Part
   checked_part number line piece = if piece.refused then refused_part number line piece.text else nothing_part
 
-  -- What is written for a line of this number, where the study that is reported next has that number: a `pgn` line reports a study, in the report's
-  -- form, or it is refused; another one reports nothing, or it is refused.
+  -- The text for a line of this number, if the next study to be reported has that number: a `pgn` line reports a study, in the report's form, or is
+  -- refused; any other line reports nothing, or is refused.
   abbrev pub IsPartAs : Kind → ℕ → ℕ → List ℕ → Part → Type 0
   IsPartAs PassedOver number next line part = part ≡ nothing_part
   IsPartAs NoClass number next line part = part ≡ refused_part number line (error_of (words_of NotAClass)).text
@@ -79,9 +79,9 @@ module _ (form : ℕ → List ℕ → Type 0) (refusal : ℕ → List ℕ → Li
   AreWritten lines old new count =
       (parts : List Part) × AreParts 0 0 lines parts × Appends old new (parts_text parts) × (count ≡ part_refusals parts)
 
-  -- What a report wrote, by the bytes of its script, what the reader has left of them, what the writer had and has, and the answer: a part for each
-  -- line that it read, of which so many are refusals as it counts. So it answers no refusal exactly where it wrote none. Where it stopped for the
-  -- writer or for memory, what it wrote is left open here.
+  -- What a report wrote, given the bytes of its script, what the reader has left of them, what the writer had and has, and the result: a part for each
+  -- line that it read, with as many refusals as it counts. So the result counts no refusal exactly if none was written. If it stopped for the writer or for
+  -- memory, what it wrote is left open here.
   abbrev pub Fits : List ℕ → Option (List ℕ) → Option (List ℕ) → Option (List ℕ) → Result Summary RunFault → Type 0
   Fits script left old new (Ok summary) = AreWritten (script_lines script) old new summary.refused
   Fits script left old new (Err ReadDevice) =

@@ -19,13 +19,13 @@ use Rattle.study_report.specs.declared.told.Place.{Place}
 use Rattle.study_report.specs.declared.told.Told.{Told}
 use Rattle.study_report.specs.declared.told.Told.TheVariants.{Nothing, Study as AStudy, Refusal as ARefusal}
 
--- ---- what is done with a line
+-- ---- the kinds of lines
 
 abbrev pub class_kind : Option Class → Kind
 class_kind None = NoClass
 class_kind (Some c) = PassedOver
 
--- a line of a table is passed over, or has no class; a `pgn` line reports a study
+-- a line of a table is skipped, or is refused if there is no such class; a `pgn` line reports a study
 abbrev pub kind_in : Asks → Kind
 kind_in (Ok (Some (table_command word name))) = class_kind (class_told name)
 kind_in (Ok (Some pgn)) = Study
@@ -33,17 +33,17 @@ kind_in _ = Checked
 
 -- ---- what a line adds
 
--- between two lines: what the script holds, how many lines were read, and how many studies were reported
+-- between two lines: the state of the script, the number of lines read, and the number of studies reported
 pub record Point : Type 0 where
   pub state : State
   pub lines : ℕ
   pub studies : ℕ
 
--- the place of the line that is read next
+-- the place of the next line
 abbrev pub IsAt : Point → Place → Type 0
 IsAt p at = (at.line ≡ suc p.lines) × (at.studies ≡ p.studies)
 
--- the text that a line adds, where the report is after it, and what it told
+-- the text that a line adds, the point after it, and what it reported
 pub record Added : Type 0 where
   pub text : List ℕ
   pub after : Point
@@ -59,7 +59,7 @@ refusal_count Nothing = 0
 refusal_count AStudy = 0
 refusal_count ARefusal = 1
 
--- a line more, after which the script holds this state
+-- a further line, after which the script has this state
 abbrev pub nothing_added : Point → State → Added
 nothing_added p s = record { text = []; after = record { state = s; lines = suc p.lines; studies = p.studies }; told = Nothing }
 
@@ -67,18 +67,18 @@ nothing_added p s = record { text = []; after = record { state = s; lines = suc 
 abbrev pub study_added : Point → State → List ℕ → Added
 study_added p s text = record { text = text; after = record { state = s; lines = suc p.lines; studies = suc p.studies }; told = AStudy }
 
--- Why a value that a position leads to cannot be read, by which classes are held, whether tables are read by pages, and how tables may fail:
--- of a class that the position needs there is no table, or tables are read by pages and one of such a class may fail so.
+-- Why the value of a position that is reached cannot be read, given which classes are loaded, whether tables are read by pages, and how tables may fail:
+-- there is no table for a class that the position needs, or tables are read by pages and one of such a class may fail this way.
 abbrev pub IsUntoldBy : (Class → Bool) → Bool → (Class → SourceFault → Type 0) → Position → ProbeFault → Type 0
 IsUntoldBy held paged may p (NoTable c) = (held c ≡ false) × NeedsClass p c
 IsUntoldBy held paged may p (TableRead f) = (paged ≡ true) × (c : Class) × NeedsClass p c × may c f
 IsUntoldBy held paged may p (PageDamaged c n) = ⊥
 
--- the same, where the script holds this state
+-- the same in this state of the script
 abbrev pub IsUntoldIn : State → Position → ProbeFault → Type 0
 IsUntoldIn s p fault = IsUntoldBy (is_among s.classes) s.paged (λ c f. s.shelf.faults c f ≡ true) p fault
 
--- why a study is left out: for want of memory, or a value that its start leads to cannot be read
+-- why a study is refused: want of memory, or a value reached from its start cannot be read
 abbrev pub IsLeftOut : State → Plainly → Refusal → Type 0
 IsLeftOut s plain why =
     (why ≡ OutOfMemory) ⊎ ((fault : ProbeFault) × IsUntoldIn s plain.start.position fault × (why ≡ of_probe fault))
@@ -88,13 +88,13 @@ lacks_study empty = true
 lacks_study (start s) = true
 lacks_study (study plain) = false
 
--- the study in a document, with its number, where there is one
+-- the study in a document with its number, if there is one
 abbrev pub studies_on : Document → ℕ → List (Plainly × ℕ)
 studies_on empty number = []
 studies_on (start s) number = []
 studies_on (study plain) number = (plain, number) ∷ []
 
--- the study that a line reported, which is in this document
+-- the study that a line reported, if it is in this document
 abbrev pub listed_in : Told → Document → ℕ → List (Plainly × ℕ)
 listed_in Nothing document number = []
 listed_in AStudy document number = studies_on document number
@@ -106,7 +106,7 @@ studies_in [] = []
 studies_in (a ∷ more) = listed_in a.told a.after.state.document a.after.studies ++ studies_in more
 
 module _ (tells : Plainly → ℕ → List ℕ → Type 0) (refusal : ℕ → List ℕ → List ℕ → List ℕ) where
-  -- the line is refused: it takes no number of a study
+  -- the line is refused: it uses no number of a study
   abbrev pub refusal_added : Point → List ℕ → Reply → Added
   refusal_added p line reply = record {
     text = refusal (suc p.lines) line reply.text;
@@ -114,13 +114,13 @@ module _ (tells : Plainly → ℕ → List ℕ → Type 0) (refusal : ℕ → Li
     told = ARefusal;
   }
 
-  -- the study that the state holds is told, or it is left out and the line is refused
+  -- the study of the state is reported, or the line is refused
   abbrev pub IsStudyTold : Point → State → List ℕ → Added → Type 0
   IsStudyTold p s line added =
       ((plain : Plainly) × (text : List ℕ) × (s.document ≡ study plain) × tells plain (suc p.studies) text × (added ≡ study_added p s text))
       ⊎ ((plain : Plainly) × (why : Refusal) × (s.document ≡ study plain) × IsLeftOut s plain why × (added ≡ refusal_added p line (refused s why)))
 
-  -- after the script's reply to a `pgn` line, and to another line that is checked
+  -- after the script's reply to a `pgn` line, and to another line that is answered
   abbrev pub IsPgnAfter : Point → List ℕ → Reply → Bool → Added → Type 0
   IsPgnAfter p line reply true added = added ≡ refusal_added p line reply
   IsPgnAfter p line reply false added = IsStudyTold p reply.state line added
@@ -129,7 +129,7 @@ module _ (tells : Plainly → ℕ → List ℕ → Type 0) (refusal : ℕ → Li
   IsCheckedAfter p line reply true added = added ≡ refusal_added p line reply
   IsCheckedAfter p line reply false added = added ≡ nothing_added p reply.state
 
-  -- by what is done with it; a report keeps studies apart, so that no line behind a refused `position` edits the study before
+  -- by its kind; a report keeps studies apart, so that no line after a refused `position` edits the study before
   abbrev pub IsAddedAs : Kind → Point → List ℕ → Added → Type 0
   IsAddedAs PassedOver p line added = added ≡ nothing_added p p.state
   IsAddedAs NoClass p line added = added ≡ refusal_added p line (refused p.state NotAClass)

@@ -1,4 +1,4 @@
--- What a line leaves behind.
+-- The effect of a line.
 use Rattle.std.specs.Prelude.{◌≡◌, ℕ, Bool, true, false, List, Option}
 use Rattle.std.specs.Io.KnownBytes.{Appends}
 use Rattle.study_text.specs.Taken.{TakesPrefix}
@@ -11,27 +11,27 @@ use Rattle.study_script.specs.Replies.{Reply, IsReplyIn}
 use Rattle.study_report.specs.declared.told.Told.{Told}
 use Rattle.study_report.specs.Told.{Added}
 
--- no class's file has to be right: a report opens none
+-- no class's file has to be right, since a report opens none
 abbrev pub none_trusted : Class → Bool
 none_trusted c = false
 
--- a line with the property added its text, what is held after it is its state, and this was reported
+-- a line with the property added its text, the state after it is its state, and this was reported
 abbrev pub Adds : (Added → Type 0) → (State → Type 0) → Option (List ℕ) → Option (List ℕ) → Told → Type 0
 Adds IsIt HoldsIt old new told = (added : Added) × IsIt added × Appends old new added.text × HoldsIt added.after.state × (told ≡ added.told)
 
--- the run stops within the text: the writer failed and took a prefix of it, or there is no memory and nothing of it is written
+-- the run stops within the text: the writer failed and took a prefix of it, or there is no memory and nothing is written
 abbrev pub StopsIn : List ℕ → Option (List ℕ) → Option (List ℕ) → RunFault → Type 0
 StopsIn text old new WriteDevice = TakesPrefix old new text
 StopsIn text old new OutOfMemory = new ≡ old
 StopsIn text old new _ = ⊥
 
--- the run stops within what a line with the property adds
+-- the run stops within the text of a line with the property
 abbrev pub Stops : (Added → Type 0) → Option (List ℕ) → Option (List ℕ) → RunFault → Type 0
 Stops IsIt old new WriteDevice = (added : Added) × IsIt added × TakesPrefix old new added.text
 Stops IsIt old new OutOfMemory = new ≡ old
 Stops IsIt old new _ = ⊥
 
--- the study in a document is told as the one of this number, whole or in part; without a study nothing is
+-- the text of the study in a document, with this number, is appended; without a study nothing is
 abbrev pub IsSection : (Plainly → ℕ → List ℕ → Type 0) → Document → ℕ → Option (List ℕ) → Option (List ℕ) → Type 0
 IsSection tells empty number old new = new ≡ old
 IsSection tells (start s) number old new = new ≡ old
@@ -42,7 +42,7 @@ IsSectionPart tells empty number old new = ⊥
 IsSectionPart tells (start s) number old new = ⊥
 IsSectionPart tells (study plain) number old new = (text : List ℕ) × tells plain number text × TakesPrefix old new text
 
--- these bytes are the text of the reply to a line, what is held after it is its state, and the line was refused as it says
+-- these bytes are the text of the reply to a line, the state after it is that of the reply, and the line was refused if the reply says so
 abbrev pub IsReplied : State → List ℕ → (State → Type 0) → List ℕ → Bool → Type 0
 IsReplied s line HoldsIt bytes was_refused = (o : Outside) × (reply : Reply) × IsReplyIn true s line o reply × (bytes ≡ reply.text)
     × HoldsIt reply.state × (was_refused ≡ reply.refused)

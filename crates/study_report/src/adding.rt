@@ -33,7 +33,7 @@ struct Replied<'a, A: Allocator> {
     refused: bool,
 }
 
-/// Answers a line as a script does where studies are kept apart.
+/// Answers a line as a script does that keeps studies apart.
 fn reply_to<'a, 's, S: TableStore, A: Allocator>(
     session: &mut Session<'a, 's, S, A>,
     line: &[u8],
@@ -55,7 +55,7 @@ fn reply_to<'a, 's, S: TableStore, A: Allocator>(
     }
 }
 
-/// Tells a refused line.
+/// Reports a refused line.
 fn add_refusal<'a, A: Allocator, W: Write, T: Report>(
     alloc: &'a A,
     report: &mut T,
@@ -77,7 +77,7 @@ fn add_refusal<'a, A: Allocator, W: Write, T: Report>(
     }
 }
 
-/// Tells a line that the report itself refuses.
+/// Reports a line that the report itself refuses.
 fn refuse_line<'a, A: Allocator, W: Write, T: Report>(
     alloc: &'a A,
     report: &mut T,
@@ -135,7 +135,7 @@ fn add_checked<'a, 's, S: TableStore, A: Allocator, W: Write, T: Report>(
     Ok(Told::Nothing)
 }
 
-/// Tells of the study in the document, after so many studies; where it is left out, the line is refused.
+/// Reports the study in the document, after so many studies; if that cannot be done, the line is refused.
 fn tell_study<'a, P: PageSource, A: Allocator, W: Write, T: Report>(
     alloc: &'a A,
     document: &Document<'a, A>,
@@ -224,7 +224,7 @@ fn add_pgn<'a, 's, S: TableStore, A: Allocator, W: Write, T: Report>(
     )
 }
 
-/// What a line adds, the one at this place.
+/// Processes the line at this place.
 pub fn add_line<'a, 's, S: TableStore, A: Allocator, W: Write, T: Report>(
     session: &mut Session<'a, 's, S, A>,
     report: &mut T,

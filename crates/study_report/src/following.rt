@@ -20,8 +20,8 @@ use study_command::{Line, LineFault, read_byte};
 use study_script::{Document, RunFault, Session, Summary, TableStore, Tables};
 use study_tablefile::PageSource;
 
-/// Follows a script from a session's state, and reports its studies and its refused lines. The session keeps what the script leaves.
-/// Studies are kept apart, whatever the session's setting: a refused `position` leaves none that the lines behind it could edit.
+/// Follows a script from a session's state, and reports its studies and its refused lines. The session has the script's final state. Studies are kept
+/// apart, whatever the session's setting: after a refused `position` there is no study for the next lines to edit.
 pub fn follow<'a, 's, R: Read, W: Write, S: TableStore, A: Allocator, T: Report>(
     line: &mut Line<'_, A>,
     script: &mut R,
@@ -113,7 +113,7 @@ pub fn follow_script<'a, R: Read, W: Write, P: PageSource, A: Allocator, T: Repo
     follow_over(alloc, script, out, report, tables, &mut store)
 }
 
-/// The same over a store, of which no file is opened: what is known of its files says for which faults these tables may not be read.
+/// The same over a store, of which no file is opened; the files known to it determine with which faults these tables may fail.
 pub fn follow_over<'a, R: Read, W: Write, S: TableStore, A: Allocator, T: Report>(
     alloc: &'a A,
     script: &mut R,

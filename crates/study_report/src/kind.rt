@@ -1,4 +1,4 @@
-//! What a report does with a line.
+//! The kinds of lines in a report.
 ghost use Rattle.std.specs.Prelude.{◌≡◌};
 ghost use Rattle.study_command.specs.Parser.{command_of};
 ghost use Rattle.study_script.specs.Replies.{class_told};
@@ -7,12 +7,12 @@ ghost use Rattle.study_report.specs.Told.{kind_in, class_kind};
 use study_command::{Command, read_command};
 use study_material::Class;
 
-/// What a report does with a line, by its form alone.
+/// The kind of a line, by its form alone.
 #[derive(Clone, Copy, Debug, PartialEq, Eq)]
 pub enum Kind {
-    /// It is of a table, and is passed over.
+    /// It is of a table, and is skipped.
     PassedOver,
-    /// It is of a table of no class, and is refused.
+    /// It is of a table of an unknown class, and is refused.
     NoClass,
     /// It is answered, and reports the study if it is accepted.
     Study,
@@ -20,7 +20,7 @@ pub enum Kind {
     Checked,
 }
 
-/// What a report does with the line.
+/// The kind of the line.
 pub fn kind_of(line: &[u8]) -> Kind
     ensures { result ≡ kind_in (command_of line.now) }
 {

@@ -1,9 +1,8 @@
 //! A report of the studies of a script.
 //!
-//! `follow` goes through a script as studybench does and hands the study of each accepted `pgn` line to a `Report`, and each refused line
-//! in its place. Lines of tables are skipped: the tables are those that are loaded before the first line. `Lines` writes facts as
-//! lines of plain text. `follow_script` takes the tables, and needs no files;
-//! `follow_over` takes a store beside them, of which it opens none.
+//! `follow` goes through a script as studybench does and passes the study of each accepted `pgn` line to a `Report`, and each refused line in its
+//! place. Lines of tables are skipped: the tables are those that are loaded before the first line. `Lines` writes facts as lines of plain text.
+//! `follow_script` takes the tables, and needs no files; `follow_over` also takes a store, of which it opens no file.
 #![tactic(auto)]
 
 mod adding;

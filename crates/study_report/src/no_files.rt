@@ -1,4 +1,4 @@
-//! A store without files, of a report whose tables are held before its first line.
+//! A store without files, for a report whose tables are loaded before its first line.
 ghost use Rattle.std.specs.Prelude.{None, true};
 
 use std::io::{Empty, Sink};
@@ -6,21 +6,21 @@ use study_material::Class;
 use study_script::{StoreFault, TableStore};
 use study_tablefile::PageSource;
 
-/// No file of any class, for tables that are read from such sources.
+/// A store without a file of any class, for tables that are read from such sources.
 #[derive(Drop)]
 pub struct NoFiles<P: PageSource> {
     source: Option<P>,
 }
 
 impl<P: PageSource> NoFiles<P> {
-    /// A store that has no file of any class.
-    /// No contract: what its trait says of it holds of each value of the type.
+    /// A store without a file of any class.
+    /// No contract: the statements of its trait are true of each value of the type.
     pub fn new() -> Self {
         NoFiles { source: None }
     }
 }
 
-// A report opens no file, so nothing need be known of any.
+// A report opens no file, so nothing has to be known of any.
 impl<P: PageSource> TableStore for NoFiles<P> {
     type Reader = Empty;
 

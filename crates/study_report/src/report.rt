@@ -1,4 +1,4 @@
-//! What a report writes.
+//! The forms of a report.
 ghost use Rattle.std.specs.Prelude.{◌≡◌, ℕ, List, [], ◌∷◌, ◌++◌, Err, OnOk, OnErr};
 ghost use Rattle.std.specs.Io.KnownBytes.{Appends};
 ghost use Rattle.study_values.specs.declared.values.ProbeFault.{ProbeFault as AProbeFault};
@@ -37,21 +37,21 @@ impl From<DeviceFailed> for NotTold {
     }
 }
 
-/// What a report writes of a study, and of a line that is refused.
+/// The text of a report for a study, and for a refused line.
 pub trait Report {
-    /// The text reports the study, as the one of this number.
+    /// The text reports the study of this number.
     ghost tells: { Plainly → ℕ → List ℕ → Type 0 };
 
-    /// Of what form each text of a study is, the one of this number, whatever its values are.
+    /// The form of each text for the study of this number, whatever its values are.
     ghost form: { ℕ → List ℕ → Type 0 };
 
     /// The report of a refused line: its number among all lines, its bytes, and the script's reply to it.
     ghost refusal: { ℕ → List ℕ → List ℕ → List ℕ };
 
-    /// What the report keeps for its end is of these studies, each with its number, in the order in which they were reported.
+    /// The summary that the report keeps for its end lists these studies, each with its number, in the order in which they were reported.
     ghost lists: { Self → List (Plainly × ℕ) → Type 0 };
 
-    /// Reports a study, the one of this number. Nothing is written before its last value was probed.
+    /// Reports the study of this number. Nothing is written before its last value was probed.
     fn add_study<'a, 'b, A: Allocator, B: Allocator, V: Values, W: Write>(
         &mut self,
         alloc: &'a A,
@@ -73,7 +73,7 @@ pub trait Report {
         ensures asked { HasReviewed V.held (within (marked bench.now).start.position V.gives)
             V.may_fail V.asked_of V.failed_of V.is_honest values.old result values.new };
 
-    /// Tells of a refused line: its number, its bytes, and the script's reply to it.
+    /// Reports a refused line: its number, its bytes, and the script's reply to it.
     fn add_refusal<'a, A: Allocator, W: Write>(
         &mut self,
         alloc: &'a A,

@@ -1,4 +1,4 @@
-//! What an accepted `pgn` line adds.
+//! The section of an accepted `pgn` line.
 ghost use Rattle.std.specs.Prelude.{◌≡◌, ℕ, false, List, [], ◌∷◌, ◌++◌, Err, OnOk, OnErr};
 ghost use Rattle.std.specs.Io.KnownBytes.{Appends};
 ghost use Rattle.study_material.specs.declared.class.Class.{Class as AClass};
@@ -22,7 +22,7 @@ use study_script::{Document, Tables};
 use study_tablefile::PageSource;
 use study_values::Values;
 
-/// Tells of the study on the bench, by whole tables or by pages.
+/// Reports the study on the bench, by whole tables or by pages.
 pub fn add_study<'a, P: PageSource, A: Allocator, W: Write, T: Report>(
     alloc: &'a A,
     bench: &Bench<'a, A>,
@@ -55,7 +55,7 @@ pub fn add_study<'a, P: PageSource, A: Allocator, W: Write, T: Report>(
     }
 }
 
-/// Tells of the study in the document.
+/// Reports the study in the document.
 pub fn add_section<'a, P: PageSource, A: Allocator, W: Write, T: Report>(
     alloc: &'a A,
     document: &Document<'a, A>,

@@ -1,15 +1,15 @@
-//! Where a report is, and what a line added to it.
+//! The position in a report, and the outcome of one line.
 ghost use Rattle.std.specs.Prelude.{◌≡◌};
 ghost use Rattle.study_report.specs.Told.{study_count, refusal_count};
 
-/// The number of a line, and how many studies were reported before it.
+/// The number of a line, and the number of studies reported before it.
 #[derive(Clone, Copy, Debug, PartialEq, Eq)]
 pub struct Place {
     pub line: u32,
     pub studies: u32,
 }
 
-/// What a line added to a report.
+/// The outcome of one line.
 #[derive(Clone, Copy, Debug, PartialEq, Eq)]
 pub enum Told {
     Nothing,
@@ -18,7 +18,7 @@ pub enum Told {
 }
 
 impl Told {
-    /// How many studies were reported: one, or none.
+    /// The number of studies reported: one or zero.
     pub fn studies(self) -> u32
         ensures { result ≡ study_count self }
     {
@@ -28,7 +28,7 @@ impl Told {
         }
     }
 
-    /// How many lines were refused: one, or none.
+    /// The number of lines refused: one or zero.
     pub fn refusals(self) -> u32
         ensures { result ≡ refusal_count self }
     {

@@ -1,4 +1,4 @@
--- What the program leaves behind.
+-- The outcome of the program.
 use Rattle.std.specs.Prelude.{◌≡◌, ℕ, ◌⊎◌, List, Option, Result, Err, IfSome}
 use Rattle.std.specs.Io.KnownBytes.{Keeps}
 use Rattle.study_script.specs.declared.running.Summary.{Summary}
@@ -19,14 +19,14 @@ FormShape Lines script left answer = Shape script left answer
 FormShape Pages script left answer = FileShape script left answer
 FormShape Sheet script left answer = FileShape script left answer
 
--- what it writes, by what the writer had and has: reviews and refusals, or the entries and refusals of a file of pages, or the places and
--- refusals of a sheet
+-- what it writes, given what the writer had and has: reviews and refusals, or the entries and refusals of a file of pages, or the places and refusals of a
+-- sheet
 abbrev pub FormFits : Form → List ℕ → Option (List ℕ) → Option (List ℕ) → Option (List ℕ) → Result Summary RunFault → Type 0
 FormFits Lines script left old new answer = Fits IsReviewForm (λ number line reply. refusal_line number reply) script left old new answer
 FormFits Pages script left old new answer = ((answer ≡ Err OutOfMemory) × (new ≡ old)) ⊎ FileFits script left old new answer
 FormFits Sheet script left old new answer = ((answer ≡ Err OutOfMemory) × (new ≡ old)) ⊎ SheetFits script left old new answer
 
--- a report in this form over these bytes answered so
+-- the result of a report in this form over these bytes
 abbrev pub HasReported : Form → Option (List ℕ) → Option (List ℕ) → Option (List ℕ) → Option (List ℕ) → Result Summary RunFault → Type 0
 HasReported form script left old new answer = IfSome script (λ bytes. FormShape form bytes left answer × FormFits form bytes left old new answer)
 
@@ -34,7 +34,7 @@ HasReported form script left old new answer = IfSome script (λ bytes. FormShape
 abbrev pub IsReported : Form → Option (List ℕ) → Option (List ℕ) → Option (List ℕ) → Option (List ℕ) → Result Summary RunFault → Type 0
 IsReported form script left old new answer = (written : Option (List ℕ)) × HasReported form script left old written answer × Keeps written new
 
--- The exit status of a run, or it ends as one whose writer failed, where the last text stays in a buffer. That it ends with 3 and has read nothing,
--- for want of memory, no clause excludes: that is for tests.
+-- The exit status of a run, or it ends as one whose writer failed, if the last text stays in a buffer. No clause excludes that it ends with 3 and has read
+-- nothing, for want of memory: tests do.
 abbrev pub EndsBy : (Result Summary RunFault → Type 0) → ℕ → Type 0
 EndsBy Ran status = (ran answer : Result Summary RunFault) × Ran ran × ((answer ≡ ran) ⊎ (answer ≡ Err WriteDevice)) × (status ≡ status_told answer)

@@ -1,7 +1,7 @@
 //! The program studyreport as a library: its command line, the tables of a folder, the report over them, and the exit status.
 //!
-//! `studyreport` is all that the program does. `report_script` does the same over whatever files and streams, so that tests see the exit
-//! status and what is written to standard error.
+//! `studyreport` is the whole program. `report_script` does the same over any files and streams, so that tests see the exit status and what is
+//! written to standard error.
 #![tactic(auto)]
 
 mod options;

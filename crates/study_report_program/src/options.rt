@@ -29,9 +29,9 @@ pub enum Form {
 /// The options of the command line.
 #[derive(Clone, Copy, Debug)]
 pub struct Options<'a> {
-    /// The folder of the files of tables: never an empty text, of which the files would stand in the root folder.
+    /// The folder of the table files; never empty, since an empty name would mean the root folder.
     pub tables: &'a str,
-    /// How many pages of tables are kept: 1 to 4,096.
+    /// The number of pages kept in memory: 1 to 4,096.
     pub pages: u16,
     /// The form of the report.
     pub form: Form,
@@ -42,11 +42,10 @@ pub struct Options<'a> {
     ghost few: { pages ≤ 4096 },
 }
 
-/// Reads the words of the command line, of which the first is the program's name. `--help` and `--version` are answered as errors whose
-/// exit code is 0.
+/// Reads the words of the command line, the first of which is the program's name. `--help` and `--version` are reported as errors whose exit code is
+/// 0.
 ///
-/// No contract: clap has none on the words that it takes. The type proves that the folder has a name, and the range of pages; the tests
-/// tell the rest.
+/// No contract: clap has none on the words that it takes. The type proves that the folder has a name, and the range of pages; tests check the rest.
 pub fn read_words<'a>(alloc: Global, words: &'a [String]) -> Result<Options<'a>, Error> {
     let command = command(alloc)?;
     let matches = command.try_get_matches_from(words)?;
@@ -109,7 +108,7 @@ fn flag<'a>(alloc: Global, name: &'a str, help: &'a str) -> Arg<'a> {
         .help(help)
 }
 
-/// So many pages, where it is a number of pages that can be kept, else 1,024.
+/// The number of pages, if it is in range, else 1,024.
 fn pages_of(given: Option<u16>) -> u16
     ensures some { 1 ≤ result }
     ensures few { result ≤ 4096 }

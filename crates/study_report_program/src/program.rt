@@ -1,4 +1,4 @@
-//! What the program does, over the streams of its process or over any others.
+//! The program, over the streams of its process or over any others.
 ghost use Rattle.std.specs.Prelude.{◌≡◌, Bool};
 ghost use Rattle.clap.specs.Values.{kind_of};
 ghost use Rattle.study_program.specs.Status.{status_told, status_unread};
@@ -23,10 +23,10 @@ use study_sheet::follow_sheet;
 
 /// Reads the script from standard input and writes the report of each study to standard output as soon as its line is answered.
 ///
-/// The exit status is 0 where no line was refused, 1 where some line was, 2 where the command line was refused, and 3
-/// where the run stopped at a fault, whose name then goes to standard error.
+/// The exit status is 0 if no line was refused, 1 if some line was, 2 if the command line was refused, and 3 if the run stopped at a fault, whose
+/// name then goes to standard error.
 ///
-/// No contract: of the streams and the words of a process no clause can say what they hold. `report_script` has one.
+/// No contract: no clause can name the content of the streams and the words of a process. `report_script` has one.
 pub fn studyreport(rt: &HostRuntime) -> ExitCode {
     let words = match words_of(rt) {
         Ok(words) => words,
@@ -38,7 +38,7 @@ pub fn studyreport(rt: &HostRuntime) -> ExitCode {
     }
 }
 
-/// The words of the command line are not known.
+/// The words of the command line cannot be read.
 fn not_read(rt: &HostRuntime, error: &io::Error) -> u8 {
     if error.kind() == ErrorKind::OutOfMemory {
         return ended(&mut rt.stderr(), &Err(RunFault::OutOfMemory));
@@ -47,7 +47,7 @@ fn not_read(rt: &HostRuntime, error: &io::Error) -> u8 {
     2
 }
 
-/// Help, the version, or why the words are refused.
+/// Prints help, the version, or why the words are refused.
 fn answered(rt: &HostRuntime, error: &Error) -> u8
     ensures { (printed : Bool) × (result ≡ status_unread (kind_of error.now) printed) }
 {
@@ -74,8 +74,8 @@ fn report_streams(rt: &HostRuntime, options: &Options<'_>) -> u8 {
     report_script(rt, &alloc, options, &mut script, &mut out, &mut errors)
 }
 
-/// Reports a script over the tables of a folder, reports on `errors` which files give no table and why the run stopped, if it did, and
-/// answers the exit status.
+/// Reports a script over the tables of a folder, reports on `errors` which files are not tables and why the run stopped, if it did, and returns the
+/// exit status.
 pub fn report_script<F: Files, A: Allocator, R: Read, W: Write, E: Write>(
     files: &F,
     alloc: &A,
@@ -104,7 +104,7 @@ fn ended<E: Write>(errors: &mut E, answer: &Result<Summary, RunFault>) -> u8
     status_of(answer)
 }
 
-/// Reports a script over the tables of a folder, and reports on `errors` which files give no table.
+/// Reports a script over the tables of a folder, and reports on `errors` which files are not tables.
 fn report_over_files<F: Files, A: Allocator, R: Read, W: Write, E: Write>(
     files: &F,
     alloc: &A,

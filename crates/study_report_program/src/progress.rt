@@ -1,4 +1,4 @@
-//! How far a report has come.
+//! The progress of a report.
 
 use crate::status::put_studies;
 use std::io::Write;

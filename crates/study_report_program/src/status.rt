@@ -9,7 +9,7 @@ use study_material::Class;
 use study_script::RunFault;
 use study_text::{DeviceFailed, write_text};
 
-/// Tells why a run stopped, in a line of its own: `studyreport: LineTooLong 3`.
+/// Reports why a run stopped, in a line of its own: `studyreport: LineTooLong 3`.
 ///
 /// No contract: `tools/report_faults.py` tests it.
 pub fn put_stop<W: Write>(out: &mut W, fault: RunFault) -> Result<(), DeviceFailed> {
@@ -29,7 +29,7 @@ fn put_too_long<W: Write>(out: &mut W, line: u32) -> Result<(), DeviceFailed> {
     write_text(out, b"\n")
 }
 
-/// Tells why the file of a class gives no table: `studyreport: KRK.dtm: HeaderDamaged`. The words end with a line feed.
+/// Reports why the file of a class is not a table: `studyreport: KRK.dtm: HeaderDamaged`. The words end with a line feed.
 pub fn put_file_fault<W: Write>(
     out: &mut W,
     class: Class,
@@ -41,7 +41,7 @@ pub fn put_file_fault<W: Write>(
     write_text(out, words)
 }
 
-/// Tells how many studies were printed, in a line of its own: `30 studies`.
+/// Reports how many studies were printed, in a line of its own: `30 studies`.
 pub fn put_studies<W: Write>(out: &mut W, count: u32) -> Result<(), DeviceFailed>
     ensures ok { OnOk result (Appends (W.contents out.old) (W.contents out.new) (decimal count ++ codes " studies\n")) }
     ensures err { OnErr result (TakesPrefix (W.contents out.old) (W.contents out.new) (decimal count ++ codes " studies\n")) }

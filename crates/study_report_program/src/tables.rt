@@ -12,7 +12,7 @@ use study_report::without_error;
 use study_script::{StoreFault, TableStore};
 use study_text::MemoryWriter;
 
-/// Why the file of a class gives no table.
+/// Why the file of a class is not a table.
 #[derive(Clone, Copy, Debug, PartialEq, Eq)]
 enum NoTable {
     NoFile,
@@ -58,7 +58,7 @@ fn tell_fault<A: Allocator, E: Write>(alloc: &A, errors: &mut E, class: Class, r
     }
 }
 
-/// Opens each table whose file is there, in the order of the class list, and reports the fault of each file that gives no table.
+/// Opens each table whose file exists, in the order of the class list, and reports the fault of each file that is not a table.
 ///
 /// No contract: `tools/report_faults.py` tests it.
 pub fn open_tables<'a, S: TableStore, A: Allocator, E: Write>(

@@ -1,4 +1,4 @@
--- What is found one after the other: each number of the range of which P holds, in order.
+-- The numbers found one after the other: each number of the range of which P holds, in order.
 use Rattle.std.proofs.Common.{◌≡◌, ℕ, ◌+◌, ◌<◌, ◌≤◌, zero, suc, Bool, true, false, List, [], ◌∷◌, length, inl, inr, ◌↔◌, ◌∙◌, arith, refl, sym, subst}
 use Rattle.std.specs.Prelude.{nat_lt, slice_index_or}
 use Rattle.std.specs.List.{All, AllPairs, Contains}

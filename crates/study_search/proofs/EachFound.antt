@@ -92,7 +92,7 @@ each-found law s p valid home side h = found-once law s p valid home side h
 
 -- ---- classes whose sides have the same men
 
--- where both sides have the same men the colours are not swapped to reach the class
+-- if both sides have the same men the colours are not swapped to reach the class
 like-unswapped : (l : Lists) → (ordered l).white ≡ (ordered l).black → is_exchanged l ≡ false
 like-unswapped l e =
     elim (compare_lists l) [ black_first f g ↦ absurd (clash l.white l.black (sym (same (is_exchanged l) f e)) f g) | white_first f g ↦ f | equal f g s ↦ f ]

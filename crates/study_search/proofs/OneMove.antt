@@ -1,4 +1,4 @@
--- What a position has by its only move, by the move that was found.
+-- Properties of a position by its only move.
 use Rattle.std.proofs.Common.{◌≡◌, Bool, true, false, List, Option, Some, None, Result, Ok, Err, IfOk, ◌↔◌, ◌⊎◌, inl, inr, refl, sym, ◌∙◌, subst}
 use Rattle.std.proofs.lemmas.Bool.{false≢true}
 use Rattle.study_board.specs.Position.{Position}
@@ -36,7 +36,7 @@ one-true A P one m b is e h = (
   (λ x. h.1 (subst P (sym (same-some m x.0 (sym e ∙ (is x.0).1 x.1))) x.2)),
 )
 
--- underpromotions to win, and else to draw
+-- a winning underpromotion, or else a drawing one
 pub either-first : (A B : Type 0) (b : Bool) → ((b ≡ true) ↔ A) → b ≡ true → (true ≡ true) ↔ (A ⊎ B)
 either-first A B b h e = ((λ t. inl (h.0 e)), (λ x. refl))
 
@@ -48,7 +48,7 @@ either-second A B b (Ok c) h e k = (
 )
 either-second A B b (Err f) h e k = tt
 
--- two that are wanted both
+-- both of two
 pub both-by : {E : Type 0} (A B : Type 0) (b : Bool) (r : Result Bool E) → ((b ≡ true) ↔ A) → b ≡ true
     → IfOk r (λ c. (c ≡ true) ↔ B) → IfOk r (λ c. (c ≡ true) ↔ (A × B))
 both-by A B b (Ok c) h e k = ((λ t. (h.0 e, k.0 t)), (λ x. k.1 x.1))
@@ -57,7 +57,7 @@ both-by A B b (Err f) h e k = tt
 pub not-first : (A B : Type 0) (b : Bool) → ((b ≡ true) ↔ A) → b ≡ false → (false ≡ true) ↔ (A × B)
 not-first A B b h e = ((λ f. absurd (false≢true f)), (λ x. absurd (false≢true (sym e ∙ h.1 x.0))))
 
--- some move of the list of the legal ones
+-- some legal move, from the list of legal moves
 pub some-legal : {E : Type 0} (P : Position → Type 0) (p : Position) (ms : List Move) (r : Result Bool E) → AreLegal p ms
     → IfOk r (λ b. (b ≡ true) ↔ SomeLeads P p ms) → IfOk r (λ b. (b ≡ true) ↔ ((m : Move) × IsLegal p m × P (after p m)))
 some-legal P p ms (Ok b) legal h = (

@@ -21,7 +21,7 @@ use Rattle.study_search.specs.Pairs.{counterpart, ComesFirst, IsOneOfTwo, OneOfT
 use Rattle.study_search.proofs.ThemeImages.{handed-image, value-image}
 use Rattle.study_search.proofs.EachFound.{colours-admitted}
 
--- ---- by what is computed
+-- ---- by the computed result
 
 pub first-drawn : (p q : Position) (b : Bool) → ((b ≡ true) ↔ IsDrawn p) → b ≡ true → (true ≡ true) ↔ ComesFirst p q
 first-drawn p q b h e = ((λ t. inl (h.0 e)), (λ x. refl))

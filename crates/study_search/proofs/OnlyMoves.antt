@@ -1,4 +1,4 @@
--- What holds, and how many only moves in a row there are, by values and by the list of the legal moves.
+-- The moves that hold, and the number of only moves in a row, by values and by the list of the legal moves.
 use Rattle.std.proofs.Common.{◌≡◌, ℕ, ◌-◌, ◌<◌, Bool, true, false, List, [], ◌∷◌, Option, Some, None, inl, inr, ◌⊎◌, Result, Ok, Err, IfOk, ◌↔◌, length, suc, zero, arith, refl, sym, ap, subst, ◌∙◌}
 use Rattle.std.specs.List.{Contains, AllPairs}
 use Rattle.std.specs.Prelude.{slice_index_or}
@@ -109,7 +109,7 @@ only-to o p m (x ∷ xs) (inr h) =
     go alone k zero l e holds = absurd (h.0 (subst (λ (y : Move). Holds o (after p y)) (sym e) holds))
     go alone k (suc i) l e holds = alone k (i, (let z : i < length xs = omega (arith, l) in z), e) holds
 
--- the moves before it are others
+-- the moves before it are other moves
 not-later : (x : Move) (xs : List Move) → AllPairs IsBefore (x ∷ xs) → (m : Move) → Contains xs m → m ≡ x → ⊥
 not-later x xs pairs m c e =
     let l = c.1 in
@@ -154,7 +154,7 @@ only-by o p ms r legal pairs g =
           (t m).1 (only-from o p m ms pairs c.0 c.1 c.2 y.holds (λ k d h. y.alone k ((legal k).0 d) h))),
     )) g
 
--- more than one in a row, where the position has the outcome by an only move
+-- more than one in a row, if the position has the outcome by an only move
 pub line-by : {E : Type 0} (o : Outcome) (n : ℕ) (p q : Position) (m : Move) (ms : List Move) (r : Result Bool E) → (n ≡ 0 → ⊥) → (n ≡ 1 → ⊥)
     → Has o p → IsOnlyMove o p m → q ≡ after p m → AreLegal q ms → IfOk r (λ b. (b ≡ true) ↔ SomeLeads (HasOnlyMoves o (n - 1)) q ms)
     → IfOk r (λ b. (b ≡ true) ↔ HasOnlyMoves o n p)
@@ -190,7 +190,7 @@ line-fewer o (suc n) p a = (a.0, (a.1.0, a.1.1, fewer (λ q. line-fewer o n q) a
     fewer less m (inl e) = absurd (omega (arith, e))
     fewer less m (inr y) = inr (y.0, y.1, less (after (after p m) y.0) y.2)
 
--- the key, where the position has the outcome or not
+-- the key, whether the position has the outcome or not
 none-is-some : (m : Move) → None ≡ Some m → ⊥
 none-is-some m e = cc
 

@@ -181,7 +181,7 @@ theme-image (theme.ZugzwangTry o) s p t h = (
 )
 theme-image (theme.MateIn n) s p t h = won-image s p t n h
 
--- ---- a passed square on which no legal move captures makes no difference
+-- ---- a passed square is irrelevant if no legal move captures on it
 
 value-along : (p q : Position) → HasSameValue p q → (v : Value) → IsValueOf p v → IsValueOf q v
 value-along p q h (values.Win n) i = (h.won n).0 i

@@ -1,4 +1,4 @@
--- Not part of any public contract: what some of the moves in a list lead to, and which of them alone holds.
+-- Not part of any public contract: some of the moves in a list, and the only one of them that holds.
 use Rattle.std.specs.Prelude.{◌≡◌, ◌⊎◌, List, [], ◌∷◌}
 use Rattle.study_board.specs.Position.{Position}
 use Rattle.study_moves.specs.declared.moves.Move.{Move}
@@ -11,7 +11,7 @@ abbrev pub SomeLeads : (Position → Type 0) → Position → List Move → Type
 SomeLeads P q [] = ⊥
 SomeLeads P q (m ∷ ms) = P (after q m) ⊎ SomeLeads P q ms
 
--- of these moves of p just m holds
+-- of these moves of p exactly m holds
 abbrev pub IsOnlyAmong : Outcome → Position → Move → List Move → Type 0
 IsOnlyAmong o p m [] = ⊥
 IsOnlyAmong o p m (k ∷ ks) =

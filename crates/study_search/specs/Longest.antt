@@ -14,7 +14,7 @@ longer None b = b
 longer (Some x) None = Some x
 longer (Some x) (Some y) = if nat_lt x y then Some y else Some x
 
--- in how many plies the side to move mates, by the value
+-- the number of plies in which the side to move mates, by the value
 abbrev pub mate_by : Value → Option ℕ
 mate_by (Win n) = Some n
 mate_by (Loss n) = None
@@ -27,7 +27,7 @@ MatesIn side k p = (same_side p.to_move side ≡ true) × IsWon p k
 abbrev pub MatesAt : Class → Side → ℕ → ℕ → Type 0
 MatesAt c side n k = (p : Position) × (position_numbered c n ≡ Some p) × MatesIn side k p
 
--- some position has this mate, and none a longer one; or there is none
+-- some position has this mate, and none a longer one; or no position has a mate
 abbrev pub IsLongest : Class → Side → Option ℕ → Type 0
 IsLongest c side longest = MatchOption longest
     ((n k : ℕ) → ¬ (MatesAt c side n k))

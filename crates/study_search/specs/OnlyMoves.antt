@@ -29,8 +29,8 @@ pub record IsOnlyMove (o : Outcome) (p : Position) (m : Move) : Type 0 where
 abbrev pub IsKey : Outcome → Position → Move → Type 0
 IsKey o p m = Has o p × IsOnlyMove o p m
 
--- The hero, who is to move, has the outcome, and the defender can make him find n only moves in a row: just one move
--- holds, and unless that is the last of them, some reply leads to where the hero has the outcome and has to find the rest.
+-- The hero, who is to move, has the outcome, and the defender can make him find n only moves in a row: exactly one move holds, and unless it is the last of
+-- them, some reply leads to a position in which the hero has the outcome and has to find the rest.
 abbrev pub HasOnlyMoves : Outcome → ℕ → Position → Type 0
 HasOnlyMoves o zero p = Has o p
 HasOnlyMoves o (suc n) p =

@@ -1,5 +1,5 @@
--- Where both sides have the same men a mutual zugzwang is there twice with White to move: as it is, and with the other side to move
--- and the colours swapped. One of the two is listed.
+-- If both sides have the same men a mutual zugzwang appears twice with White to move: as it is, and with the other side to move and the colours swapped.
+-- One of the two is listed.
 use Rattle.std.specs.Prelude.{◌≡◌, ◌⊎◌, ◌≤◌}
 use Rattle.study_board.specs.Position.{Position, IsValid}
 use Rattle.study_board.specs.Symmetry.{image}
@@ -16,12 +16,11 @@ counterpart p = image colours_swapped (handed_on p)
 abbrev pub ComesFirst : Position → Position → Type 0
 ComesFirst p q = IsDrawn p ⊎ (¬ (IsDrawn q) × (index_of p ≤ index_of q))
 
--- Of the two the one in which White, who is to move, draws, and wins where Black is to move; where both lose on the move, the one
--- with the lower number.
+-- Of the two the one in which White draws on the move, and wins if Black is to move; if both sides lose on the move, the one with the lower number.
 abbrev pub IsListedOfTwo : Position → Type 0
 IsListedOfTwo p = ComesFirst p (counterpart p)
 
--- of a mutual zugzwang and its counterpart one is listed, and where both are they have one number
+-- of a mutual zugzwang and its counterpart one is listed, and if both are they have the same number
 pub record IsOneOfTwo (p : Position) : Type 0 where
   pub some : IsListedOfTwo p ⊎ IsListedOfTwo (counterpart p)
   pub one : IsListedOfTwo p → IsListedOfTwo (counterpart p) → index_of p ≡ index_of (counterpart p)

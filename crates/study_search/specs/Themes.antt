@@ -24,20 +24,20 @@ abbrev pub is_underpromoted : Option Kind → Bool
 is_underpromoted None = false
 is_underpromoted (Some kind) = is_less_than_a_queen kind
 
--- just one move holds, and it promotes to a rook, a bishop or a knight
+-- exactly one move holds, and it promotes to a rook, a bishop or a knight
 abbrev pub Underpromotes : Outcome → Position → Type 0
 Underpromotes o p = (m : Move) × IsKey o p m × (is_underpromoted m.promoted ≡ true)
 
--- just one move holds, and it leads to a mutual zugzwang
+-- exactly one move holds, and it leads to a mutual zugzwang
 abbrev pub LeadsIntoZugzwang : Outcome → Position → Type 0
 LeadsIntoZugzwang o p = (m : Move) × IsKey o p m × IsZugzwang (after p m)
 
--- what is enough for the opponent to spoil the hero's outcome: a draw a win, and a win a draw
+-- the opponent's result that spoils the hero's: a draw spoils a win, a win spoils a draw
 abbrev pub spoiling : Outcome → Outcome
 spoiling Win = Draw
 spoiling Draw = Win
 
--- with the opponent to move, one reply alone spoils the outcome, and it leads to a mutual zugzwang with the hero to move
+-- with the opponent to move, exactly one reply spoils the outcome, and it leads to a mutual zugzwang with the hero to move
 abbrev pub FailsIntoZugzwang : Outcome → Position → Type 0
 FailsIntoZugzwang o q = (r : Move) × IsOnlyMove (spoiling o) q r × IsZugzwang (after q r)
 

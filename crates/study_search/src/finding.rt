@@ -12,7 +12,7 @@ use study_index::decode;
 use study_material::Class;
 use study_values::{ProbeFault, Values};
 
-/// What is looked for: the positions of a class that have a theme, with a side to move or with either.
+/// A search: the positions of a class that have a theme, with one side to move or with either.
 #[derive(Clone, Copy, Debug, PartialEq, Eq)]
 pub struct Search {
     pub class: Class,
@@ -20,7 +20,7 @@ pub struct Search {
     pub side: Option<Side>,
 }
 
-/// Whether positions with this side to move are looked for.
+/// Whether this side to move matches the search.
 pub fn is_for(wanted: Option<Side>, to_move: Side) -> bool
     ensures { result ≡ is_for wanted to_move }
 {
@@ -30,7 +30,7 @@ pub fn is_for(wanted: Option<Side>, to_move: Side) -> bool
     }
 }
 
-/// Whether the position is looked for.
+/// Whether the position matches the search.
 fn is_looked_for<V: Values>(
     p: &Position,
     search: &Search,
@@ -49,7 +49,7 @@ fn is_looked_for<V: Values>(
     Ok(false)
 }
 
-/// Whether the number is that of a position that is looked for.
+/// Whether the number is that of a matching position.
 fn is_found<V: Values>(search: &Search, number: u32, values: &mut V) -> Result<bool, ProbeFault>
     ensures game { V.is_honest values.old → IfOk result (λ b. (b ≡ true) ↔ IsFound search.now number) }
     ensures no_table { (c : AClass) → IsErrOf result (ProbeFault.NoTable c) → V.held values.old c ≡ false }
@@ -63,7 +63,7 @@ fn is_found<V: Values>(search: &Search, number: u32, values: &mut V) -> Result<b
     }
 }
 
-/// The first number from `from` on and below `to` of a position that is looked for.
+/// The first number from `from` on and below `to` of a matching position.
 pub fn next_found<V: Values>(
     search: &Search,
     from: u32,
@@ -87,7 +87,7 @@ pub fn next_found<V: Values>(
     Ok(None)
 }
 
-/// How many only moves in a row the defender can make the hero find, up to a limit, if the hero has the outcome.
+/// The number of only moves in a row that the defender can make the hero find, up to a limit; `None` if the hero lacks the outcome.
 pub fn most_only_moves<V: Values>(
     p: &Position,
     outcome: Outcome,

@@ -11,24 +11,24 @@ pub fn each_is_found_once()
     bare_agrees();
 }
 
-/// In a class whose sides have the same men one of the two colour images of each position is found, with White to move.
+/// If the sides of a class have the same men, exactly one of the two colour images of each position is found, with White to move.
 pub fn one_of_two_images_is_found()
     ensures { OneOfTwoImagesIsFound }
 {
     bare_agrees();
 }
 
-/// What `next_found` finds when it is called again and again are the numbers of all positions that are looked for.
+/// The numbers that `next_found` finds when it is called again and again are those of all matching positions.
 pub fn next_founds_are_all()
     ensures { NextFoundsAreAll }
 {}
 
-/// Where the hero has to find so many only moves in a row he has to find fewer, too.
+/// If the hero has to find so many only moves in a row, he has to find any smaller number, too.
 pub fn fewer_only_moves()
     ensures { FewerOnlyMoves }
 {}
 
-/// Where both sides have the same men, of the two placements of a mutual zugzwang with White to move one is listed.
+/// If both sides have the same men, one of the two placements of a mutual zugzwang with White to move is listed.
 pub fn one_of_two_is_listed()
     ensures { OneOfTwoIsListed }
 {

@@ -1,9 +1,9 @@
 //! The positions of a class of material that have a theme: each once up to symmetry, none missing, none wrong.
 //!
-//! `has_theme` says whether a position has a theme, by the values of positions; `next_found` finds the next number of a class whose
-//! position has one, so that a list is printed, counted or stopped as it is found, and takes no memory. The public functions of `laws`
-//! prove what such a list is worth: over honest values its numbers are those of the game's positions with the theme, and each
-//! position of the class that has the theme has an image among them, exactly one.
+//! `has_theme` evaluates whether a position has a theme, by the values of positions; `next_found` finds the next number of a class whose position has
+//! one, so that a list is printed, counted or stopped as it is found, and takes no memory. The public functions of `laws` prove that such a list is
+//! complete: over honest values its numbers are those of the game's positions with the theme, and for each position of the class that has the theme
+//! exactly one image is among them.
 #![tactic(auto)]
 
 mod finding;

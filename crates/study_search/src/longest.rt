@@ -12,7 +12,7 @@ use study_material::Class;
 use study_moves::values_are_unique;
 use study_values::{ProbeFault, Value, Values, cells};
 
-/// The longer of two mates, of those that there are.
+/// The longer of two mates; `None` if there is neither.
 fn longer(a: Option<u8>, b: Option<u8>) -> Option<u8>
     ensures { result ≡ longer a b }
 {
@@ -23,7 +23,7 @@ fn longer(a: Option<u8>, b: Option<u8>) -> Option<u8>
     }
 }
 
-/// In how many plies the side to move mates, by the value.
+/// The number of plies in which the side to move mates, by the value.
 fn mate_by(value: Value) -> Option<u8>
     ensures { result ≡ mate_by value }
 {
@@ -34,7 +34,7 @@ fn mate_by(value: Value) -> Option<u8>
     }
 }
 
-/// In how many plies the side to move mates, if it does.
+/// The number of plies in which the side to move mates, if it does.
 pub fn mate_of<V: Values>(p: &Position, values: &mut V) -> Result<Option<u8>, ProbeFault>
     ensures game { V.is_honest values.old → IfOk result (λ mate. (k : ℕ) → (mate ≡ Some k) ↔ IsWon p.now k) }
     ensures no_table { (c : AClass) → IsErrOf result (ProbeFault.NoTable c) → V.held values.old c ≡ false }
@@ -49,7 +49,7 @@ pub fn mate_of<V: Values>(p: &Position, values: &mut V) -> Result<Option<u8>, Pr
     }
 }
 
-/// In how many plies the side mates, if it is to move and does.
+/// The number of plies in which the side mates, if it is to move and does.
 fn mate_for<V: Values>(p: &Position, side: Side, values: &mut V) -> Result<Option<u8>, ProbeFault>
     ensures game { V.is_honest values.old → IfOk result (λ mate. (k : ℕ) → (mate ≡ Some k) ↔ MatesIn side k p.now) }
     ensures no_table { (c : AClass) → IsErrOf result (ProbeFault.NoTable c) → V.held values.old c ≡ false }
@@ -64,7 +64,7 @@ fn mate_for<V: Values>(p: &Position, side: Side, values: &mut V) -> Result<Optio
     Ok(None)
 }
 
-/// In how many plies the side mates in the number's position, if it is to move there and does.
+/// The number of plies in which the side mates in the number's position, if it is to move and does.
 fn mate_at<V: Values>(
     class: Class,
     side: Side,
@@ -83,7 +83,7 @@ fn mate_at<V: Values>(
     }
 }
 
-/// In how many plies the side mates at the latest, of the positions of the class with this side to move in which it does.
+/// The longest mate, in plies, among the positions of the class with this side to move; `None` if the side mates in none.
 pub fn longest_mate<V: Values>(
     class: Class,
     side: Side,

@@ -1,4 +1,4 @@
-//! How many only moves in a row the defender can make the hero find, by the values of positions.
+//! The number of only moves in a row that the defender can make the hero find, by the values of positions.
 ghost use Rattle.std.specs.Prelude.{◌≡◌, ◌≤◌, ◌↔◌, Some, true, false, length, IfOk, IfErr, IfSome, IsErrOf};
 ghost use Rattle.std.specs.List.{All};
 ghost use Rattle.study_material.specs.declared.class.Class.{Class as AClass};
@@ -12,7 +12,7 @@ use study_board::Position;
 use study_moves::{MAX_MOVES, Move, legal_moves, played, values_are_unique};
 use study_values::{ProbeFault, Value, Values};
 
-/// What the hero has, who is to move: he wins, or he draws.
+/// The result of the hero, who is to move: he wins, or he draws.
 #[derive(Clone, Copy, Debug, PartialEq, Eq)]
 pub enum Outcome {
     Win,
@@ -102,7 +102,7 @@ fn some_holds<V: Values>(
     }
 }
 
-/// The one of these moves that holds, if just one does; it stops at the second.
+/// The only one of these moves that holds, if exactly one does; the search stops at the second.
 fn only_among<V: Values>(
     p: &Position,
     outcome: Outcome,
@@ -134,7 +134,7 @@ fn only_among<V: Values>(
     }
 }
 
-/// The legal move that holds, if just one does.
+/// The legal move that holds, if exactly one does.
 pub fn only_move<V: Values>(
     p: &Position,
     outcome: Outcome,
@@ -151,7 +151,7 @@ pub fn only_move<V: Values>(
     only_among(p, outcome, moves.as_slice(), values)
 }
 
-/// The one move that keeps the outcome of the side to move, if it has this outcome and just one move does.
+/// The only move that keeps the outcome, if the side to move has the outcome and exactly one move keeps it.
 pub fn key_move<V: Values>(
     p: &Position,
     outcome: Outcome,
@@ -171,7 +171,7 @@ pub fn key_move<V: Values>(
     }
 }
 
-/// Whether one of these replies leads to where the hero has to find n only moves in a row.
+/// Whether one of these replies leads to a position in which the hero has to find n only moves in a row.
 #[cycle(line)]
 fn some_reply_leads<V: Values>(
     q: &Position,

@@ -1,4 +1,4 @@
-//! Which of the two placements of a mutual zugzwang is listed where both sides have the same men.
+//! Which of the two placements of a mutual zugzwang is listed if both sides have the same men.
 ghost use Rattle.std.specs.Prelude.{◌≡◌, ◌↔◌, ◌≤◌, true, false, IfOk, IfErr, IsErrOf};
 ghost use Rattle.study_board.specs.Position.{IsValid};
 ghost use Rattle.study_material.specs.declared.class.Class.{Class as AClass};
@@ -37,7 +37,7 @@ fn has_lower_number<V: Values>(
     }
 }
 
-/// Whether the first of two positions is drawn, or has the lower number where neither is.
+/// Whether the first of two positions is drawn or, if neither is, has the lower number.
 fn comes_first<V: Values>(p: &Position, q: &Position, values: &mut V) -> Result<bool, ProbeFault>
     ensures game { V.is_honest values.old → IfOk result (λ b. (b ≡ true) ↔ ComesFirst p.now q.now) }
     ensures no_table { (c : AClass) → IsErrOf result (ProbeFault.NoTable c) → V.held values.old c ≡ false }
@@ -52,7 +52,7 @@ fn comes_first<V: Values>(p: &Position, q: &Position, values: &mut V) -> Result<
     }
 }
 
-/// Whether of a mutual zugzwang with White to move and its colour image with the other side to move this one is listed.
+/// Whether, of a mutual zugzwang with White to move and its colour image with the other side to move, this one is listed.
 pub fn is_listed_of_two<V: Values>(p: &Position, values: &mut V) -> Result<bool, ProbeFault>
     ensures game { V.is_honest values.old → IsValid (handed_on p.now) → IfOk result (λ b. (b ≡ true) ↔ IsListedOfTwo p.now) }
     ensures no_table { (c : AClass) → IsErrOf result (ProbeFault.NoTable c) → V.held values.old c ≡ false }

@@ -15,18 +15,18 @@ use study_board::{Kind, Position};
 use study_moves::{Move, legal_moves, played};
 use study_values::{ProbeFault, Values};
 
-/// What a position can have. The side to move is the hero.
+/// A theme of a position. The side to move is the hero.
 #[derive(Clone, Copy, Debug, PartialEq, Eq)]
 pub enum Theme {
     /// A mutual zugzwang, whoever is to move.
     Zugzwang,
     /// The hero has the outcome, and the defender can make him find so many only moves in a row.
     OnlyMoves(Outcome, u8),
-    /// Just one move holds, and it promotes to a rook, a bishop or a knight.
+    /// Exactly one move holds, and it promotes to a rook, a bishop or a knight.
     Underpromotion,
-    /// The hero has the outcome, just one move keeps it, and it leads to a mutual zugzwang.
+    /// The hero has the outcome, exactly one move keeps it, and it leads to a mutual zugzwang.
     IntoZugzwang(Outcome),
-    /// The same, and another move fails by one reply alone, which leads to a mutual zugzwang with the hero to move.
+    /// The same, and another move fails to exactly one reply, which leads to a mutual zugzwang with the hero to move.
     ZugzwangTry(Outcome),
     /// The hero mates in so many plies, and not in fewer.
     MateIn(u8),
@@ -42,7 +42,7 @@ pub fn is_underpromotion(m: Move) -> bool
     }
 }
 
-/// Whether just one move keeps the outcome, and it promotes to less than a queen.
+/// Whether exactly one move keeps the outcome, and it promotes to less than a queen.
 fn underpromotes<V: Values>(
     p: &Position,
     outcome: Outcome,
@@ -71,7 +71,7 @@ fn draws_by_underpromotion<V: Values>(p: &Position, values: &mut V) -> Result<bo
     underpromotes(p, Outcome::Draw, values)
 }
 
-/// Whether just one move holds, and it promotes to less than a queen.
+/// Whether exactly one move holds, and it promotes to less than a queen.
 fn holds_by_underpromotion<V: Values>(p: &Position, values: &mut V) -> Result<bool, ProbeFault>
     ensures game { V.is_honest values.old → IfOk result (λ b. (b ≡ true) ↔ HasTheme Theme.Underpromotion p.now) }
     ensures no_table { (c : AClass) → IsErrOf result (ProbeFault.NoTable c) → V.held values.old c ≡ false }
@@ -86,7 +86,7 @@ fn holds_by_underpromotion<V: Values>(p: &Position, values: &mut V) -> Result<bo
     }
 }
 
-/// Whether just one move keeps the outcome, and it leads to a mutual zugzwang.
+/// Whether exactly one move keeps the outcome, and it leads to a mutual zugzwang.
 fn leads_into_zugzwang<V: Values>(
     p: &Position,
     outcome: Outcome,
@@ -108,7 +108,7 @@ fn leads_into_zugzwang<V: Values>(
     }
 }
 
-/// What is enough for the opponent to spoil the outcome.
+/// The opponent's result that spoils the outcome.
 fn spoiling(outcome: Outcome) -> Outcome
     ensures { result ≡ spoiling outcome }
 {
@@ -118,7 +118,7 @@ fn spoiling(outcome: Outcome) -> Outcome
     }
 }
 
-/// Whether the opponent, who is to move, has one reply alone that spoils the outcome, and it leads to a mutual zugzwang.
+/// Whether the opponent, who is to move, has exactly one reply that spoils the outcome, and it leads to a mutual zugzwang.
 fn fails_into_zugzwang<V: Values>(
     q: &Position,
     outcome: Outcome,
@@ -140,7 +140,7 @@ fn fails_into_zugzwang<V: Values>(
     }
 }
 
-/// Whether one of these moves fails by one reply alone, which leads to a mutual zugzwang with the hero to move.
+/// Whether one of these moves fails to exactly one reply, which leads to a mutual zugzwang with the hero to move.
 fn some_fails_into_zugzwang<V: Values>(
     p: &Position,
     outcome: Outcome,
@@ -167,7 +167,7 @@ fn some_fails_into_zugzwang<V: Values>(
     }
 }
 
-/// Whether the one move that keeps the outcome leads to a mutual zugzwang, and so does the one refutation of a try.
+/// Whether the only move that keeps the outcome leads to a mutual zugzwang, and so does the only refutation of a try.
 fn has_zugzwang_try<V: Values>(
     p: &Position,
     outcome: Outcome,

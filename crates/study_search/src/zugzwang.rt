@@ -1,5 +1,4 @@
-//! Mutual zugzwangs: with either side to move the men are a position, and the two who are to move score less than one
-//! point between them.
+//! Mutual zugzwangs: the men are a valid position with either side to move, and the two sides to move score less than one point between them.
 ghost use Rattle.std.specs.Prelude.{◌≡◌, ◌<◌, ◌↔◌, true, false, IfOk, IfErr, IsErrOf};
 ghost use Rattle.study_material.specs.declared.class.Class.{Class as AClass};
 ghost use Rattle.study_values.specs.Values.{IsNotDamage};
@@ -10,7 +9,7 @@ use study_moves::{has_legal_en_passant, values_are_unique};
 use study_values::{ProbeFault, Values};
 use study_zugzwang::{half_points, handed_on};
 
-/// How many half points the side to move scores.
+/// The number of half points that the side to move scores.
 fn score<V: Values>(p: &Position, values: &mut V) -> Result<u8, ProbeFault>
     ensures game { V.is_honest values.old → IfOk result (Scores p.now) }
     ensures few { IfOk result (λ k. k < 3) }
@@ -39,7 +38,7 @@ fn scores_less_than<V: Values>(p: &Position, limit: u8, values: &mut V) -> Resul
     }
 }
 
-/// Whether the two who are to move score less than a point between them. Where the first wins, the second is not evaluated.
+/// Whether the two sides to move score less than a point between them. If the first wins, the second is not evaluated.
 fn score_less_than_a_point<V: Values>(
     p: &Position,
     q: &Position,

@@ -1,4 +1,4 @@
--- A whole sheet, by what was written one after the other.
+-- A whole sheet, from the parts written one after the other.
 use Rattle.std.proofs.Common.{◌≡◌, ℕ, List, Option, Some, None, Result, Ok, Err, refl, inl, inr, true, false, Bool, is_err}
 use Rattle.std.specs.Prelude.{IfSome, OnOk}
 use Rattle.std.specs.Io.KnownBytes.{Appends}

@@ -12,16 +12,16 @@ use Rattle.study_html.specs.Frame.{sheet_opening, closing}
 use Rattle.study_page.specs.Sheet.{IsPlaceOf, IsPlace}
 use Rattle.study_print.specs.Pages.{refusal_text, IsEnded}
 
--- A sheet, of what is held at the beginning, the bytes of a script, what the reader has left of them, what the writer had and has, and the answer:
--- the opening; in script order the place of each study that an accepted `pgn` line reported, and each refused line; and the closing.
+-- A sheet, given the state at the beginning, the bytes of a script, what the reader has left of them, what the writer had and has, and the result: the
+-- opening; in script order the place of each study of an accepted `pgn` line, and each refused line; and the closing.
 abbrev pub IsSheet : State → List ℕ → Option (List ℕ) → Option (List ℕ) → Option (List ℕ) → Result Summary RunFault → Type 0
 IsSheet first script left old new answer =
     ((answer ≡ Err WriteDevice) × (left ≡ Some script) × TakesPrefix old new sheet_opening)
     ⊎ ((begun ended : Option (List ℕ)) × (ran : Result Summary RunFault) × Appends old begun sheet_opening
     × Outcome IsPlaceOf refusal_text first script left begun ended ran × IsEnded closing ended new ran answer)
 
--- What is written of a sheet, whatever is held: the opening, the places and the refusals of the lines, of which so many are refusals as are
--- counted, and the closing.
+-- What is written of a sheet, whatever the state: the opening, the places and the refusals of the lines, with as many refusals as are counted, and the
+-- closing.
 abbrev pub SheetFits : List ℕ → Option (List ℕ) → Option (List ℕ) → Option (List ℕ) → Result Summary RunFault → Type 0
 SheetFits script left old new answer =
     ((answer ≡ Err WriteDevice) × TakesPrefix old new sheet_opening)

@@ -26,7 +26,7 @@ fn is_broken(ran: &Result<Summary, RunFault>) -> bool
     }
 }
 
-/// Writes what comes after the last place, unless the writer failed before.
+/// Writes the part after the last place, unless the writer failed before.
 fn write_end<W: Write>(ran: Result<Summary, RunFault>, out: &mut W) -> Result<Summary, RunFault>
     ensures { IsEnded closing (W.contents out.old) (W.contents out.new) ran result }
 {
@@ -41,7 +41,7 @@ fn write_end<W: Write>(ran: Result<Summary, RunFault>, out: &mut W) -> Result<Su
 
 /// Follows a script over these tables, from an empty document, and writes a whole sheet.
 ///
-/// If the run stops at a fault, but not at one of the writer, what comes after the last place is written too.
+/// If the run stops at a fault other than one of the writer, the part after the last place is written too.
 pub fn follow_sheet<'a, R: Read, W: Write, P: PageSource, A: Allocator>(
     alloc: &'a A,
     script: &mut R,

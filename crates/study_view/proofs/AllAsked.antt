@@ -1,4 +1,4 @@
--- The values after all legal moves, asked in their order.
+-- The values after all legal moves, probed in order.
 use Rattle.std.proofs.Common.{◌≡◌, ℕ, Bool, true, false, not, List, [], ◌∷◌, ◌++◌, inl, inr, append-nil, append_assoc, Result, Ok, Err, OnOk, IfErr, IsErrAnd, IsErrOf, refl, sym, ap, subst, ◌∙◌}
 use Rattle.std.specs.List.{filter}
 use Rattle.study_board.specs.Position.{Position, IsValid}
@@ -30,7 +30,7 @@ all-kept : (ms : List Move) → filter (λ m. not false) ms ≡ ms
 all-kept [] = refl
 all-kept (m ∷ ms) = ap (λ (l : List Move). m ∷ l) (all-kept ms)
 
--- but for none, all legal moves are left
+-- without any removed, all legal moves are left
 pub others-of-none : (p : Position) → others [] p ≡ legal_list p
 others-of-none p = all-kept (legal_list p)
 
@@ -40,7 +40,7 @@ same-faults n (Err (probe.NoTable c)) = refl
 same-faults n (Err (probe.TableRead f)) = refl
 same-faults n (Err (probe.PageDamaged c k)) = refl
 
--- the reason of a refusal that is handed on
+-- the reason of a refusal that is passed on
 pub refused-so : {T E : Type 0} (r : Result T E) (x y : E) → IsErrAnd r (λ z. z ≡ x) → r ≡ Err y → x ≡ y
 refused-so (Ok t) x y is e = absurd is
 refused-so (Err z) x y is e = let same : z ≡ y = cc in sym is ∙ same
@@ -64,7 +64,7 @@ module _ {V : Type 0} (held : V → Class → Bool) (gives : V → Position → 
         (λ c q. untold-of (held old) asked e c u q) d n i s;
   }
 
-  -- the same of a position that leads to it
+  -- the same for a position that leads to it
   pub each-wider : (p q : Position) → LeadsTo p q → (asked : List Position) (old new : V)
       → EachTold held gives may_fail asked_of failed_of is_honest q asked old new → EachTold held gives may_fail asked_of failed_of is_honest p asked old new
   each-wider p q lead asked old new h =
@@ -81,7 +81,7 @@ module _ {V : Type 0} (held : V → Class → Bool) (gives : V → Position → 
   some-wider p q lead old new (Ok x) h = all-wider held gives may_fail asked_of failed_of is_honest p q lead old new h
   some-wider p q lead old new (Err f) h = stops-wider held gives may_fail asked_of failed_of is_honest p q lead old new f h
 
-  -- what may be answered of positions to which one leads may be answered
+  -- an answer that is possible for positions reached from here is possible here
   plain-answer : (p : Position) (old : V) (q : Position) (a : ProbeAnswer) (new : V)
       → Answers (within p gives) may_fail asked_of old q a new → Answers gives may_fail asked_of old q a new
   plain-answer p old q a new h = record {
@@ -108,7 +108,7 @@ module _ {V : Type 0} (held : V → Class → Bool) (gives : V → Position → 
   fault-behind old mid new [] ys f h k = subst (λ (s : V). IsFirstFault gives may_fail asked_of s ys f new) h k
   fault-behind old mid new (x ∷ xs) ys f h k = inr (h.0, h.1, h.2, fault-behind h.1 mid new xs ys f h.3 k)
 
-  -- more questions after these
+  -- more probes after these
   pub each-more : (p : Position) (asked : List Position) (old mid new : V)
       → EachTold held gives may_fail asked_of failed_of is_honest p asked old mid
       → AllTold held (within p gives) may_fail asked_of failed_of is_honest mid new
@@ -175,7 +175,7 @@ module _ {V : Type 0} (held : V → Class → Bool) (gives : V → Position → 
       walks-as A B old new Device h = h
       walks-as A B old new (Values f) h = h
 
-  -- a refusal of a view, where each value was read
+  -- a view that is refused after each value was read
   pub refused-after : {T : Type 0} (p : Position) (asked : List Position) (old new : V) (r : Result T ViewFault) (e : ViewFault) → IsErrAnd r (λ x. x ≡ e)
       → HasViewed held gives may_fail asked_of failed_of is_honest {T = T} p asked old (Err e) new
       → HasViewed held gives may_fail asked_of failed_of is_honest {T = T} p asked old r new
@@ -183,14 +183,14 @@ module _ {V : Type 0} (held : V → Class → Bool) (gives : V → Position → 
   refused-after {T = T} p asked old new (Err x) e is h =
       subst (λ (y : ViewFault). HasViewed held gives may_fail asked_of failed_of is_honest {T = T} p asked old (Err y) new) (sym is) h
 
-  -- the same, where the positions need not be told
+  -- the same, even if the positions are not all evaluated
   pub some-told : {T : Type 0} (p : Position) (asked : List Position) (old new : V) (r : Result T ProbeFault)
       → HasToldEach held gives may_fail asked_of failed_of is_honest {T = T} p asked old r new
       → HasToldSome held (within p gives) may_fail asked_of failed_of is_honest {T = T} old r new
   some-told p asked old new (Ok x) h = h.all
   some-told p asked old new (Err e) h = h.stopped
 
-  -- questions after others
+  -- probes after other probes
   pub some-then : {T : Type 0} (old mid new : V) (r : Result T ProbeFault) → AllTold held gives may_fail asked_of failed_of is_honest old mid
       → HasToldSome held gives may_fail asked_of failed_of is_honest {T = T} mid r new
       → HasToldSome held gives may_fail asked_of failed_of is_honest {T = T} old r new
@@ -210,7 +210,7 @@ module _ {V : Type 0} (held : V → Class → Bool) (gives : V → Position → 
       of-fault held gives may_fail asked_of failed_of is_honest Value old new e (asked-one gives may_fail asked_of old new p (Err e) valid g n so before)
       (λ c q. u c (ap Err q)) d (f ∙ same-faults (failed_of old) (Err e)) i s
 
--- a walk of a position that leads to it
+-- walks from a position that leads to this one
 module _ {V : Type 0} (held : V → Class → Bool) (gives : V → Position → ProbeAnswer → Type 0)
     (may_fail : V → Class → SourceFault → Type 0) (asked_of failed_of : V → ℕ) (is_honest : V → Type 0)
     (p q : Position) (lead : LeadsTo p q) where

@@ -31,7 +31,7 @@ one-count : (b : Bool) (n : ℕ) → (if b then 1 else 0) + n ≡ cond b (1 + n)
 one-count true n = refl
 one-count false n = let z : 0 + n ≡ n = omega arith in z
 
--- how many of the values hold
+-- the number of values that hold
 abbrev held_count : Aim → ℕ → List Value → ℕ
 held_count a d [] = 0
 held_count a d (v ∷ vs) = (if holds a (d + 1) v then 1 else 0) + held_count a d vs
@@ -43,7 +43,7 @@ count-chosen a d p [] (v ∷ vs) g = absurd g
 count-chosen a d p (m ∷ ms) [] g = absurd g
 count-chosen a d p (m ∷ ms) (v ∷ vs) g = ap (λ k. (if holds a (d + 1) v then 1 else 0) + k) (count-chosen a d p ms vs g.1)
 
--- as many of the moves hold as of the values
+-- as many moves hold as values
 count-told : (a : Aim) (d : ℕ) (p : Position) (ms : List Move) (vs : List Value) → AreValuesAfter p ms vs
     → holding_count a d (all_chosen ms vs) ≡ count_by (holds a (d + 1)) vs
 count-told a d p ms vs g =
@@ -89,7 +89,7 @@ module _ (s : Study Mark) (path : List ℕ) (all : List Value)
   each-told (m ∷ ms) [] g = absurd g
   each-told (m ∷ ms) (v ∷ vs) g = (new_mark v, flat_map line_of (all_chosen ms vs), one-told m v g.0, each-told ms vs g.1, refl)
 
--- the lines that are written are those of the moves
+-- the written lines are those of the moves
 pub moves-told : (s : Study Mark) (path : List ℕ) (a : Aim) (d : ℕ) (here : Start) (before : Value) (list : List Continuation)
     → a ≡ aim_of s → d ≡ length path → here ≡ start_to s path → before ≡ value_at s path
     → AreChosen (λ v. true) (position_at s path) (legal_list (position_at s path)) list

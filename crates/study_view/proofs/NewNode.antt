@@ -1,4 +1,4 @@
--- The mark of a move, and that of the node with it.
+-- The mark of a move, and the mark of the node with it.
 use Rattle.std.proofs.Common.{◌≡◌, ℕ, ◌+◌, ◌++◌, zero, suc, List, [], ◌∷◌, Option, Some, None, refl, sym, ap, subst, ◌∙◌, length, IsTrue, arith}
 use Rattle.study_board.specs.Position.{Position}
 use Rattle.study_moves.specs.declared.moves.Move.{Move}
@@ -49,7 +49,7 @@ no-shape : (f : Forest Mark) → Shape f ≡ none → f ≡ none
 no-shape none e = refl
 no-shape (more m x b r) e = let no : ⊥ = cc in absurd no
 
--- one move has one mark, where no node is below it
+-- a move has one mark if no node is below it
 mark-once : EachHasAtMostOneValue → (a : Aim) (d : ℕ) (p : Position) (v : Value) (m : Move) (x y : Mark) (r q : Forest Mark)
     → AreAnnotated a d p v (more m x none r) → AreAnnotated a d p v (more m y none q) → x ≡ y
 mark-once law a d p v m x y r q h j =
@@ -57,7 +57,7 @@ mark-once law a d p v m x y r q h j =
     let on_move : x.on_move ≡ y.on_move = one-mark law a d p v x.value y.value x.on_move y.on_move value h.1 j.1 in
     mark-is x y value on_move (h.2 ∙ ap (λ o. own_faults (hero_moves a d) o + faults_in a (d + 1) none) on_move ∙ sym j.2)
 
--- these are the marks of nodes side by side below the node at the path
+-- these are the marks of sibling nodes below the node at the path
 abbrev There : Aim → ℕ → Position → Value → Forest Mark → List ℕ → Forest Mark → Type 0
 There a d p v f [] g = AreAnnotated a d p v g
 There a d p v none (k ∷ ks) g = ⊥
@@ -114,7 +114,7 @@ new-node law a d p v (more n x b r) (more o y c q) (zero ∷ ks) m mark h i e j 
     (ap first_below e) j
 new-node law a d p v (more n x b r) (more o y c q) (suc k ∷ ks) m mark h i e j = new-node law a d p v r q (k ∷ ks) m mark h.4 i.4 (ap rest_of e) j
 
--- the value at the end of a path, v where it has no step
+-- the value at the end of a path, v if the path is empty
 abbrev value_along : Value → Forest Mark → List ℕ → Value
 value_along v f [] = v
 value_along v none (k ∷ ks) = v

@@ -22,7 +22,7 @@ each-line s [] text h = h
 each-line s (x ∷ xs) text h =
     h.4 ∙ ap (λ (t : List ℕ). t ++ h.1) h.2 ∙ ap (λ (t : List ℕ). node_line s x ++ t) (each-line s xs h.1 h.3)
 
--- the text grew by the lines of all nodes
+-- the text has the lines of all nodes
 pub all-lines : (s : Study Mark) (p old new : List ℕ) → p ≡ []
     → Grew (LinesOfEach (IsNodeLine s) (p ∷ paths_from p 0 (below_at s.tree.below p))) old new
     → new ≡ old ++ flat_map (node_line s) (written_order s)

@@ -31,7 +31,7 @@ range-step : (n : ℕ) → n < 64 → range_with_len n (64 - n) ≡ n ∷ range_
 range-step n lt =
     let less : 64 - n ≡ suc (64 - (n + 1)) = omega (arith, lt) in ap (range_with_len n) less
 
--- the man's own square is passed over
+-- the man's own square is skipped
 pub own-square : (from n : ℕ) → n < 64 → n ≡ from → squares_but from n (64 - n) ≡ squares_but from (n + 1) (64 - (n + 1))
 own-square from n lt e =
     let f : ℕ → Bool = λ x. not (x == from) in

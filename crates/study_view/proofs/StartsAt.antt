@@ -41,7 +41,7 @@ pub before-front : {L : Type 0} (s : Study L) (steps front : List ℕ) (k : ℕ)
     → b ≡ start_to s (front_of steps) → b ≡ start_along s.start (moves_to s.tree.below front)
 before-front s steps front k b e h = h ∙ ap (start_to s) (sym (front-is steps front k e))
 
--- the other way: from the start at a node to that before a move from it
+-- conversely: from the start at a node to that before a move from it
 pub after-front : {L : Type 0} (s : Study L) (steps front : List ℕ) (k : ℕ) (b : Start) → steps ≡ front ++ k ∷ []
     → b ≡ start_to s front → b ≡ start_to s (front_of steps)
 after-front s steps front k b e h = h ∙ ap (start_to s) (front-is steps front k e)
@@ -78,7 +78,7 @@ no-line s steps text e =
     sym (append-nil text)
     ∙ ap (λ o. text ++ option_map_or (λ (y : Spot Mark). node_words steps (position_at s (front_of steps)) y (start_to s steps)) o []) (sym e)
 
--- a start is told where there is a node, and none where there is none
+-- there is a start exactly if there is a node
 pub start-found : {L : Type 0} (s : Study L) (path : List ℕ) (x : Start) → Some x ≡ start_at s path → IsTrue (has_spot s.tree path)
 start-found s path x h = go (has_spot s.tree path) refl
   where

@@ -1,4 +1,4 @@
--- A square is written `only` exactly if one move alone keeps what the hero is to reach.
+-- A square is written `only` exactly if exactly one move keeps the stipulation.
 use Rattle.std.proofs.Common.{◌≡◌, ℕ, zero, suc, ◌+◌, ◌<◌, ◌≤◌, ◌==◌, not, Bool, true, false, List, [], ◌∷◌, ◌++◌, cond, length}
 use Rattle.std.proofs.Common.{Option, Some, None, inl, inr, arith, refl, sym, ap, subst, ◌∙◌}
 use Rattle.std.specs.Prelude.{MatchOption}
@@ -35,12 +35,12 @@ use Rattle.study_view.specs.declared.squares.Stood.{Stood}
 use Rattle.study_view.specs.Survey.{moved_man, moved_men, stood, stood_fault, aim_in, by_moves, other_squares, IsToldBy, IsTold, IsStanding, AreStandings}
 use Rattle.study_view.specs.Told.{Keeps, IsOnlyWay, SurveysTellTheGame}
 
--- ---- moves that are chosen
+-- ---- selected moves
 
 abbrev made : Move → Value → Continuation
 made m v = record { played = m; value = v }
 
--- what is chosen is among the moves, with the game's value after it, which is wanted
+-- a selected move is a legal move, with the game's value after it, which is wanted
 chosen-is : (f : Value → Bool) (p : Position) (ms : List Move) (vs : List Value) (x : Continuation) → AreValuesAfter p ms vs
     → IsIn x (chosen f ms vs) → IsIn x.played ms × IsValueOf (after p x.played) x.value × (f x.value ≡ true)
 chosen-is f p [] vs x h i = absurd i
@@ -57,7 +57,7 @@ chosen-is f p (m ∷ ms) (v ∷ vs) x h i = elim (cases_Bool (f v)) [
   | inr n ↦ let r = chosen-is f p ms vs x h.1 (rw n at i) in (inr r.0, r.1, r.2)
 ]
 
--- and each of the moves whose value is wanted is chosen
+-- and each move whose value is wanted is selected
 chosen-has : EachHasAtMostOneValue → (f : Value → Bool) (p : Position) (ms : List Move) (vs : List Value) (m : Move) (w : Value)
     → AreValuesAfter p ms vs → IsIn m ms → IsValueOf (after p m) w → f w ≡ true → IsIn (made m w) (chosen f ms vs)
 chosen-has law f p [] vs m w h i is t = absurd i
@@ -93,7 +93,7 @@ alone-in lo (y ∷ z ∷ l) x a i all =
 
 -- ---- one position
 
--- what `only` says of a valid position
+-- the meaning of `only` for a valid position
 record IsOnlyIn (st : Stipulation) (q : Position) (v : Value) (m : Move) : Type 0 where
   hero : same_side st.hero q.to_move ≡ true
   of_game : IsValueOf q v

@@ -1,4 +1,4 @@
--- The values that were probed, and their answers.
+-- The probed positions, and their values.
 use Rattle.std.specs.Prelude.{◌≡◌, ℕ, Bool, List, ◌++◌, Result, Ok, Err}
 use Rattle.study_board.specs.Position.{Position}
 use Rattle.study_material.specs.declared.class.Class.{Class}
@@ -14,12 +14,12 @@ use Rattle.study_view.specs.declared.fault.SurveyFault.TheVariants as survey
 
 module _ {V : Type 0} (held : V → Class → Bool) (gives : V → Position → ProbeAnswer → Type 0)
     (may_fail : V → Class → SourceFault → Type 0) (asked_of failed_of : V → ℕ) (is_honest : V → Type 0) where
-  -- these positions were probed in their order, and then perhaps more, to each of which p leads, and each value was read
+  -- these positions were probed in order, and then perhaps more, to each of which p leads, and each value was read
   pub record EachTold (p : Position) (asked : List Position) (old new : V) : Type 0 where
     pub each : (more : List Position) × WereTold gives may_fail asked_of old (asked ++ more) new
     pub all : AllTold held (within p gives) may_fail asked_of failed_of is_honest old new
 
-  -- these positions were probed in their order, and then perhaps more, up to the first whose value could not be read, for this fault
+  -- these positions were probed in order, and then perhaps more, up to the first whose value could not be read, for this fault
   pub record StoppedAt (p : Position) (asked : List Position) (old : V) (f : ProbeFault) (new : V) : Type 0 where
     pub first : (more : List Position) × IsFirstFault gives may_fail asked_of old (asked ++ more) f new
     pub stopped : Stopped held (within p gives) may_fail asked_of failed_of is_honest old f new
@@ -36,7 +36,7 @@ module _ {V : Type 0} (held : V → Class → Bool) (gives : V → Position → 
   HasWalked old (Err Device) new = ⊥
   HasWalked old (Err (Values f)) new = Stopped held gives may_fail asked_of failed_of is_honest old f new
 
-  -- each value was read, unless the call was refused for the first that was not, or before one was asked
+  -- each value was read, unless the call was refused for the first that could not be read, or before the first probe
   abbrev pub HasViewed : {T : Type 0} → Position → List Position → V → Result T ViewFault → V → Type 0
   HasViewed p asked old (Ok x) new = EachTold p asked old new
   HasViewed p asked old (Err NoSuchNode) new = new ≡ old
@@ -44,12 +44,12 @@ module _ {V : Type 0} (held : V → Class → Bool) (gives : V → Position → 
   HasViewed p asked old (Err Device) new = EachTold p asked old new
   HasViewed p asked old (Err (Values f)) new = StoppedAt p asked old f new
 
-  -- some positions were probed, and each value was read, or the first that could not be read was not for this fault
+  -- some positions were probed, and each value was read, or this fault is not that of the first that could not be read
   abbrev pub HasToldSome : {T : Type 0} → V → Result T ProbeFault → V → Type 0
   HasToldSome old (Ok x) new = AllTold held gives may_fail asked_of failed_of is_honest old new
   HasToldSome old (Err f) new = Stopped held gives may_fail asked_of failed_of is_honest old f new
 
-  -- the same for a survey, which asks nothing where there is no man
+  -- the same for a survey, which probes nothing if the square is empty
   abbrev pub HasSurveyed : {T : Type 0} → V → Result T SurveyFault → V → Type 0
   HasSurveyed old (Ok x) new = AllTold held gives may_fail asked_of failed_of is_honest old new
   HasSurveyed old (Err survey.NoMan) new = new ≡ old

@@ -1,4 +1,4 @@
--- The mark of a move that is tried at a node, and the mark that it has once it is inserted.
+-- The mark of a move that is tried at a node, and the mark that it has after its insertion.
 use Rattle.std.specs.Prelude.{◌≡◌, ℕ, ◌++◌, List, [], ◌∷◌, Some, IsTrue}
 use Rattle.study_moves.specs.declared.moves.Move.{Move}
 use Rattle.study_tree.specs.Edits.{children_at}
@@ -9,8 +9,7 @@ use Rattle.study_marks.specs.Edits.{inserted}
 use Rattle.study_marks.specs.Study.{Study, plain_study}
 use Rattle.study_marks.specs.Trial.{IsMarkOf}
 
--- Where a move is inserted below a node, the annotation from scratch has the move's mark, its value and its faults at the new node,
--- which is the last child.
+-- If a move is inserted below a node, the annotation from scratch has the move's mark, value and faults at the new node, which is the last child.
 abbrev pub MarksOfMovesAreThoseOfInsertions : Type 0
 MarksOfMovesAreThoseOfInsertions =
     (s t : Study Mark) (path : List ℕ) (m : Move) (mark : Mark) → IsAnnotated s → IsAnnotated t

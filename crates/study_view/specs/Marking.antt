@@ -8,12 +8,12 @@ use Rattle.study_marks.specs.Marks.{mark_of}
 use Rattle.study_review.specs.declared.continuation.Continuation.{Continuation}
 use Rattle.study_view.specs.Words.{move_line}
 
--- how many of these moves from depth d hold
+-- the number of these moves from depth d that hold
 abbrev pub holding_count : Aim → ℕ → List Continuation → ℕ
 holding_count a d [] = 0
 holding_count a d (x ∷ xs) = (if holds a (d + 1) x.value then 1 else 0) + holding_count a d xs
 
--- from a node at depth d, with this start and this value, where n of the legal moves hold
+-- the line of a move from a node at depth d, with this start and this value, if n of the legal moves hold
 abbrev pub told_line : Aim → ℕ → Start → Value → ℕ → Continuation → List ℕ
 told_line a d here before n x =
     move_line here x.played x.value (Some (mark_of (hero_moves a d) (holds a d before) (holds a (d + 1) x.value) n))

@@ -7,7 +7,7 @@ use Rattle.study_view.specs.declared.squares.Standing.TheVariants.{Impossible, F
 use Rattle.study_view.specs.declared.squares.Stood.{Stood}
 use Rattle.study_view.specs.Survey.{stood, stood_fault}
 
--- the one move that holds is legal
+-- the only move that holds is legal
 abbrev pub IsPlayedIn : Position → Standing → Type 0
 IsPlayedIn q Impossible = Unit {0}
 IsPlayedIn q (Fails v) = Unit {0}
@@ -15,7 +15,7 @@ IsPlayedIn q (Holds v) = Unit {0}
 IsPlayedIn q (HoldsBy v n) = Unit {0}
 IsPlayedIn q (Only v m) = is_legal q m ≡ true
 
--- and where there is one, the man can stand there
+-- and if there is one, the man can stand there
 abbrev pub CanStand : Position → ℕ → ℕ → Standing → Type 0
 CanStand p from x Impossible = Unit {0}
 CanStand p from x (Fails v) = stood_fault p from x ≡ None

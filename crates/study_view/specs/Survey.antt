@@ -1,4 +1,4 @@
--- Where else a man could stand: what a stipulation comes to with the man on each other square.
+-- The result of a stipulation with a man on each other square.
 use Rattle.std.specs.Prelude.{◌≡◌, ℕ, ◌==◌, not, Bool, true, false, List, [], ◌∷◌, ◌++◌, length, map, codes, decimal}
 use Rattle.std.specs.Prelude.{Option, Some, None, MatchOption, if◌then◌else◌}
 use Rattle.std.specs.List.{filter, flat_map, range_with_len}
@@ -22,31 +22,31 @@ use Rattle.study_view.specs.declared.squares.Standing.{Standing}
 use Rattle.study_view.specs.declared.squares.Standing.TheVariants.{Impossible, Fails, Holds, HoldsBy, Only}
 use Rattle.study_view.specs.declared.squares.Stood.{Stood}
 
--- the men, with the man of one square on another
+-- the men, with the man of one square moved to another
 abbrev pub moved_man : ℕ → ℕ → Man → Man
 moved_man from to m = if m.at == from then record m { at = to } else m
 
 abbrev pub moved_men : ℕ → ℕ → List Man → List Man
 moved_men from to men = map (moved_man from to) men
 
--- the position with the man of one square on another, and all else as it is
+-- the position with the man of one square on another, otherwise unchanged
 abbrev pub stood : Position → ℕ → ℕ → Position
 stood p from to = record { men = in_order (moved_men from to p.men); to_move = p.to_move; passed = p.passed }
 
--- why that is no valid position, if it is none
+-- why that is not a valid position, or `None`
 abbrev pub stood_fault : Position → ℕ → ℕ → Option PositionFault
 stood_fault p from to = first_fault (moved_men from to p.men) p.to_move p.passed
 
 abbrev pub aim_in : Stipulation → Position → Aim
 aim_in st q = record { goal = st.goal; hero_first = same_side st.hero q.to_move }
 
--- by the hero's first moves that hold: one alone, or how many
+-- the result from the hero's first moves that hold: the only one, or their number
 abbrev pub by_moves : Value → List Continuation → Standing
 by_moves v [] = HoldsBy v 0
 by_moves v (x ∷ []) = Only v x.played
 by_moves v (x ∷ y ∷ l) = HoldsBy v (length (x ∷ y ∷ l))
 
--- the evaluation of a position with the value v: whether it holds, and whether the hero is to move
+-- the result for a position with the value v: whether the stipulation holds, and whether the hero is to move
 abbrev pub IsToldBy : Bool → Bool → Aim → Position → Value → Standing → Type 0
 IsToldBy false hero a q v standing = standing ≡ Fails v
 IsToldBy true false a q v standing = standing ≡ Holds v
@@ -55,7 +55,7 @@ IsToldBy true true a q v standing = (list : List Continuation) × AreHoldingMove
 abbrev pub IsTold : Stipulation → Position → Standing → Type 0
 IsTold st q standing = (v : Value) × IsValueOf q v × IsToldBy (holds (aim_in st q) 0 v) (aim_in st q).hero_first (aim_in st q) q v standing
 
--- what is told of the man on the square x
+-- the result for the man on the square x
 abbrev pub IsStanding : Position → ℕ → Stipulation → ℕ → Standing → Type 0
 IsStanding p from st x standing = MatchOption (stood_fault p from x) (IsTold st (stood p from x) standing) (λ fault. standing ≡ Impossible)
 
@@ -65,11 +65,11 @@ AreStandings p from st [] (y ∷ ys) = ⊥
 AreStandings p from st (x ∷ xs) [] = ⊥
 AreStandings p from st (x ∷ xs) (y ∷ ys) = (y.at ≡ x) × IsStanding p from st x y.standing × AreStandings p from st xs ys
 
--- of n squares from one on, those that are not this one
+-- n squares from one on, without this one
 abbrev pub squares_but : ℕ → ℕ → ℕ → List ℕ
 squares_but from first n = filter (λ x. not (x == from)) (range_with_len first n)
 
--- a1, b1 up to h8, but for the man's own
+-- a1, b1 up to h8, without the man's own square
 abbrev pub other_squares : ℕ → List ℕ
 other_squares from = squares_but from 0 64
 
@@ -88,7 +88,7 @@ standing_words q (Only v m) = codes "only " ++ (value_words v ++ (codes " " ++ m
 unfoldable pub standing_line : Position → ℕ → Stood → List ℕ
 standing_line p from x = square_text x.at ++ (codes " " ++ (standing_words (stood p from x.at) x.standing ++ codes "\n"))
 
--- the survey of the man of a square, who is there
+-- the survey of the man on a square
 abbrev pub IsSurvey : Position → ℕ → Stipulation → List ℕ → Type 0
 IsSurvey p from st text =
     (man : Man) × (list : List Stood)
@@ -96,6 +96,6 @@ IsSurvey p from st text =
     × AreStandings p from st (other_squares from) list
     × (text ≡ survey_line man st ++ flat_map (standing_line p from) list)
 
--- there is one survey
+-- a man has exactly one survey
 abbrev pub SurveysAreUnique : Type 0
 SurveysAreUnique = (p : Position) (from : ℕ) (st : Stipulation) (t u : List ℕ) → IsSurvey p from st t → IsSurvey p from st u → t ≡ u

@@ -1,4 +1,4 @@
--- What a survey tells, in the words of the game.
+-- The meaning of a survey, in terms of the game.
 use Rattle.std.specs.Prelude.{◌≡◌, ℕ, true, List, ◌↔◌}
 use Rattle.std.specs.List.{Contains}
 use Rattle.study_board.specs.Men.{same_side}
@@ -30,7 +30,7 @@ pub record IsOnlyWay (p : Position) (from : ℕ) (st : Stipulation) (x : ℕ) (v
   pub keeps : Keeps st (stood p from x) m
   pub alone : (n : Move) → Keeps st (stood p from x) n → n ≡ m
 
--- a square is told `only` exactly there
+-- a square is written `only` exactly if this holds
 abbrev pub SurveysTellTheGame : Type 0
 SurveysTellTheGame =
     (p : Position) (from : ℕ) (st : Stipulation) (list : List Stood) → IsValid p → AreStandings p from st (other_squares from) list

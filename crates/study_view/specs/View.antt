@@ -1,4 +1,4 @@
--- What a board shows of a study, at one of its nodes.
+-- The view of a study, at one of its nodes.
 use Rattle.std.specs.Prelude.{◌≡◌, ℕ, IsTrue, List, [], ◌∷◌, ◌++◌}
 use Rattle.std.specs.List.{flat_map}
 use Rattle.std.specs.Option.{option_map_or}
@@ -25,15 +25,14 @@ start_to s path = start_along s.start (moves_to s.tree.below path)
 abbrev pub node_line : Study Mark → List ℕ → List ℕ
 node_line s path = option_map_or (λ x. node_words path (position_at s (front_of path)) x (start_to s path)) (spot_at s.tree path) []
 
--- a line for each of these moves from the node at the path, with the value and the mark that a new node with it would have
+-- a line for each of these moves from the node at the path, with the value and the mark that a new node for it would have
 abbrev pub AreMoveLines : Study Mark → List ℕ → List Move → List ℕ → Type 0
 AreMoveLines s path [] text = text ≡ []
 AreMoveLines s path (m ∷ ms) text =
     (mark : Mark) × (rest : List ℕ) × IsMarkOf s path m mark × AreMoveLines s path ms rest
     × (text ≡ move_line (start_to s path) m mark.value mark.on_move ++ rest)
 
--- The view of an annotated study at a path, at which there is a node: its start, its verdict, each node, and then how many legal
--- moves there are at the path, and each of them.
+-- The view of an annotated study at the path of a node: its start, its verdict, each node, then the number of legal moves at the path, and each of them.
 abbrev pub IsView : Study Mark → List ℕ → List ℕ → Type 0
 IsView s path text =
     (moves zugzwangs : List ℕ)
@@ -43,7 +42,7 @@ IsView s path text =
     × (text ≡ study_line s.start ++ (stipulation_line s ++ (flat_map (node_line s) (written_order s)
     ++ (at_line path (position_at s path) ++ (moves ++ zugzwangs)))))
 
--- a study has one view at a path
+-- a study has exactly one view at a path
 abbrev pub ViewsAreUnique : Type 0
 ViewsAreUnique = (s : Study Mark) (path : List ℕ) (t u : List ℕ) → IsView s path t → IsView s path u → t ≡ u
 
@@ -51,7 +50,7 @@ ViewsAreUnique = (s : Study Mark) (path : List ℕ) (t u : List ℕ) → IsView 
 abbrev pub IsViewOf : Study (Unit {0}) → List ℕ → List ℕ → Type 0
 IsViewOf plain path text = (s : Study Mark) × (plain_study s ≡ plain) × IsAnnotated s × IsView s path text
 
--- a plain study has one view at a path
+-- a plain study has exactly one view at a path
 abbrev pub PlainStudiesHaveOneView : Type 0
 PlainStudiesHaveOneView =
     (plain : Study (Unit {0})) (path : List ℕ) (t u : List ℕ) → IsViewOf plain path t → IsViewOf plain path u → t ≡ u

@@ -29,7 +29,7 @@ squares_text m = square_text m.origin ++ (square_text m.target ++ promoted_text 
 unfoldable pub moved_words : Position → Move → List ℕ
 moved_words p m = move_text p m ++ (codes " " ++ squares_text m)
 
--- the move that led to a node, from p; the root has none
+-- the move that led to a node, from p; empty for the root
 abbrev pub led_words : Position → Option Move → List ℕ
 led_words p None = codes "- -"
 led_words p (Some m) = moved_words p m
@@ -51,7 +51,7 @@ shown_words x here =
 unfoldable pub node_words : List ℕ → Position → Spot Mark → Start → List ℕ
 node_words path p x here = front_words (codes "node ") path ++ (led_words p x.played ++ (codes " " ++ shown_words x.label here))
 
--- how many legal moves there are; or how the game ended
+-- the number of legal moves; or how the game ended
 unfoldable pub count_words : Position → List ℕ
 count_words p =
     if length (legal_list p) == 0 then (if in_check p.men p.to_move then codes "mate" else codes "stalemate") else decimal (length (legal_list p))

@@ -40,7 +40,7 @@ pub fn ask_value<V: Values>(q: &Position, values: &mut V) -> Result<Value, Probe
     values.value(q)
 }
 
-/// The first moves that hold.
+/// The first moves that hold, each with the value after it.
 pub fn ask_first_moves<V: Values>(
     aim: &Aim,
     q: &Position,

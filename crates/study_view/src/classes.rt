@@ -10,7 +10,7 @@ use arrayvec::ArrayVec;
 use study_board::Position;
 use study_material::{CLASS_COUNT, Class, class_of, order, positions_have_one_class};
 
-/// By number of men, number of pawns, and place in the list of classes.
+/// By number of men, number of pawns, and index in the class list.
 const BY_SIZE: [Class; CLASS_COUNT] = [
     Class::KK,
     Class::KQK,
@@ -58,7 +58,7 @@ fn by_size() -> &'static [Class]
     &BY_SIZE
 }
 
-/// Whether the class is one of these.
+/// Whether the class is in the list.
 fn is_in(classes: &[Class], class: Class) -> bool
     ensures { (result ≡ true) ↔ Contains classes.now class }
 {
@@ -93,7 +93,7 @@ fn is_needed(positions: &[Position], class: Class) -> bool
     }
 }
 
-/// Puts one more class last.
+/// Appends a class to the list.
 fn push_class(class: Class, list: &mut ArrayVec<Class, CLASS_COUNT>)
     requires { array_vec_len list.old < 36 }
     ensures items { list.new.items ≡ list.old.items ++ class ∷ [] }
@@ -119,8 +119,7 @@ fn add_needed(positions: &[Position], classes: &[Class], list: &mut ArrayVec<Cla
     }
 }
 
-/// The classes whose tables have the values of these positions and of all to which they can lead, in the order in which to build
-/// the tables.
+/// The classes whose tables have the values of these positions and of all positions that they can lead to, in the order in which to build the tables.
 pub fn classes_needed(positions: &[Position]) -> ArrayVec<Class, CLASS_COUNT>
     ensures { AreClassesNeeded positions.now result.items }
 {

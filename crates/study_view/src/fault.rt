@@ -1,11 +1,11 @@
-//! Why nothing is written.
+//! Why a view or a survey is not written.
 
 use std::alloc::{AllocError, AllocFailed};
 use study_text::DeviceFailed;
 use study_values::ProbeFault;
 use thiserror::Error;
 
-/// Why the view of a study is not written, or not whole.
+/// Why the view of a study is not written, or only in part.
 #[derive(Clone, Copy, Debug, PartialEq, Eq, Error)]
 pub enum ViewFault {
     #[error("no node is at the path")]
@@ -51,7 +51,7 @@ impl From<ProbeFault> for ViewFault {
     }
 }
 
-/// Why a survey is not made or written, or not whole.
+/// Why a survey is not made or written, or only in part.
 #[derive(Clone, Copy, Debug, PartialEq, Eq, Error)]
 pub enum SurveyFault {
     #[error("no man is on the square")]

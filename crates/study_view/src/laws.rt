@@ -7,14 +7,14 @@ ghost use Rattle.study_view.specs.View.{ViewsAreUnique, PlainStudiesHaveOneView}
 use study_marks::annotations_are_unique;
 use study_moves::values_are_unique;
 
-/// A study has one view at a path.
+/// A study has exactly one view at a path.
 pub fn views_are_unique()
     ensures { ViewsAreUnique }
 {
     values_are_unique();
 }
 
-/// A plain study has one view at a path: that of its annotation.
+/// A plain study has exactly one view at a path: that of its annotation.
 pub fn plain_studies_have_one_view()
     ensures { PlainStudiesHaveOneView }
 {
@@ -22,23 +22,22 @@ pub fn plain_studies_have_one_view()
     views_are_unique();
 }
 
-/// There is one survey of a man.
+/// A man has exactly one survey.
 pub fn surveys_are_unique()
     ensures { SurveysAreUnique }
 {
     values_are_unique();
 }
 
-/// A square is written `only` exactly if the position with the man there is valid, what the hero is to reach holds in it, and
-/// exactly one legal move keeps it: by the game's values.
+/// A square is written `only` exactly if the position with the man there is valid, the stipulation holds in it, and exactly one legal move keeps it:
+/// by the game's values.
 pub fn surveys_tell_the_game()
     ensures { SurveysTellTheGame }
 {
     values_are_unique();
 }
 
-/// The mark that a move would have at a node is the one that the node with it has, once it is inserted and all is annotated from
-/// scratch.
+/// The mark that a move would have at a node is the mark of the node with it, after it is inserted and the whole study annotated from scratch.
 pub fn marks_of_moves_are_those_of_insertions()
     ensures { MarksOfMovesAreThoseOfInsertions }
 {

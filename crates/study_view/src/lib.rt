@@ -1,8 +1,8 @@
-//! What a board shows of a study.
+//! The lines that a board shows of a study.
 //!
-//! `write_view` writes all nodes of a study with their marks, and the legal moves at one of them, each with the mark that it
-//! would have there. `write_survey` writes whether a stipulation holds with a man on each other square. Values are probed first,
-//! texts are made whole, and then a writer takes them. `passed_squares` and `classes_needed` say what a set-up needs to know.
+//! `write_view` writes all nodes of a study with their marks, and the legal moves at one of them, each with the mark that it would have there.
+//! `write_survey` writes whether a stipulation holds with a man on each other square. Values are probed first, texts are completed in memory, and
+//! then written. `passed_squares` and `classes_needed` are for setting up a position.
 #![tactic(auto)]
 
 mod asking;

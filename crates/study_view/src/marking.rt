@@ -15,7 +15,7 @@ use study_review::Continuation;
 use study_text::Text;
 use study_values::Value;
 
-/// A node: what the study wants, its depth, its position with the counts, and its value.
+/// A node: the stipulation, the node's depth, its position with the counts, and its value.
 #[derive(Clone, Copy)]
 pub struct Here<'n> {
     pub aim: &'n Aim,
@@ -24,7 +24,7 @@ pub struct Here<'n> {
     pub value: Value,
 }
 
-/// How many of these moves from this depth hold.
+/// The number of these moves from this depth that hold.
 fn holding_count(aim: &Aim, depth: usize, list: &[Continuation]) -> usize
     requires depth { depth + 1 < 2 ^ 64 }
     requires few { length list.now ≤ MAX_MOVES }
@@ -40,7 +40,7 @@ fn holding_count(aim: &Aim, depth: usize, list: &[Continuation]) -> usize
     }
 }
 
-/// The mark of a move to a position with this value, where so many of the legal moves hold.
+/// The mark of a move to a position with this value, if so many of the legal moves hold.
 fn mark_of(here: &Here<'_>, count: usize, after: Value) -> MoveMark
     requires depth { here.now.depth + 1 < 2 ^ 64 }
     requires few { count ≤ MAX_MOVES }
@@ -81,7 +81,7 @@ fn add_told<A: Allocator>(
     add_move(text, here.start, &x.played, x.value, Some(mark))
 }
 
-/// A line for each of the moves, where so many of the legal moves hold.
+/// A line for each of the moves, if so many of the legal moves hold.
 fn add_each<A: Allocator>(
     text: &mut Text<'_, A>,
     here: &Here<'_>,
@@ -100,7 +100,7 @@ fn add_each<A: Allocator>(
     Ok(())
 }
 
-/// A line for each legal move; these are all, with the values after them.
+/// A line for each legal move, with the value after it.
 pub fn add_moves<A: Allocator>(
     text: &mut Text<'_, A>,
     here: &Here<'_>,

@@ -23,7 +23,7 @@ use study_review::{add_zugzwang_line, count_at, move_to, zugzwang_at};
 use study_text::Text;
 use study_values::Values;
 
-/// The start at a node, by that of the node before it.
+/// The start at a node, from that of the node before it.
 fn start_from<'b, B: Allocator>(bench: &Bench<'b, B>, steps: &[u16], before: &Start) -> Start
     requires found { IsTrue (has_spot (marked bench.now).tree steps.now) }
     requires before { before.now ≡ start_to (marked bench.now) (front_of steps.now) }
@@ -58,7 +58,7 @@ fn add_node_at<'b, A: Allocator, B: Allocator>(
     }
 }
 
-/// Goes on to the child at this place.
+/// Goes to the child at this place.
 fn go_down<A: Allocator>(steps: &mut Vec<u16, &A>, place: u16) -> Result<(), AllocError>
     ensures { OnOk result (steps.new.items ≡ steps.old.items ++ place ∷ []) }
 {

@@ -1,4 +1,4 @@
-//! The squares that a pawn can just have jumped over.
+//! The squares that a pawn may have passed in a double step just before.
 ghost use Rattle.std.specs.Prelude.{◌≡◌, ◌≤◌, ◌<◌, ◌+◌, ◌++◌, ◌∷◌, []};
 ghost use Rattle.arrayvec.specs.ArrayVec.{array_vec_len};
 ghost use Rattle.study_board.specs.Position.{could_be_passed};
@@ -7,7 +7,7 @@ ghost use Rattle.study_view.specs.Setup.{passed_from, passed_squares};
 use arrayvec::ArrayVec;
 use study_board::{Kind, Man, Side, Square, has_man, is_occupied};
 
-/// Whether a pawn of the side that is not to move can just have jumped over the square.
+/// Whether a pawn of the side not to move may have passed the square in a double step just before.
 #[tactic(auto, unfolding(study_board::specs::Position::could_be_passed))]
 fn could_be_passed(men: &[Man], to_move: Side, x: Square) -> bool
     ensures { result ≡ could_be_passed men.now to_move x }
@@ -29,7 +29,7 @@ fn could_be_passed(men: &[Man], to_move: Side, x: Square) -> bool
     }
 }
 
-/// Puts one more square last.
+/// Appends a square to the list.
 fn push_square(x: Square, list: &mut ArrayVec<Square, 64>)
     requires { array_vec_len list.old < 64 }
     ensures items { list.new.items ≡ list.old.items ++ x ∷ [] }
@@ -38,7 +38,7 @@ fn push_square(x: Square, list: &mut ArrayVec<Square, 64>)
     list.push(x);
 }
 
-/// Adds such squares from this number on.
+/// Adds such squares, starting at this number.
 fn add_from(men: &[Man], to_move: Side, number: u8, list: &mut ArrayVec<Square, 64>)
     requires within { number ≤ 64 }
     requires room { array_vec_len list.old ≤ number }

@@ -1,4 +1,4 @@
-//! Where else a man could stand.
+//! The result of a stipulation with a man on each other square.
 ghost use Rattle.std.specs.Prelude.{◌≡◌, ◌+◌, ◌++◌, ◌∷◌, [], ◌-◌, ◌<◌, ◌≤◌, ◌↔◌, ◌⊎◌, List, length, None, OnOk, IfOk, IfErr, IfSome, IfNone, IsSome, Err};
 ghost use Rattle.std.specs.List.{All};
 ghost use Rattle.arrayvec.specs.ArrayVec.{array_vec_len};
@@ -22,8 +22,8 @@ use study_moves::{MAX_MOVES, Move};
 use study_review::Continuation;
 use study_values::{ProbeFault, Value, Values};
 
-/// What a stipulation comes to with a man on a square: that is no position; the position fails or holds, with its value;
-/// and where the hero is to move, how many first moves hold, or which one, where it is one alone.
+/// The result for one square: not a valid position, or whether the stipulation holds, with the value, and, if the hero is to move, the number of
+/// first moves that keep it, or the only one.
 #[derive(Clone, Copy, Debug, PartialEq, Eq)]
 pub enum Standing {
     Impossible,
@@ -33,7 +33,7 @@ pub enum Standing {
     Only(Value, Move),
 }
 
-/// A square, and what the stipulation comes to with the man there.
+/// A square, and the result with the man there.
 #[derive(Clone, Copy, Debug, PartialEq, Eq)]
 pub struct Stood {
     pub at: Square,
@@ -54,7 +54,7 @@ impl Default for Stood {
     }
 }
 
-/// A position, one of its squares, and what the hero is to reach.
+/// A position, one of its squares, and the stipulation.
 #[derive(Clone, Copy)]
 pub struct Question<'q> {
     pub position: &'q Position,
@@ -87,7 +87,7 @@ fn moved_men(from: Square, to: Square, men: &[Man]) -> ArrayVec<Man, 4>
     list
 }
 
-/// The position with the man of one square on another, if that is one.
+/// The position with the man of one square on another, if it is valid.
 pub fn with_man_at(p: &Position, from: Square, to: Square) -> Option<Position>
     ensures none { IfNone result (IsSome (stood_fault p.now from to)) }
     ensures some { IfSome result (λ q. (stood_fault p.now from to ≡ None) × (q ≡ stood p.now from to)) }
@@ -178,7 +178,7 @@ fn standing_at<V: Values>(
     }
 }
 
-/// Puts one more square last.
+/// Appends a result to the list.
 fn push_stood(
     question: &Question<'_>,
     at: Square,
@@ -195,7 +195,7 @@ fn push_stood(
     list.push(Stood { at, standing });
 }
 
-/// Adds the results for the squares from this number on, but for the man's own.
+/// Adds the results for the squares from this number on, except the man's own.
 fn stand_from<V: Values>(
     question: &Question<'_>,
     number: u8,
@@ -227,7 +227,7 @@ fn stand_from<V: Values>(
     }
 }
 
-/// What the stipulation comes to with the man on each other square, in the order a1, b1 up to h8.
+/// The result with the man on each other square, in the order a1, b1 up to h8.
 pub fn stand_each<V: Values>(
     question: &Question<'_>,
     values: &mut V,
@@ -244,7 +244,7 @@ pub fn stand_each<V: Values>(
     }
 }
 
-/// What the stipulation comes to with the man of a square on each other square, in the order a1, b1 up to h8.
+/// The result of the stipulation with the man of a square on each other square, in the order a1, b1 up to h8.
 pub fn survey<V: Values>(
     question: &Question<'_>,
     values: &mut V,

@@ -1,4 +1,4 @@
-//! The survey of a man, and its way to a writer.
+//! The text of a survey, and writing it.
 ghost use Rattle.std.specs.Prelude.{◌≡◌, ◌++◌, ◌↔◌, List, ℕ, true, None, OnOk, IfOk, Ok, Err, codes, decimal};
 ghost use Rattle.std.specs.List.{All, flat_map};
 ghost use Rattle.std.specs.Io.KnownBytes.{Appends};
@@ -25,7 +25,7 @@ use study_review::{add_counted, add_value};
 use study_text::{Text, write_text};
 use study_values::{Value, Values};
 
-/// The man, and what the hero is to reach.
+/// The man, and the stipulation.
 #[tactic(auto, unfolding(crate::specs::Survey::survey_line))]
 fn add_man<A: Allocator>(
     text: &mut Text<'_, A>,
@@ -42,7 +42,7 @@ fn add_man<A: Allocator>(
     text.add(b"\n")
 }
 
-/// The one first move that holds.
+/// The only first move that holds.
 fn add_only<A: Allocator>(
     text: &mut Text<'_, A>,
     q: &Position,
@@ -58,7 +58,7 @@ fn add_only<A: Allocator>(
     add_san(text, q, m)
 }
 
-/// How many first moves hold.
+/// The number of first moves that hold.
 fn add_many<A: Allocator>(
     text: &mut Text<'_, A>,
     value: Value,
@@ -174,10 +174,10 @@ fn survey_text<'a, A: Allocator, V: Values>(
     }
 }
 
-/// Writes what a stipulation comes to with the man of a square on each other square.
+/// Writes the result of a stipulation with the man of a square on each other square.
 ///
-/// The values are probed, and then the text is made whole: want of memory, and a value that cannot be read, are reported before the first
-/// byte. A writer that fails or takes nothing ends the call; it has taken a prefix of the text then.
+/// The values are probed, and the text is completed in memory: want of memory, and a value that cannot be read, are reported before the first byte. A
+/// writer that fails or accepts nothing ends the call; it then has a prefix of the text.
 pub fn write_survey<'a, A: Allocator, V: Values, W: Write>(
     alloc: &'a A,
     question: &Question<'_>,

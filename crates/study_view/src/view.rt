@@ -1,4 +1,4 @@
-//! The view of a study at a path, and its way to a writer.
+//! The view of a study at a path, and writing it.
 ghost use Rattle.std.specs.Prelude.{◌≡◌, ◌++◌, ◌≤◌, ◌↔◌, List, ℕ, true, length, OnOk, IfOk, Ok, Err, Some, None, IsTrue};
 ghost use Rattle.std.specs.List.{All, flat_map};
 ghost use Rattle.std.specs.Io.KnownBytes.{Appends};
@@ -66,7 +66,7 @@ fn tree_lines<'a, 'b, A: Allocator, B: Allocator, V: Values>(
     Ok(lines)
 }
 
-/// The text of the view, by all legal moves with the values after them, and the lines of all nodes.
+/// The text of the view, from all legal moves with the values after them, and the lines of all nodes.
 fn text_of<'a, 'b, A: Allocator, B: Allocator>(
     alloc: &'a A,
     bench: &Bench<'b, B>,
@@ -151,9 +151,9 @@ fn view_at<'a, 'b, A: Allocator, B: Allocator, V: Values>(
 
 /// Writes the view of a study at a path.
 ///
-/// The values after all legal moves at the path are read, then those of the nodes and of the same men with the other side to move, and then
-/// the text is made whole: want of memory, and a value that cannot be read, are reported before the first byte. A writer that fails or
-/// takes nothing ends the call; it has taken a prefix of the text then.
+/// The values after all legal moves at the path are read, then those of the nodes and of the same men with the other side to move, and the text is
+/// completed in memory: want of memory, and a value that cannot be read, are reported before the first byte. A writer that fails or accepts nothing
+/// ends the call; it then has a prefix of the text.
 pub fn write_view<'a, 'b, A: Allocator, B: Allocator, V: Values, W: Write>(
     alloc: &'a A,
     bench: &Bench<'b, B>,

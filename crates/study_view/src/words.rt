@@ -123,7 +123,7 @@ fn add_fen<A: Allocator>(text: &mut Text<'_, A>, start: &Start) -> Result<(), Al
     text.add(write_fen(start).as_str().as_bytes())
 }
 
-/// Where the study starts.
+/// The line with the start of the study.
 #[tactic(auto, unfolding(crate::specs::Words::study_line))]
 pub fn add_study<A: Allocator>(text: &mut Text<'_, A>, start: &Start) -> Result<(), AllocError>
     ensures { OnOk result (text.new ≡ text.old ++ study_line start.now) }
@@ -133,7 +133,7 @@ pub fn add_study<A: Allocator>(text: &mut Text<'_, A>, start: &Start) -> Result<
     text.add(b"\n")
 }
 
-/// What a node shows, up to the end of the line.
+/// The part of a node's line from its value to its end.
 #[tactic(auto, unfolding(crate::specs::Words::shown_words))]
 fn add_shown<A: Allocator>(
     text: &mut Text<'_, A>,
@@ -183,7 +183,7 @@ fn add_count<A: Allocator>(text: &mut Text<'_, A>, p: &Position) -> Result<(), A
     }
 }
 
-/// How many legal moves there are, or how the game ended.
+/// The number of legal moves, or how the game ended.
 #[tactic(auto, unfolding(crate::specs::Words::at_line))]
 pub fn add_at<A: Allocator>(
     text: &mut Text<'_, A>,
@@ -197,7 +197,7 @@ pub fn add_at<A: Allocator>(
     text.add(b"\n")
 }
 
-/// What a move leads to, up to the end of the line.
+/// The position after a move with its value and mark, to the end of the line.
 #[tactic(auto, unfolding(crate::specs::Words::reached_words))]
 fn add_reached<A: Allocator>(
     text: &mut Text<'_, A>,

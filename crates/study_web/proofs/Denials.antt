@@ -1,4 +1,4 @@
--- Answers that are whole, and refusals.
+-- Whole answers, and refusals.
 use Rattle.std.proofs.Common.{◌≡◌, ◌⊎◌, ℕ, Bool, true, false, List, [], ◌∷◌, Option, Result, Ok, Err, refl, sym, ap, subst, ◌∙◌, inl, inr}
 use Rattle.std.specs.Prelude.{IfOk, IfErr, IsErrAnd}
 use Rattle.study_script.specs.declared.running.RunFault.{RunFault}
@@ -51,7 +51,7 @@ whole_denied IsIt May Stops d text (Refused e) (same, is) may stops = (subst May
 whole_denied IsIt May Stops d text (ending.Stopped fault) (same, is) may stops = (subst Stops (sym same) stops, is)
 whole_denied IsIt May Stops d text (Ran summary) x may stops = absurd x
 
--- a text that was made, or the reason why there is none
+-- a finished text, or the reason why there is none
 pub whole_told : {V : Type 0} (made : Result V NoText) (items : V → List ℕ) (IsIt : List ℕ → Type 0) (May : Denial → Type 0)
     (Stops : RunFault → Type 0) (text : List ℕ) (ended : Ending) → IfOk made (λ v. (ended ≡ Answered) × (text ≡ items v))
     → IfErr made (λ why. IsUntold why text ended) → IfOk made (λ v. IsIt (items v)) → IfErr made (MayEnd May Stops)
@@ -82,7 +82,7 @@ survey_over h m Right start square (denial.OfFile c refusal) is = inl is
 survey_over h m Right start square denial.NoMan is = absurd is
 survey_over h m Right start square (denial.Unread fault) is = inl is
 
--- ---- why nothing is found
+-- ---- why a search fails
 
 pub search_over : (h : Known) (m : Faults) (Right : Type 0) (d : Denial) → IsOfTables h m d → IsOfSearch h m Right d
 search_over h m Right d is = inl is
@@ -127,7 +127,7 @@ module _ {V : Type 0} (held : V → Class → Bool) (gives : V → Position → 
       let there = subst (λ (x : Result (Unit {0}) ViewFault). HasViewed held gives may_fail asked_of failed_of is_honest p asked old x new) e is in
       there.stopped
 
-  -- in a state that holds the same, the value cannot be read for this fault
+  -- if a state has the same tables, the value cannot be read for this fault
   pub untold_in : (s : State) (p : Position) → IsValid p → (old new : V) (fault : ProbeFault)
       → Stopped held (within p gives) may_fail asked_of failed_of is_honest old fault new
       → is_honest old → ((c : Class) → held old c ≡ is_among s.classes c)
@@ -139,12 +139,12 @@ module _ {V : Type 0} (held : V → Class → Bool) (gives : V → Position → 
       let k = fails r.0 f r.2 in (k.0, r.0, r.1, k.1)
   untold_in s p valid old new (probe.PageDamaged c n) is honest known fails = absurd (is.no_damage honest)
 
--- tables that may fail are read by pages
+-- pages read from tables that may fail
 paged_where : {P A : Type 0} (gives : GivesOf P) (t : Tables P A) (c : Class) (f : SourceFault) → tables_may_fail gives t c f → are_paged t ≡ true
 paged_where gives (Whole w) c f h = absurd h
 paged_where gives (Paged w) c f h = refl
 
--- the same of the tables of a session
+-- the same for the tables of a session
 pub untold_left : {P A : Type 0} (honest : P → Table → ℕ → Type 0) (gives : GivesOf P) (b : HeldDocument A) (old new : Tables P A) (fault : ProbeFault)
     → StudyStopped tables_held (tables_give gives) (tables_may_fail gives) tables_asked tables_failed (tables_honest honest) (document_seen b) old fault new
     → (s : State) → Holds honest gives b old s → IsViewUntold s fault
@@ -155,7 +155,7 @@ untold_left honest gives b old new fault (plain, seen, valid, is) s holds = (
       fault is holds.values holds.classes (λ c f h. (sym holds.paged ∙ paged_where gives old c f h, holds.faults c f h)),
 )
 
--- what is told of each text under a premise
+-- the result of each request under a premise
 pub if_right : {V E : Type 0} (made : Result V E) (items : V → List ℕ) (Right : Type 0) (IsIt : List ℕ → Type 0)
     → (Right → IfOk made (λ v. IsIt (items v))) → IfOk made (λ v. Right → IsIt (items v))
 if_right (Ok v) items Right IsIt f = f
@@ -173,7 +173,7 @@ pub probe_denial : (Untold : ProbeFault → Type 0) (Lacks : Type 0) (fault : Pr
     → IsViewDenial Untold Lacks (denial.Refused (of_probe fault))
 probe_denial Untold Lacks fault is = inr (inr (fault, is, refl))
 
--- no node, and no memory, where there is no text
+-- without a text: no such node, or no memory
 pub node_end : (Untold : ProbeFault → Type 0) (Lacks : Type 0) (Stops : RunFault → Type 0) (why : NoText)
     → why ≡ no_text.Denied (denial.Refused NoSuchNode) → Lacks → MayEnd (IsViewDenial Untold Lacks) Stops why
 node_end Untold Lacks Stops why e h = subst (MayEnd (IsViewDenial Untold Lacks) Stops) (sym e) (node_denial Untold Lacks h)
@@ -200,7 +200,7 @@ module _ (Untold Unread : ProbeFault → Type 0) (Lacks Misses : Type 0) (untold
   passed_on (Ok v) Stops why e h = absurd e
   passed_on (Err x) Stops why e h = subst (MayEnd (IsViewDenial Unread Misses) Stops) (sym e) (weaker_end Stops why h)
 
-  -- why there is no view of what is left is why there is none of the script
+  -- a reason why there is no view of what is left is also a reason for the script
   pub weaker_denial : {V : Type 0} (May : Denial → Type 0) (Stops Ends : RunFault → Type 0) → ((fault : RunFault) → Stops fault → Ends fault)
       → (made : Result V NoText) → IfErr made (MayEnd (IsViewDenial Untold Lacks) Stops)
       → IfErr made (MayEnd (λ d. May d ⊎ IsViewDenial Unread Misses d) Ends)
@@ -208,7 +208,7 @@ module _ (Untold Unread : ProbeFault → Type 0) (Lacks Misses : Type 0) (untold
   weaker_denial May Stops Ends ends (Err (no_text.Denied d)) h = inr (weaker_view d h)
   weaker_denial May Stops Ends ends (Err (no_text.Stopped fault)) h = ends fault h
 
-  -- the same over the files that are handed in
+  -- the same over the files of the request
   pub handed_denial : {V : Type 0} (May Might : Denial → Type 0) (Stops : RunFault → Type 0) → ((d : Denial) → May d → Might d)
       → (made : Result V NoText) → IfErr made (MayEnd (λ d. May d ⊎ IsViewDenial Untold Lacks d) Stops)
       → IfErr made (MayEnd (λ d. Might d ⊎ IsViewDenial Unread Misses d) Stops)
@@ -217,7 +217,7 @@ module _ (Untold Unread : ProbeFault → Type 0) (Lacks Misses : Type 0) (untold
   handed_denial May Might Stops may (Err (no_text.Denied d)) (inr h) = inr (weaker_view d h)
   handed_denial May Might Stops may (Err (no_text.Stopped fault)) h = h
 
--- the same of a survey
+-- the same for a survey
 module _ (May Might : Denial → Type 0) (start : Start) (square : ℕ) (may : (d : Denial) → May d → Might d) where
   survey_end : (why : NoText) → MayEnd (IsSurveyDenial May start square) IsNoMemory why → MayEnd (IsSurveyDenial Might start square) IsNoMemory why
   survey_end (no_text.Denied (denial.Refused refusal)) h = may (denial.Refused refusal) h
@@ -231,7 +231,7 @@ module _ (May Might : Denial → Type 0) (start : Start) (square : ℕ) (may : (
   survey_denial (Ok v) h = tt
   survey_denial (Err why) h = survey_end why h
 
--- the same of what is found
+-- the same for a search
 pub search_denial : {V : Type 0} (made : Result V NoText) (May Might : Denial → Type 0) → ((d : Denial) → May d → Might d)
     → IfErr made (MayEnd May IsNoMemory) → IfErr made (MayEnd Might IsNoMemory)
 search_denial (Ok v) May Might may h = tt

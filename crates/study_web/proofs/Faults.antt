@@ -1,4 +1,4 @@
--- A fault of the file of a class that is needed is one of the whole.
+-- A fault in the file of a needed class is a fault of the whole request.
 use Rattle.std.proofs.Common.{◌≡◌, ◌≢◌, ◌<◌, ℕ, List, [], ◌∷◌, length, Option, Some, None, Result, Ok, Err, subst, inl, inr}
 use Rattle.std.specs.Prelude.{IfErr}
 use Rattle.std.proofs.Math.ListN.{get_or}
@@ -15,7 +15,7 @@ use Rattle.study_web.specs.declared.make.MakeFault.TheVariants.{MissingTable, Fi
 use Rattle.study_web.specs.Spans.{file_in}
 use Rattle.study_web.specs.Making.{IsFaultIn, IsFirstFault, IsMakeFault, IsSoundIn}
 
--- no file has one of these faults
+-- if no file has one of these faults
 no_missing : (spans : List Span) (bytes : List ℕ) (c e : Class) (ds : List Class) → IsFirstFault spans bytes c ds (MissingTable e) → ⊥
 no_missing spans bytes c e [] x = x
 no_missing spans bytes c e (d ∷ ds) (inl (other, x)) = none (file_in spans bytes d) x
@@ -34,7 +34,7 @@ no_distance spans bytes c (d ∷ ds) (inl (other, x)) = none (file_in spans byte
     none (Some text) x = x
 no_distance spans bytes c (d ∷ ds) (inr (sound, x)) = no_distance spans bytes c ds x
 
--- the first fault of the files of what a class needs is one of the whole
+-- the first fault among the files that a class needs is a fault of the whole request
 pub fault_raised : (spans : List Span) (bytes : List ℕ) (c : Class) (ds : List Class) (fault : MakeFault) → IsOrder c ds
     → IsFirstFault spans bytes c ds fault → IsMakeFault spans bytes c fault
 fault_raised spans bytes c ds (File e f) order x = (ds, order, x)
@@ -43,7 +43,7 @@ fault_raised spans bytes c ds (MissingTable e) order x = absurd (no_missing span
 fault_raised spans bytes c ds DistanceTooLarge order x = absurd (no_distance spans bytes c ds x)
 fault_raised spans bytes c ds OutOfMemory order x = tt
 
--- the first fault of the files of the classes behind one whose file has none
+-- the first fault among the files of the classes behind one whose file has none
 pub later_fault : {T : Type 0} (r : Result T MakeFault) (spans : List Span) (bytes : List ℕ) (c need : Class) (rest all : List Class) → all ≡ need ∷ rest
     → (need ≢ c → IsSoundIn (file_in spans bytes need) need) → IfErr r (IsFirstFault spans bytes c rest) → IfErr r (IsFirstFault spans bytes c all)
 later_fault (Ok x) spans bytes c need rest all is sound later = tt
@@ -60,6 +60,6 @@ pub needed_at : {c : Class} {order items : List Class} {i : ℕ} (d : Class) →
 needed_at {c} {order} {items} {i} d all same l =
     (all.each (get_or items i d)).0 (subst (λ ds. Contains ds (get_or items i d)) same (Contains-get_or items i d l))
 
--- where all tables are right, so are those that a class needs
+-- if all tables are right, so are those that a class needs
 pub needs_right : {held : List (Option Table)} {c : Class} → TablesAreRight held → NeedsAreRight held c
 needs_right all = record { right = λ d t needed is. all.right d t is }

@@ -1,4 +1,4 @@
--- A file that was made, among other bytes.
+-- A finished file among other bytes.
 use Rattle.std.proofs.Common.{◌≡◌, ◌≢◌, ◌⊎◌, ◌==◌, ℕ, ◌+◌, ◌≤◌, Bool, true, false, List, [], ◌∷◌, ◌++◌, length, take, drop}
 use Rattle.std.proofs.Common.{Option, Some, None, Ok, inl, inr, arith, refl, sym, ap, subst, ◌∙◌}
 use Rattle.std.proofs.lemmas.Bool.{cases_Bool, eq-eqb, ne_eqb, le-leb}
@@ -34,7 +34,7 @@ laid-first c file before after behind =
       take-append_seam file after,
     ) refl
 
--- a span within some bytes has the same there where more follow
+-- a span within some bytes has the same content if more bytes follow
 same-bytes : (start n : ℕ) (bytes more : List ℕ) → start + n ≤ length bytes → take n (drop start (bytes ++ more)) ≡ take n (drop start bytes)
 same-bytes start n bytes more le =
     ap (take n) (drop-append-le start bytes more (omega arith)) ∙ take-append-le n (drop start bytes) more (omega (arith, length-drop start bytes))

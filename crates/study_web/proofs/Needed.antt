@@ -1,4 +1,4 @@
--- Where a table that is needed is not held, a file is missing.
+-- If a needed table is not loaded, a file is missing.
 use Rattle.std.proofs.Common.{◌≡◌, ◌⊎◌, ℕ, zero, suc, ◌<◌, ◌≤◌, nat_lt, nat_le, Bool, true, false, cond, List, [], ◌∷◌, length}
 use Rattle.std.proofs.Common.{get_or, set, filter, Option, Some, None, Result, Ok, Err, is_some, refl, sym, ap, subst, ◌∙◌, inl, inr, arith}
 use Rattle.std.specs.Prelude.{IsOk, OnOk, OnErr, MatchOption}
@@ -48,7 +48,7 @@ module _ (c : Class) (cs : List Class) where
       go zero l s = inl s
       go (suc i) l s = inr (i, omega (arith, l), s)
 
--- a list that is filtered, by whether its first passes
+-- a filtered list, by whether its first element passes
 module _ (p : Class → Bool) (c : Class) (cs : List Class) where
   all_with : (q : Class → Bool) → q c ≡ true → list_all q (filter p cs) ≡ true → (b : Bool) → p c ≡ b → list_all q (filter p (c ∷ cs)) ≡ true
   all_with q own rest true f = rw f (and_from (q c) (list_all q (filter p cs)) own rest)
@@ -92,7 +92,7 @@ module _ (first : NeedsComeFirst) where
   smaller_than : (c d e : Class) → IsNeeded c d → Contains (needs_of d) e → size e < size c
   smaller_than c d e needed k = let a = needs_smaller d e k in let b = no_larger needed.0 c d needed.1 in omega (arith, a, b)
 
-  -- what the first of these needs is not among them
+  -- the first class that this one needs is not among them
   not_among : (c : Class) (cs : List Class) (d : Class) → is_ascending (c ∷ cs) ≡ true → Contains (needs_of c) d → Contains (c ∷ cs) d → ⊥
   not_among c cs d up k among = elim (head_or_tail c cs d among) [
     | inl e ↦ let a = needs_smaller c d k in let b : size c ≡ size d = ap size e in omega (arith, a, b)
@@ -119,7 +119,7 @@ missing_with held c cs d rest true h k = let r = rest k in (at_tail c cs d r.0, 
 missing_with held c cs d rest false h k = let same : c ≡ d = cc in
     (subst (λ (x : Class). Contains (c ∷ cs) x) same (at_head c cs), subst (λ (x : Class). is_some (table_of held x) ≡ false) same h)
 
--- a class that is missing is among those that are needed, and is not held
+-- a missing class is among those that are needed, and is not loaded
 missing_at : (held : List (Option Table)) (cs : List Class) (d : Class) → first_missing held cs ≡ Some d
     → Contains cs d × (is_some (table_of held d) ≡ false)
 missing_at held [] d e = absurd (let no : ⊥ = cc in no)
@@ -148,7 +148,7 @@ module _ {E : Type 0} (w v : Whole) (t : Table) (r : Result (Unit {0}) E) (close
       go (Ok u) is k = rw is (stays w.tables t closed.places d h)
       go (Err e) is k = rw k h
 
-  -- a table that is added has a file where its class has one
+  -- an added table has a file if its class has one
   pub keeps_files : (spans : List Span) (bytes : List ℕ) (c : Class) → t.class ≡ c → is_some (file_in spans bytes c) ≡ true
       → HaveFiles spans bytes w.tables → HaveFiles spans bytes v.tables
   keeps_files spans bytes c own file files = λ d. go r added same d
@@ -165,7 +165,7 @@ module _ {E : Type 0} (w v : Whole) (t : Table) (r : Result (Unit {0}) E) (close
       go (Ok u) is k d h = put d (subst (λ (y : Whole). is_some (table_of y.tables d) ≡ true) is h)
       go (Err e) is k d h = files d (subst (λ (y : Whole). is_some (table_of y.tables d) ≡ true) k h)
 
-  -- a table that is added is held, or was, or lacks one that it needs
+  -- an added table is loaded, or was loaded before, or lacks one that it needs
   pub taken : (spans : List Span) (bytes : List ℕ) (c : Class)
       → (is_some (table_of w.tables c) ≡ false → first_missing w.tables (needs_of c) ≡ None → IsOk r) → t.class ≡ c
       → IsTaken spans bytes c w.tables v.tables
@@ -187,7 +187,7 @@ module _ {E : Type 0} (w v : Whole) (t : Table) (r : Result (Unit {0}) E) (close
 
 -- ---- what is settled
 
--- a class without a table lacks a file, where what it needs is settled
+-- a class without a table lacks a file if what it needs is settled
 settled : NeedsComeFirst → (spans : List Span) (bytes : List ℕ) (c d : Class) (old new : List (Option Table)) → IsNeeded c d
     → IsTaken spans bytes d old new → ((e : Class) → Contains (needs_of d) e → IsSettled spans bytes c old e) → IsSettled spans bytes c new d
 settled first spans bytes c d old new needed (inl held) before = λ l. inl held
@@ -203,14 +203,14 @@ settled_still : (spans : List Span) (bytes : List ℕ) (c d : Class) (old new : 
     → (is_some (table_of old d) ≡ true → is_some (table_of new d) ≡ true) → IsSettled spans bytes c old d → IsSettled spans bytes c new d
 settled_still spans bytes c d old new keeps is = λ l. elim (is l) [ inl held ↦ inl (keeps held) | inr lacks ↦ inr lacks ]
 
--- with a table all that it needs is held, through others too
+-- if a table is loaded, so are all that it needs, also through others
 held_through : (held : List (Option Table)) → IsClosed held → (n : ℕ) (c d : Class) → Reaches n c d → is_some (table_of held c) ≡ true
     → is_some (table_of held d) ≡ true
 held_through held closed zero c d same h = subst (λ (x : Class). is_some (table_of held x) ≡ true) same h
 held_through held closed (suc n) c d (e, k, r) h =
     held_through held closed n e d r (closed.ready c h e k)
 
--- so a class whose table is held lacks no file
+-- so a class whose table is loaded lacks no file
 has_files : (spans : List Span) (bytes : List ℕ) (held : List (Option Table)) → IsClosed held → HaveFiles spans bytes held → (c : Class)
     → is_some (table_of held c) ≡ true → LacksFile spans bytes c → ⊥
 has_files spans bytes held closed files c h (d, (n, r), none) =
@@ -224,14 +224,14 @@ module _ (spans : List Span) (bytes : List ℕ) (held : List (Option Table)) (cl
   lacking_at e es (inl held_too) rest false h k = absurd (false≢true (sym h ∙ held_too))
   lacking_at e es (inr lacks) rest false h k = let same : e ≡ d = cc in inl (same, lacks)
 
-  -- the first that is not held is the first that lacks a file
+  -- the first class that is not loaded is the first that lacks a file
   first_lacking : (es : List Class) → ((e : Class) → Contains es e → (is_some (table_of held e) ≡ true) ⊎ LacksFile spans bytes e)
       → first_missing held es ≡ Some d → IsFirstLacking spans bytes es d
   first_lacking [] all k = absurd (let no : ⊥ = cc in no)
   first_lacking (e ∷ es) all k =
       lacking_at e es (all e (at_head e es)) (first_lacking es (λ x at. all x (at_tail e es x at))) (is_some (table_of held e)) refl k
 
--- the first class that is needed and not held is the first that lacks a file
+-- the first class that is needed and not loaded is the first that lacks a file
 lacking : NeedsComeFirst → (spans : List Span) (bytes : List ℕ) (c d : Class) (held : List (Option Table)) → IsClosed held
     → HaveFiles spans bytes held → ((e : Class) → IsNeeded c e → IsSettled spans bytes c held e) → first_missing held (needs_of c) ≡ Some d
     → IsFirstLacking spans bytes (needs_of c) d
@@ -249,7 +249,7 @@ build_fault first spans bytes c held from (build.MissingTable d) same missing fa
 build_fault first spans bytes c held from build.DistanceTooLarge same missing far right all closed files =
     λ r. far (subst (λ (h : List (Option Table)). NeedsAreRight h c) (sym same) (needs_right (right r))) refl
 
--- a table that nothing is against is added
+-- a table without a fault is added
 pub added_ok : {X : Type 0} (P : AddFault → Type 0) (held : List (Option Table)) (k c : Class) → k ≡ c → is_some (table_of held c) ≡ false
     → first_missing held (needs_of c) ≡ None → MatchOption (add_fault held k) X P → X
 added_ok P held k c same lacks none is = rw (same, lacks, none) at is
@@ -260,7 +260,7 @@ pub settled_ok : {E : Type 0} (r : Result (Unit {0}) E) → NeedsComeFirst → (
 settled_ok (Ok u) first spans bytes c d old new needed taken before = settled first spans bytes c d old new needed taken before
 settled_ok (Err e) first spans bytes c d old new needed taken before = tt
 
--- what is known of the classes after the first of those that are needed
+-- for the classes after the first of those that are needed
 module _ (c need : Class) (rest all : List Class) (is : all ≡ need ∷ rest) (needed : (d : Class) → Contains all d → IsNeeded c d) where
   within : (d : Class) → Contains (need ∷ rest) d → Contains all d
   within d k = subst (λ (xs : List Class). Contains xs d) (sym is) k

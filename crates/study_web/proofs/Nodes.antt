@@ -1,4 +1,4 @@
--- Paths at which there is no node.
+-- Paths without a node.
 use Rattle.std.proofs.Common.{◌≡◌, ◌==◌, ℕ, false, List, [], length, map, Option, None, is_some, ap, ◌∙◌, arith}
 use Rattle.std.specs.Prelude.{codes}
 use Rattle.std.specs.Str.{bytes_eq}
@@ -12,12 +12,12 @@ use Rattle.study_marks.specs.Study.{Study, plain_study}
 use Rattle.study_marks.proofs.SameShape.{has_node-mapped}
 use Rattle.study_command.specs.Paths.{places_in, steps_of}
 
--- a node that a study with marks lacks its plain study lacks
+-- a node that is missing from an annotated study is missing from the plain study
 pub lacks_plainly : (s : Study Mark) (path : List ℕ) → spot_at s.tree path ≡ None → has_spot (plain_study s).tree path ≡ false
 lacks_plainly s path none =
     has_node-mapped (λ (x : Mark). tt) s.tree.below path ∙ (places-shown s.tree path).0 ∙ ap (λ (o : Option (Spot Mark)). is_some o) none
 
--- a word other than `root` has places
+-- a word other than `root` is a list of child numbers
 pub places_other : (word : List ℕ) → bytes_eq word (codes "root") ≡ false → steps_of word ≡ [] → ⊥
 unfolding steps_of
 places_other word other e =

@@ -1,4 +1,4 @@
--- What is known of tables that are opened one after the other.
+-- Tables that are opened one after the other.
 use Rattle.std.proofs.Common.{◌≡◌, ◌⊎◌, ℕ, Bool, true, false, List, ◌∷◌, Option, Result, Ok, Err, sym, ap, subst, ◌∙◌, inl, inr}
 use Rattle.std.specs.Prelude.{OnOk}
 use Rattle.std.proofs.lemmas.Bool.{false≢true, cases_Bool}
@@ -49,7 +49,7 @@ module _ {E : Type 0} (held held' held'' : Class → Bool) (now next : Known) (r
       ]
       go (Err e) up f = tt
 
--- a table may fail as it might at first, or as the store's source may
+-- a table may fail as at first, or as the source of the store may
 pub fails_on : {E : Type 0} (fails fails' fails'' : Class → SourceFault → Type 0) (now next : Class → SourceFault → Bool) (r : Result (Unit {0}) E)
     → ((c : Class) (f : SourceFault) → next c f ≡ now c f)
     → ((c : Class) (f : SourceFault) → fails' c f → fails c f ⊎ (now c f ≡ true))

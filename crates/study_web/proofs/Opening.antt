@@ -46,14 +46,14 @@ module _ {P : Type 0} (w v : Paged P) (c : Class) (x : OpenTable P) (long : leng
   there d e = ap (λ (xs : List (Option (OpenTable P))). held_of xs d) sources
       ∙ held_other (places_for_classes w.sources) c d (Some x) e ∙ held_placed w.sources d
 
-  -- what was held is held
+  -- a table that was loaded stays loaded
   pub grows_with : (d : Class) → is_some (held_of w.sources d) ≡ true → is_some (held_of v.sources d) ≡ true
   grows_with d h = elim (same_class c d) [
     | inl e ↦ ap (λ (o : Option (OpenTable P)). is_some o) (here d e)
     | inr f ↦ ap (λ (o : Option (OpenTable P)). is_some o) (there d f) ∙ h
   ]
 
-  -- what is held was held, or was opened
+  -- each loaded table was loaded before or has been opened
   pub opened_with : (Opened : Class → Type 0) → Opened c → (d : Class) → is_some (held_of v.sources d) ≡ true
       → (is_some (held_of w.sources d) ≡ true) ⊎ Opened d
   opened_with Opened k d h = elim (same_class c d) [
@@ -64,7 +64,7 @@ module _ {P : Type 0} (w v : Paged P) (c : Class) (x : OpenTable P) (long : leng
   pub held_with : is_some (held_of v.sources c) ≡ false → ⊥
   held_with h = false≢true (sym h ∙ ap (λ (o : Option (OpenTable P)). is_some o) (here c refl))
 
--- what may fail might, or the source that was put in may
+-- each possible fault was possible before, or comes from the source that was put in
 pub fails_with : {P : Type 0} (w v : Paged P) (c : Class) (x : OpenTable P) (long : length v.sources ≡ 36)
     → v ≡ record w { sources = set (places_for_classes w.sources) (class_number c) (Some x) } → (gives : GivesOf P) (source : P)
     → GiveAlike gives source x.source → (m : Class → SourceFault → Bool)
@@ -78,7 +78,7 @@ fails_with w v c x long is gives source alike m fails d f h = elim (same_class c
   | inr far ↦ inl (subst (λ (o : Option (OpenTable _)). MayFail gives o d f) (there w v c x long is d far) h)
 ]
 
--- why a source of a class that is not held is refused: by what it told of its header
+-- why a source for a class that is not loaded is refused: by its header
 module _ {P : Type 0} (held : Bool) (gives : GivesOf P) (honest : HonestOf P) (source : P) (headers : Class → Option (Result (List ℕ) StoreFault))
     (m : Class → SourceFault → Bool) (c : Class) (lacks : held ≡ false) (opened : IsOpened (headers c))
     (given : (bytes : List ℕ) → gives source of_header (Ok bytes) → IsGiven (headers c) (Ok bytes))
@@ -111,7 +111,7 @@ module _ {P : Type 0} (held : Bool) (gives : GivesOf P) (honest : HonestOf P) (s
   source_denied (paged.Header f) is = bad_file (paged.Header f) (λ e. absurd cc) is
   source_denied (paged.OtherClass d) is = bad_file (paged.OtherClass d) (λ e. absurd cc) is
 
--- of a class whose header is known
+-- for a class whose header is known
 pub held_as : (known : Option (Result (List ℕ) StoreFault)) (held : Bool) → (held ≡ true → IsOpened known)
     → (held ≡ false → IsGiven known (Err NoFile)) → IsHeldAs known held
 held_as None held o g = tt
@@ -167,7 +167,7 @@ and_false : (b : Bool) → (b && false) ≡ false
 and_false true = refl
 and_false false = refl
 
--- the classes of a list that pass, one class more
+-- the classes of a list that pass, with one more class
 module _ (p : Class → Bool) (c : Class) (cs : List Class) (rest : is_among (filter p cs) c ≡ (is_among cs c && p c)) where
   with_own : (b : Bool) → p c ≡ b → is_among (filter p (c ∷ cs)) c ≡ (is_among (c ∷ cs) c && p c)
   with_own true e = rw (e, same_at c c refl) refl

@@ -18,7 +18,7 @@ line_more all now next line old new is takes more =
 pub line_none : (all now : List (List ℕ)) (old : List Position) → positions_in all ≡ old ++ positions_in now → now ≡ [] → old ≡ positions_in all
 line_none all now old is none = sym (is ∙ ap (λ (ls : List (List ℕ)). old ++ positions_in ls) none ∙ append-nil old)
 
--- what is told of a call that was not refused
+-- the result of a call that was not refused
 pub told_where_ok : {T E : Type 0} (r : Result T E) (P : Type 0) → is_err r ≡ false → OnOk r P → P
 told_where_ok (Ok x) P e h = h
 told_where_ok (Err x) P e h = absurd (false≢true (sym e))

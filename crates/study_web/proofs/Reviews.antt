@@ -1,4 +1,4 @@
--- Reviews over the files that are handed in.
+-- Reviews over the files of the request.
 use Rattle.std.proofs.Common.{◌≡◌, ℕ, Bool, List, [], replicate, false, filter, None, Result, Ok, Err, is_some}
 use Rattle.std.proofs.Common.{refl, sym, ap, subst, ◌∙◌, arith}
 use Rattle.study_material.specs.declared.class.Class.{Class}

@@ -1,4 +1,4 @@
--- A store that was just made is the shelf of its files.
+-- A new store is the shelf of its files.
 use Rattle.std.proofs.Common.{◌≡◌, ℕ, Bool, false, List, replicate, Option, Some, None, Result, Ok, Err, is_some, refl, subst, sym, ◌∙◌, inl, inr}
 use Rattle.std.specs.Prelude.{IfOk, IfErr}
 use Rattle.std.proofs.lemmas.List.{get_or-replicate}
@@ -21,7 +21,7 @@ use Rattle.study_web.specs.Opened.{IsHeldAs, AreHandedIn, AreAllRight, IsBadFile
 use Rattle.study_web.specs.Views.{OverStore, OverFiles}
 use Rattle.study_web.specs.Store.{is_written, known, faults_known, IsShelf, AreRightFiles}
 
--- all that is known of a store
+-- all properties of a store
 abbrev pub shelf_in : List Span → List ℕ → List Bool → Shelf
 shelf_in spans bytes written = record {
   files = known bytes_given spans bytes written;
@@ -43,7 +43,7 @@ module _ (spans : List Span) (bytes : List ℕ) where
   pub first_shelf : IsShelf spans bytes (shelf_in spans bytes (replicate 36 false))
   first_shelf = record { files = known_at_first bytes_given; headers = known_at_first header_given; faults = faults_at_first }
 
--- the same of a store that has these spans and bytes
+-- the same for a store with these spans and bytes
 pub shelf_made : {spans at : List Span} {bytes bs : List ℕ} {written : List Bool} → at ≡ spans → bs ≡ bytes → written ≡ replicate 36 false
     → IsShelf spans bytes (shelf_in at bs written)
 shelf_made {spans} {at} {bytes} {bs} {written} e f w = rw (e, f, w) (first_shelf spans bytes)
@@ -57,7 +57,7 @@ honest_made trusted by_pages e f right = rw (e, f) right
 pub right_made : {spans at : List Span} {bytes bs : List ℕ} → at ≡ spans → bs ≡ bytes → AreAllRight spans bytes → AreAllRight at bs
 right_made e f right = rw (e, f) right
 
--- what is held of a store that was just made is what was handed in
+-- a new store gives the files of the request
 handed : (file : Option (List ℕ)) (held : Bool) → IsHeldAs (Some (header_given file)) held → held ≡ is_some file
 handed None held h = h
 handed (Some text) held h = h
@@ -112,7 +112,7 @@ module _ (h k : Class → Option (Result (List ℕ) StoreFault)) (m n : Class �
   search_alike Right Sound g d (inl is) = inl (tables_alike d is)
   search_alike Right Sound g d (inr (fault, is, same)) = inr (fault, search_untold_alike Right Sound g fault is, same)
 
--- the same of a store that has these spans and bytes
+-- the same for a store with these spans and bytes
 module _ {spans at : List Span} {bytes bs : List ℕ} {written : List Bool} (e : at ≡ spans) (f : bs ≡ bytes) (w : written ≡ replicate 36 false) where
   headers_made : (c : Class) → known header_given at bs written c ≡ Some (header_given (file_in spans bytes c))
   headers_made c = rw (e, f, w) (known_at_first spans bytes header_given c)
@@ -136,7 +136,7 @@ module _ {spans at : List Span} {bytes bs : List ℕ} {written : List Bool} (e :
       (faults_known at bs written) (λ c. file_faults (file_in spans bytes c) c) headers_made faults_made (AreAllRight at bs)
       (AreAllRight spans bytes) (right_made e f) d is
 
-  -- what is so over the store is so over the files
+  -- what is true over the store is true over the files
   pub over_made : (IsSo : List Class → Shelf → Type 0) → OverStore (known header_given at bs written) (faults_known at bs written) IsSo
       → OverFiles spans bytes IsSo
   over_made IsSo (classes, held, shelf, knows, is) = (classes, handed_in classes e f w held, shelf, (λ c x. knows c x ∙ faults_made c x), is)

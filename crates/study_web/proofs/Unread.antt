@@ -1,4 +1,4 @@
--- Scripts that are not read to their end.
+-- Scripts that are not read to the end.
 use Rattle.std.proofs.Common.{◌≡◌, ◌⊎◌, ℕ, true, List, [], Option, Some, None, Result, Err, refl, sym, subst, inl, inr, arith}
 use Rattle.study_script.specs.declared.running.Summary.{Summary}
 use Rattle.study_script.specs.declared.running.RunFault.{RunFault}
@@ -14,7 +14,7 @@ use Rattle.study_web.specs.Views.{refused_line}
 pub no_memory : (script : List ℕ) → IsUnread script OutOfMemory
 no_memory script = (tt, None, (0, omega arith, omega arith, tt))
 
--- a script that a run stopped at for this fault is not read to its end
+-- if a run stops with this fault, the script is not read to the end
 pub unread_as : (script : List ℕ) (fault own : RunFault) → ((left : Option (List ℕ)) × Shape script left (Err fault)) → IsOwn own
     → (own ≡ fault) ⊎ (own ≡ OutOfMemory) → IsUnread script own
 unread_as script fault own at is (inl same) =
@@ -24,7 +24,7 @@ unread_as script fault own at is (inr none) = rw none (no_memory script)
 
 -- ---- a run over a slice, into memory
 
--- of a run for which there was no memory nothing is left
+-- a run that ends for want of memory leaves nothing
 pub own_shape : (script text written : List ℕ) (left : Option (List ℕ)) (ran told : Result Summary RunFault) → RunShape script left ran
     → ((text ≡ written) × (told ≡ ran)) ⊎ ((text ≡ []) × (told ≡ Err OutOfMemory)) → (left : Option (List ℕ)) × RunShape script left told
 own_shape script text written left ran told is (inl (same, ended)) = (left, subst (RunShape script left) (sym ended) is)
@@ -52,7 +52,7 @@ own_review first script text written left ran told is (inl (same, ended)) = (lef
 own_review first script text written left ran told is (inr (none, ended)) =
     rw (none, ended) (None, (0, omega arith, omega arith, (tt, [], tt, refl)))
 
--- what is so of what was written is so of what is told, but where there was no memory
+-- what is true of the written text is true of the result, unless memory ran out
 pub own_as : (P : List ℕ → Result Summary RunFault → Type 0) (text written : List ℕ) (ran told : Result Summary RunFault) → P written ran
     → ((text ≡ written) × (told ≡ ran)) ⊎ ((text ≡ []) × (told ≡ Err OutOfMemory)) → ((told ≡ Err OutOfMemory) × (text ≡ [])) ⊎ P text told
 own_as P text written ran told is (inl (same, ended)) = inr (rw (same, ended) is)

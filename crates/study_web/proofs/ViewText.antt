@@ -1,4 +1,4 @@
--- The text of a view that a writer took, from nothing on.
+-- The text of a view that a writer accepts, starting empty.
 use Rattle.std.proofs.Common.{◌≡◌, ℕ, List, [], ◌++◌, ap, subst, ◌∙◌, sym}
 use Rattle.study_marks.specs.Edits.{Plainly}
 use Rattle.study_view.specs.View.{IsViewOf}

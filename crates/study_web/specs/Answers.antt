@@ -1,4 +1,4 @@
--- What a page is answered.
+-- The answer to each request.
 use Rattle.std.specs.Prelude.{◌≡◌, ◌⊎◌, ℕ, nat_le, min, Bool, true, ◌&&◌, List, [], ◌∷◌, ◌++◌, length, take, drop, Option, Some, None, Result, Ok, Err}
 use Rattle.study_board.specs.Position.{man_at}
 use Rattle.study_material.specs.declared.class.Class.{Class}
@@ -42,7 +42,7 @@ use Rattle.study_web.specs.Store.{IsShelf, AreRightFiles}
 use Rattle.study_web.specs.Told.{denial_text, ending_of, IsDenied}
 use Rattle.study_web.specs.Views.{refused_line, over_files, IsViewOver, IsUntoldOver, LacksNodeOver, OverFiles}
 
--- ---- how a request ends that is answered whole or not at all
+-- ---- how a request ends that is answered as a whole or refused
 
 -- the text has the property; or the request is refused by its name; or its script is not read to its end
 abbrev pub IsWhole : (List ℕ → Type 0) → (Denial → Type 0) → (RunFault → Type 0) → List ℕ → Ending → Type 0
@@ -51,19 +51,19 @@ IsWhole IsIt May Stops text (Refused d) = May d × (text ≡ denial_text d)
 IsWhole IsIt May Stops text (Stopped fault) = Stops fault × (text ≡ [])
 IsWhole IsIt May Stops text (Ran summary) = ⊥
 
--- the same of what has no text
+-- the same if there is no text
 abbrev pub MayEnd : (Denial → Type 0) → (RunFault → Type 0) → NoText → Type 0
 MayEnd May Stops (no_text.Denied d) = May d
 MayEnd May Stops (no_text.Stopped fault) = Stops fault
 
--- nothing is stopped but for want of memory
+-- the only fault is want of memory
 abbrev pub IsNoMemory : RunFault → Type 0
 IsNoMemory fault = fault ≡ run_fault.OutOfMemory
 
 abbrev pub IsOutOfMemory : Denial → Type 0
 IsOutOfMemory d = d ≡ denial.Refused OutOfMemory
 
--- Why a run stops that reads bytes which are handed in and writes into memory: neither fails but for want of memory.
+-- Why a run over the bytes of a request stops if it writes into memory: reader and writer fail only for want of memory.
 abbrev pub IsOwn : RunFault → Type 0
 IsOwn run_fault.ReadDevice = ⊥
 IsOwn run_fault.WriteDevice = ⊥
@@ -80,22 +80,22 @@ IsUnread script fault = IsOwn fault × (left : Option (List ℕ)) × Shape scrip
 abbrev pub IsNever : RunFault → Type 0
 IsNever fault = ⊥
 
--- ---- the files that are looked at
+-- ---- the files that are opened
 
 -- those of the classes that the script's positions need
 abbrev pub AreNeeded : List Span → List ℕ → List Span → Type 0
 AreNeeded spans script those =
     (classes : List Class) × AreClassesNeeded (positions_in (script_lines script)) classes × (those ≡ spans_for classes spans)
 
--- it is so over these, and no other is looked at; or the script is not read to its end, or there is no memory
+-- true over these files, and no others are opened; or the script is not read to the end, or there is no memory
 abbrev pub OverNeeded : List Span → List ℕ → (List Span → List ℕ → Ending → Type 0) → List ℕ → Ending → Type 0
 OverNeeded spans script IsIt text ended =
     IsWhole (λ t. ⊥) IsOutOfMemory (IsUnread script) text ended ⊎ ((those : List Span) × AreNeeded spans script those × IsIt those text ended)
 
 -- ---- each request
 
--- The replies to the script, over files of which those are right that it loads. Whatever the files are, it stops where it must, for one
--- of its own faults, and counts its lines, and as refused those for which it writes an error. Studies are kept apart.
+-- The replies to the script, if the files that it loads are right. Whatever the files are, the run stops exactly where it must, for one of its own faults,
+-- and counts its lines, and as refused those for which it writes an error. Studies are kept apart.
 abbrev pub IsRun : List Span → List ℕ → Bool → List ℕ → List ℕ → Ending → Type 0
 IsRun spans bytes by_pages script text ended =
     (summary : Result Summary RunFault) × (ended ≡ ending_of summary) × IsOwnEnd summary
@@ -105,7 +105,7 @@ IsRun spans bytes by_pages script text ended =
     → (shelf : Shelf) × IsShelf spans bytes shelf × (left : Option (List ℕ))
     × Outcome true (begun_state shelf by_pages) script left (Some []) (Some text) summary)
 
--- why a file is not made
+-- the refusal for a file that cannot be made
 abbrev pub of_make : MakeFault → Denial
 of_make (make_fault.MissingTable c) = denial.Refused (MissingTable c)
 of_make (make_fault.File c fault) = denial.OfFile c (File fault)
@@ -116,21 +116,20 @@ of_make make_fault.OutOfMemory = denial.Refused OutOfMemory
 abbrev pub IsMakeDenial : List Span → List ℕ → Class → Denial → Type 0
 IsMakeDenial spans bytes c d = (fault : MakeFault) × IsMakeFault spans bytes c fault × (d ≡ of_make fault)
 
--- the file of the class's right table, where the files of those that it needs are right
+-- the file of the class's right table, if the files of the classes that it needs are right
 abbrev pub IsMadeFile : List Span → List ℕ → Class → List ℕ → Type 0
 IsMadeFile spans bytes c text = HasRightNeeds spans bytes c → IsRightFileOf c text
 
 abbrev pub IsMade : List Span → List ℕ → Class → List ℕ → Ending → Type 0
 IsMade spans bytes c = IsWhole (IsMadeFile spans bytes c) (IsMakeDenial spans bytes c) IsNoMemory
 
--- why there is no view: for want of memory, or no node is at the path, or a value cannot be read; the last two only where it is so
+-- why there is no view: want of memory, no node at the path, or a value that cannot be read; each of the last two only if it is the case
 abbrev pub IsViewDenial : (ProbeFault → Type 0) → Type 0 → Denial → Type 0
 IsViewDenial Untold Lacks d =
     (d ≡ denial.Refused OutOfMemory) ⊎ ((d ≡ denial.Refused NoSuchNode) × Lacks)
     ⊎ ((fault : ProbeFault) × Untold fault × (d ≡ denial.Refused (of_probe fault)))
 
--- The view of what the script leaves, over files that are right; over these a node is missing, or a value cannot be read, only in what the
--- script leaves.
+-- The view of what the script leaves, over right files; a node is missing, or a value cannot be read, only as the script leaves it.
 abbrev pub IsViewed : List Span → List ℕ → List ℕ → List ℕ → List ℕ → Ending → Type 0
 IsViewed spans bytes script steps =
     IsWhole (λ text. AreAllRight spans bytes → OverFiles spans bytes (IsViewOver script steps text))
@@ -142,7 +141,7 @@ abbrev pub IsReviewOver : List ℕ → List ℕ → Result Summary RunFault → 
 IsReviewOver script text summary classes shelf =
     (left : Option (List ℕ)) × ReportOutcome IsReviewOf refused_line (over_files classes shelf) script left (Some []) (Some text) summary
 
--- the same over files that are right; or the request is refused for one of the files, or there is no memory
+-- the same over right files; or the request is refused for one of the files, or there is no memory
 abbrev pub IsReviewedTo : List Span → List ℕ → List ℕ → List ℕ → Result Summary RunFault → Type 0
 IsReviewedTo spans bytes script text summary = AreAllRight spans bytes → OverFiles spans bytes (IsReviewOver script text summary)
 
@@ -156,7 +155,7 @@ IsReviewed spans bytes script text (Stopped fault) = IsOwn fault × IsReviewedTo
 abbrev pub IsFileOver : List ℕ → List ℕ → Result Summary RunFault → List Class → Shelf → Type 0
 IsFileOver script text summary classes shelf = (left : Option (List ℕ)) × IsFile (over_files classes shelf) script left (Some []) (Some text) summary
 
--- The same over files that are right; or the request is refused for one of the files, or there is no memory for its name.
+-- The same over right files; or the request is refused for one of the files, or there is no memory for the name of the refusal.
 abbrev pub IsPrintedTo : List Span → List ℕ → List ℕ → List ℕ → Result Summary RunFault → Type 0
 IsPrintedTo spans bytes script text summary = AreAllRight spans bytes → OverFiles spans bytes (IsFileOver script text summary)
 
@@ -167,18 +166,18 @@ IsPrinted spans bytes script text (Ran summary) = IsPrintedTo spans bytes script
 IsPrinted spans bytes script text (Stopped fault) =
     IsOwn fault × (((fault ≡ run_fault.OutOfMemory) × (text ≡ [])) ⊎ IsPrintedTo spans bytes script text (Err fault))
 
--- there is no survey on a square without a man, or where the tables or their values cannot be read
+-- there is no survey if the square is empty, or if the tables or their values cannot be read
 abbrev pub IsSurveyDenial : (Denial → Type 0) → Start → ℕ → Denial → Type 0
 IsSurveyDenial May start square denial.NoMan = man_at start.position.men square ≡ None
 IsSurveyDenial May start square d = May d
 
--- the survey of the man, over files that are right
+-- the survey of the man, over right files
 abbrev pub IsSurveyed : List Span → List ℕ → ℕ → Stipulation → Start → List ℕ → Ending → Type 0
 IsSurveyed spans bytes square st start =
     IsWhole (λ text. AreAllRight spans bytes → IsSurvey start.position square st text) (IsSurveyDenial (IsOfFileValues spans bytes start.position) start square)
     IsNoMemory
 
--- the same over the files that the position needs; no other is looked at
+-- the same over the files that the position needs; no others are opened
 abbrev pub IsSurveyedTo : List Span → List ℕ → ℕ → Stipulation → Start → List ℕ → Ending → Type 0
 IsSurveyedTo spans bytes square st start text ended =
     (classes : List Class) × AreClassesNeeded (start.position ∷ []) classes
@@ -188,16 +187,16 @@ IsSurveyedTo spans bytes square st start text ended =
 abbrev pub IsTableList : List ℕ → List ℕ → Ending → Type 0
 IsTableList script = IsWhole (AreTables (script_lines script)) IsOutOfMemory (IsUnread script)
 
--- the squares that a pawn can just have jumped over
+-- the squares that a pawn may have passed in a double step just before
 abbrev pub IsPassedList : Start → List ℕ → Ending → Type 0
 IsPassedList start =
     IsWhole (λ text. text ≡ squares_text (passed_squares start.position.men start.position.to_move)) IsOutOfMemory IsNoMemory
 
--- the piece of a list, over files that are right, of those that are looked at
+-- the piece of a list, if the opened files are right
 abbrev pub IsFoundOver : List Span → List ℕ → Piece → List ℕ → Ending → Type 0
 IsFoundOver spans bytes piece = IsWhole (λ text. AreAllRight spans bytes → IsPiece piece text) (IsOfFileSearch spans bytes) IsNoMemory
 
--- the same over the files of the class and of what it needs; no other is looked at
+-- the same over the files of the class and of the classes that it needs; no others are opened
 abbrev pub IsFoundTo : List Span → List ℕ → Piece → List ℕ → Ending → Type 0
 IsFoundTo spans bytes piece text ended =
     (classes : List Class) × AreLookedAt piece.request classes × IsFoundOver (spans_for classes spans) bytes piece text ended
@@ -221,26 +220,26 @@ IsAnswerTo spans bytes by_pages script (find piece) text ended = IsFoundTo spans
 IsAnswerTo spans bytes by_pages script (unread fault) text ended = IsDenied (denial.Unread fault) text ended
 IsAnswerTo spans bytes by_pages script (bring given) text ended = IsImported script given text ended
 
--- what is asked for, or why the line asks for nothing
+-- the answer to the request, or the reason why the line is not a valid request
 abbrev pub IsAnswer : List Span → List ℕ → Bool → List ℕ → Asks → List ℕ → Ending → Type 0
 IsAnswer spans bytes by_pages script (Ok asked) text ended = IsAnswerTo spans bytes by_pages script asked text ended
 IsAnswer spans bytes by_pages script (Err refusal) text ended = IsDenied (denial.Refused refusal) text ended
 
--- ---- what a module hands back
+-- ---- the bytes that a module writes back
 
--- three numbers a span; what is left over is no span
+-- three numbers for each span; numbers left over are ignored
 abbrev pub spans_of : List ℕ → List Span
 spans_of (c ∷ s ∷ l ∷ more) = record { class = c; start = s; length = l } ∷ spans_of more
 spans_of _ = []
 
--- tables are read by so many pages, from 1 to 4,096, and for any other number whole
+-- tables are read by so many pages, from 1 to 4,096; any other number means whole
 abbrev pub is_paged : ℕ → Bool
 is_paged pages = nat_le 1 pages && nat_le pages 4096
 
--- the text stands at the front, as much of it as there is room for, and its length is the answer
+-- the front of the buffer has as much of the text as fits; the result is the length of the whole text
 abbrev pub IsHanded : List ℕ → List ℕ → List ℕ → ℕ → Type 0
 IsHanded text old new n = (n ≡ length text) × (new ≡ take (min (length text) (length old)) text ++ drop (min (length text) (length old)) old)
 
--- nothing is handed back
+-- nothing is written back
 abbrev pub IsNothing : List ℕ → List ℕ → ℕ → Type 0
 IsNothing old new n = (n ≡ 0) × (new ≡ old)

@@ -7,7 +7,7 @@ use Rattle.study_reply.specs.declared.refusal.Refusal.{Refusal}
 use Rattle.study_listing.specs.declared.filter_words.Unread.{Unread}
 use Rattle.study_listing.specs.declared.piece_words.Piece.{Piece}
 
--- a request, with its arguments read; or one to find whose words name no theme
+-- a request, with its arguments read; or a search whose words name no theme
 pub data Asked : Type 0 where
   run review report tables : Asked
   make : (class : Class) → Asked

@@ -1,4 +1,4 @@
--- What the words of a request to find ask for: `CLASS THEME [FILTER ..] FROM TO`.
+-- The arguments of a search: `CLASS THEME [FILTER ..] FROM TO`.
 use Rattle.std.specs.Prelude.{ℕ, nat_le, List, [], ◌∷◌, length, Option, Some, None, Result, Ok, Err, if◌then◌else◌}
 use Rattle.study_material.specs.declared.class.Class.{Class}
 use Rattle.study_command.specs.declared.command.SyntaxFault.TheVariants.{BadArguments}
@@ -16,7 +16,7 @@ find_piece (Ok piece) = Ok (find piece)
 find_piece (Err (fault.Unread why)) = Ok (unread why)
 find_piece (Err fault.NoNumbers) = Err (Form BadArguments)
 
--- at most sixteen words behind the class
+-- at most sixteen words after the class
 abbrev pub find_for : Class → List (List ℕ) → Asks
 find_for c ws = if nat_le (length ws) 16 then find_piece (piece_of c ws) else Err (Form BadArguments)
 

@@ -1,4 +1,4 @@
--- Why no positions are found.
+-- Why a search is refused.
 use Rattle.study_listing.specs.declared.fault.Stop.{Stop}
 use Rattle.study_listing.specs.declared.fault.Stop.TheVariants as stop
 use Rattle.study_reply.specs.declared.refusal.Refusal.TheVariants.{OutOfMemory}
@@ -6,7 +6,7 @@ use Rattle.study_reply.specs.Names.{of_probe}
 use Rattle.study_web.specs.declared.denial.Denial.{Denial}
 use Rattle.study_web.specs.declared.denial.Denial.TheVariants as denial
 
--- why nothing is found; what is written into memory stops for want of it alone
+-- why a search fails; writing into memory fails only for want of it
 abbrev pub of_stop : Stop → Denial
 of_stop (stop.Values fault) = denial.Refused (of_probe fault)
 of_stop stop.TooManyStudies = denial.Refused OutOfMemory

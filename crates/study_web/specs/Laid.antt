@@ -1,4 +1,4 @@
--- Files that were made, handed in with a later request.
+-- Finished files that come with a later request.
 use Rattle.std.specs.Prelude.{◌≡◌, ◌≢◌, ℕ, ◌+◌, ◌≤◌, Bool, List, [], ◌∷◌, ◌++◌, length, Option, Some, None, Ok}
 use Rattle.std.specs.List.{AllByRecursion}
 use Rattle.study_material.specs.declared.class.Class.{Class}
@@ -14,7 +14,7 @@ use Rattle.study_web.specs.Spans.{file_in, IsHonestIn}
 abbrev pub span_after : List ℕ → Class → List ℕ → Span
 span_after before c file = record { class = class_number c; start = length before; length = length file }
 
--- no span is one for the class
+-- no span is for this class
 abbrev pub HasNoneOf : Class → List Span → Type 0
 HasNoneOf c spans = AllByRecursion (λ s. s.class ≢ class_number c) spans
 
@@ -27,13 +27,13 @@ abbrev pub OpensAs : Class → Table → Option (List ℕ) → Type 0
 OpensAs c t None = ⊥
 OpensAs c t (Some file) = (t.class ≡ c) × IsRight t × (table_read file ≡ Ok t) × ((by_pages : Bool) → IsHonestIn by_pages (Some file))
 
--- a file that was made opens as its table, wherever it lies among the bytes that are handed in, by the first span that is for its class
+-- a finished file opens as its table, wherever it lies among the bytes of the request, by the first span for its class
 abbrev pub MadeFilesOpen : Type 0
 MadeFilesOpen =
     (c : Class) (file : List ℕ) (made : IsRightFileOf c file) (ahead behind : List Span) (before after : List ℕ) → HasNoneOf c ahead
     → OpensAs c made.table (file_in (ahead ++ span_after before c file ∷ behind) (before ++ (file ++ after)) c)
 
--- files that are right are so still where a file that was made is laid after them, and so is that file
+-- right files stay right if a finished file is laid after them, and that file is right too
 abbrev pub MadeFilesJoinOthers : Type 0
 MadeFilesJoinOthers =
     (by_pages : Bool) (c : Class) (file : List ℕ) (spans : List Span) (bytes : List ℕ) → IsRightFileOf c file → AreWithin spans bytes

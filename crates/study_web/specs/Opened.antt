@@ -1,4 +1,4 @@
--- The tables of all files that a store gives by pages.
+-- The tables of all files of a store, read by pages.
 use Rattle.std.specs.Prelude.{◌≡◌, ◌⊎◌, ℕ, Bool, true, false, is_some, List, Option, Some, None, Result, Ok, Err}
 use Rattle.study_board.specs.Position.{Position}
 use Rattle.study_material.specs.declared.class.Class.{Class}
@@ -21,27 +21,27 @@ use Rattle.study_web.specs.declared.denial.Denial.TheVariants as denial
 use Rattle.study_web.specs.declared.spans.Span.{Span}
 use Rattle.study_web.specs.Spans.{file_in, header_given, file_faults, IsHonestIn}
 
--- a table is held of each class whose header is known to be given, and of none whose file is known not to be opened
+-- a table is loaded for each class whose header can be read, and for no class whose file cannot be opened
 abbrev pub IsHeldAs : Option (Result (List ℕ) StoreFault) → Bool → Type 0
 IsHeldAs None held = Unit {0}
 IsHeldAs (Some (Ok header)) held = held ≡ true
 IsHeldAs (Some (Err fault)) held = held ≡ false
 
--- the classes whose files are handed in
+-- the classes whose files come with the request
 abbrev pub AreHandedIn : List Span → List ℕ → List Class → Type 0
 AreHandedIn spans bytes classes = (c : Class) → is_among classes c ≡ is_some (file_in spans bytes c)
 
--- each file that is handed in is the text of a right table
+-- each file of the request is the text of a right table
 abbrev pub AreAllRight : List Span → List ℕ → Type 0
 AreAllRight spans bytes = (c : Class) → IsHonestIn true (file_in spans bytes c)
 
--- a source of pages that is refused, for this fault
+-- the refusal for a source of pages with this fault
 abbrev pub denial_of : Class → PagedFault → Denial
 denial_of c paged.OutOfMemory = denial.Refused OutOfMemory
 denial_of c fault = denial.OfFile c (refusal_of_paged fault)
 
--- Why the file of a class gives no table: it is not opened, or its header cannot be read, or has a fault, or is that of another class; by what is
--- known of the header that it tells, and of the faults for which it may not be read.
+-- Why the file of a class is not a table: it cannot be opened, or its header cannot be read, or is faulty, or is that of another class; given the header
+-- and the faults with which reading it may fail.
 abbrev pub IsBadFile : Option (Result (List ℕ) StoreFault) → (SourceFault → Bool) → Class → Refusal → Type 0
 IsBadFile known faults c refusal =
     (IsGiven known (Err store.Device) × (refusal ≡ Device))
@@ -50,15 +50,15 @@ IsBadFile known faults c refusal =
 
 -- the headers and the faults of the classes' files
 module _ (headers : Class → Option (Result (List ℕ) StoreFault)) (faults : Class → SourceFault → Bool) where
-  -- why the tables are not opened: a file gives no table, or there is no memory
+  -- why the tables are not opened: a file is not a table, or there is no memory
   abbrev pub IsOfTables : Denial → Type 0
   IsOfTables (denial.Refused refusal) = refusal ≡ OutOfMemory
   IsOfTables (denial.OfFile c refusal) = IsBadFile (headers c) (faults c) c refusal
   IsOfTables denial.NoMan = ⊥
   IsOfTables (denial.Unread fault) = ⊥
 
-  -- Why a value that a position leads to cannot be read: of a class that the position needs there is no file, or one that cannot be read, or a page
-  -- is damaged, as none is of right files.
+  -- Why the value of a position that is reached cannot be read: there is no file for a class that the position needs, or it cannot be read, or a page is
+  -- damaged, which never happens with right files.
   abbrev pub IsValueUntold : Type 0 → Position → ProbeFault → Type 0
   IsValueUntold Right p (probe.NoTable c) = IsHeldAs (headers c) false × NeedsClass p c
   IsValueUntold Right p (probe.TableRead f) = (c : Class) × NeedsClass p c × (faults c f ≡ true)
@@ -68,8 +68,8 @@ module _ (headers : Class → Option (Result (List ℕ) StoreFault)) (faults : C
   abbrev pub IsOfValues : Type 0 → Position → Denial → Type 0
   IsOfValues Right p d = IsOfTables d ⊎ ((fault : ProbeFault) × IsValueUntold Right p fault × (d ≡ denial.Refused (of_probe fault)))
 
-  -- Why a search has no answer: the tables are not opened, or a value cannot be read: there is no file of its class, or one that cannot be read,
-  -- or a page is damaged, as none is of right files.
+  -- Why a search has no answer: the tables are not opened, or a value cannot be read: there is no file for its class, or it cannot be read, or a page is
+  -- damaged, which never happens with right files.
   abbrev pub IsSearchUntold : Type 0 → ProbeFault → Type 0
   IsSearchUntold Right (probe.NoTable c) = IsHeldAs (headers c) false
   IsSearchUntold Right (probe.TableRead f) = Unit {0}
@@ -78,7 +78,7 @@ module _ (headers : Class → Option (Result (List ℕ) StoreFault)) (faults : C
   abbrev pub IsOfSearch : Type 0 → Denial → Type 0
   IsOfSearch Right d = IsOfTables d ⊎ ((fault : ProbeFault) × IsSearchUntold Right fault × (d ≡ denial.Refused (of_probe fault)))
 
--- the same of the files that are handed in
+-- the same for the files of the request
 abbrev pub IsOfFiles : List Span → List ℕ → Denial → Type 0
 IsOfFiles spans bytes = IsOfTables (λ c. Some (header_given (file_in spans bytes c))) (λ c. file_faults (file_in spans bytes c) c)
 

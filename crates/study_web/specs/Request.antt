@@ -1,4 +1,4 @@
--- What a line of words asks for.
+-- The request that a line of words spells.
 use Rattle.std.specs.Prelude.{ℕ, ◌+◌, ◌*◌, ◌-◌, ◌&&◌, nat_le, List, [], ◌∷◌, codes, Option, Some, None, Result, Ok, Err, if◌then◌else◌}
 use Rattle.std.specs.List.{list_all}
 use Rattle.std.specs.Str.{bytes_eq}
@@ -56,7 +56,7 @@ square_told (file ∷ rank ∷ []) =
     if nat_le 97 file && nat_le file 104 && (nat_le 49 rank && nat_le rank 56) then Some (8 * (rank - 49) + (file - 97)) else None
 square_told _ = None
 
--- `win`, `draw` or `mate K`, and what follows it
+-- `win`, `draw` or `mate K`, and the rest
 abbrev pub with_rest : Option Goal → List ℕ → Option (Goal × List ℕ)
 with_rest None rest = None
 with_rest (Some goal) rest = Some (goal, rest)
@@ -73,7 +73,7 @@ goal_begun (word ∷ more) text =
     else (if bytes_eq word (codes "mate") then mate_begun (words (behind_word text)) (behind_word text)
     else None))
 
--- `SIDE GOAL`, and what follows it
+-- `SIDE GOAL`, and the rest
 abbrev pub aimed_at : Option Side → Option (Goal × List ℕ) → Option (Stipulation × List ℕ)
 aimed_at (Some hero) (Some (goal, rest)) = Some (record { hero = hero; goal = goal }, rest)
 aimed_at _ _ = None
@@ -106,7 +106,7 @@ import_asked (side ∷ more) text = brought_for (stipulation_begun (side ∷ mor
 
 -- ---- the request
 
--- the first word, and the text that follows it
+-- the first word, and the text after it
 unfoldable pub word_asked : List ℕ → List ℕ → Asks
 word_asked word rest =
     if bytes_eq word (codes "run") then alone run (words rest)
@@ -125,11 +125,11 @@ abbrev pub words_asked : List (List ℕ) → List ℕ → Asks
 words_asked [] line = Err (Form UnknownCommand)
 words_asked (word ∷ more) line = word_asked word (behind_word line)
 
--- what the line asks for, or the first reason why it asks for nothing
+-- the request of the line, or the first reason why it is not valid
 unfoldable pub request_of : List ℕ → Asks
 request_of line = if list_all is_printable line then words_asked (words line) line else Err (Form BadByte)
 
--- ---- what a contract sees of a request that was read
+-- ---- the parts of a request that contracts name
 
 abbrev pub request_seen : Request → Asked
 request_seen request.Run = run

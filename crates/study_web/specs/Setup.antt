@@ -16,7 +16,7 @@ abbrev pub position_told : Result Start FenFault → List Position
 position_told (Ok start) = start.position ∷ []
 position_told (Err fault) = []
 
--- the position of a line `position` or `shift` whose FEN is one
+-- the position of a line `position` or `shift`, if its FEN is valid
 abbrev pub position_asked : Asks → List Position
 position_asked (Ok (Some (fen_command word fen))) = position_told (start_of fen)
 position_asked _ = []

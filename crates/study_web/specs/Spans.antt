@@ -1,4 +1,4 @@
--- The files that a page hands in: a directory of spans into one text of bytes.
+-- The files of a request: a directory of spans into one text of bytes.
 use Rattle.std.specs.Prelude.{◌==◌, nat_le, ℕ, ◌+◌, Bool, true, false, ◌&&◌, List, [], ◌∷◌, ◌++◌, length, take, drop, if◌then◌else◌}
 use Rattle.std.specs.List.{list_any}
 use Rattle.std.specs.Prelude.{Option, Some, None, Result, Ok, Err}
@@ -15,7 +15,7 @@ use Rattle.study_web.specs.declared.spans.Span.{Span}
 abbrev pub is_file_of : Class → List ℕ → Span → Bool
 is_file_of c bytes s = (s.class == class_number c) && nat_le (s.start + s.length) (length bytes)
 
--- the file of a class: what the first such span has
+-- the file of a class: the bytes of the first such span
 abbrev pub file_in : List Span → List ℕ → Class → Option (List ℕ)
 file_in [] bytes c = None
 file_in (s ∷ more) bytes c = if is_file_of c bytes s then Some (take s.length (drop s.start bytes)) else file_in more bytes c
@@ -33,9 +33,9 @@ abbrev pub spans_for : List Class → List Span → List Span
 spans_for classes [] = []
 spans_for classes (s ∷ more) = span_for classes s ++ spans_for classes more
 
--- ---- what files give
+-- ---- reading files
 
--- what a file gives from start to end, and what it gives as its header
+-- the bytes of a whole file, and of its header
 abbrev pub bytes_given : Option (List ℕ) → Result (List ℕ) StoreFault
 bytes_given None = Err NoFile
 bytes_given (Some file) = Ok file
@@ -44,12 +44,12 @@ abbrev pub header_given : Option (List ℕ) → Result (List ℕ) StoreFault
 header_given None = Err NoFile
 header_given (Some file) = Ok (take 64 file)
 
--- for which faults its pages may not be read: where it is too short for its class, for no other
+-- the faults with which its pages may not be read: only if the file is too short for its class
 abbrev pub file_faults : Option (List ℕ) → Class → SourceFault → Bool
 file_faults None c f = false
 file_faults (Some file) c f = text_faults false file c f
 
--- by pages it is the text of a right table; from start to end it reads as a right one, if as a table
+-- read by pages it is the text of a right table; read whole it is a right table, if it is a table
 abbrev pub IsHonestIn : Bool → Option (List ℕ) → Type 0
 IsHonestIn by_pages None = Unit {0}
 IsHonestIn true (Some file) = IsRightText file

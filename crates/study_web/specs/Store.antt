@@ -1,4 +1,4 @@
--- What is known of a store of spans, which is all that it gives, but of files that were written.
+-- A store of spans; its content is known except for the files that were written.
 use Rattle.std.specs.Prelude.{◌≡◌, ◌⊎◌, ℕ, Bool, true, false, List, slice_index_or, if◌then◌else◌, Option, Some, None}
 use Rattle.study_material.specs.declared.class.Class.{Class}
 use Rattle.study_material.specs.Class.{class_number}
@@ -9,7 +9,7 @@ use Rattle.study_script.specs.State.{Shelf}
 use Rattle.study_web.specs.declared.spans.Span.{Span}
 use Rattle.study_web.specs.Spans.{file_in, bytes_given, header_given, file_faults, IsHonestIn}
 
--- whether the class's file was opened to be written
+-- whether the class's file was opened for writing
 abbrev pub is_written : List Bool → Class → Bool
 is_written written c = slice_index_or written (class_number c) false
 
@@ -19,11 +19,11 @@ known told spans bytes written c = if is_written written c then None else Some (
 abbrev pub faults_known : List Span → List ℕ → List Bool → Class → SourceFault → Bool
 faults_known spans bytes written c f = if is_written written c then true else file_faults (file_in spans bytes c) c f
 
--- a file that was not written is given as it was handed in
+-- a file that was not written reads as it came with the request
 abbrev pub IsFileGiven : List Span → List ℕ → List Bool → Class → List ℕ → Type 0
 IsFileGiven spans bytes written c file = (is_written written c ≡ false) × (file_in spans bytes c ≡ Some file)
 
--- why none is: it was written, or it is not there
+-- why a file cannot be read: it was written, or there is none
 abbrev pub IsWithheld : List Span → List ℕ → List Bool → Class → StoreFault → Type 0
 IsWithheld spans bytes written c fault =
     (is_written written c ≡ true) ⊎ ((is_written written c ≡ false) × (file_in spans bytes c ≡ None) × (fault ≡ NoFile))
@@ -34,6 +34,6 @@ pub record IsShelf (spans : List Span) (bytes : List ℕ) (shelf : Shelf) : Type
   pub headers : (c : Class) → shelf.headers c ≡ Some (header_given (file_in spans bytes c))
   pub faults : (c : Class) (f : SourceFault) → shelf.faults c f ≡ file_faults (file_in spans bytes c) c f
 
--- the files of the classes that are trusted are right, by pages or whole
+-- the files of the trusted classes are right, by pages or whole
 abbrev pub AreRightFiles : (Class → Bool) → Bool → List Span → List ℕ → Type 0
 AreRightFiles trusted by_pages spans bytes = (c : Class) → trusted c ≡ true → IsHonestIn by_pages (file_in spans bytes c)

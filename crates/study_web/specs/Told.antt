@@ -18,7 +18,7 @@ use Rattle.study_web.specs.declared.reply.Ending.TheVariants.{Answered, Refused,
 abbrev pub line_of : List ℕ → List ℕ
 line_of words = words ++ codes "\n"
 
--- why a request to find asks for nothing
+-- why a request to find is not valid
 abbrev pub unread_text : Unread → List ℕ
 unread_text unread.NoSuchTheme = codes "NoSuchTheme\n"
 unread_text unread.NoSuchFilter = codes "NoSuchFilter\n"
@@ -57,7 +57,7 @@ IsDenied d text (Stopped fault) = (fault ≡ OutOfMemory) × (text ≡ [])
 IsDenied d text Answered = ⊥
 IsDenied d text (Ran summary) = ⊥
 
--- there is no text: the request is refused, or its script was not read to its end
+-- there is no text: the request is refused, or its script was not read to the end
 abbrev pub IsUntold : NoText → List ℕ → Ending → Type 0
 IsUntold (no_text.Denied d) text ended = IsDenied d text ended
 IsUntold (no_text.Stopped fault) text ended = (ended ≡ Stopped fault) × (text ≡ [])

@@ -1,4 +1,4 @@
-//! What a page is answered.
+//! Answers to requests.
 ghost use Rattle.std.specs.Prelude.{◌≡◌, ◌≤◌, true, is_some, IfSome, IfOk, IfErr};
 ghost use Rattle.study_command.specs.Paths.{steps_of, is_path_word};
 ghost use Rattle.study_web.specs.Answers.{IsAnswer, IsMade, IsMadeFile, IsMakeDenial, IsNoMemory, IsPassedList, IsPrinted, IsReviewed, IsRun, of_make};
@@ -28,13 +28,13 @@ use study_notation::Start;
 use study_reply::Refusal;
 use study_view::classes_needed;
 
-/// Answers a request for a script, over the files that are handed in.
+/// Answers a request for a script, over the files of the request.
 ///
-/// Requests are lines of words: `run`, `make CLASS`, `view PATH`, `review`, `report`, `survey SQUARE SIDE GOAL FEN`, `tables`,
+/// A request is a line of words: `run`, `make CLASS`, `view PATH`, `review`, `report`, `survey SQUARE SIDE GOAL FEN`, `tables`,
 /// `passed FEN`, `find CLASS THEME [FILTER ..] FROM TO`, `import`, `import SIDE GOAL`. For `import` the script is PGN, as Latin-1 or
-/// UTF-8. Files are opened by pages, and must be tables: for `view`, `review` and `report` those that the script's positions need, for
-/// `survey` and `find` those that the position or the class needs, and no others. What `run` saves is put into the cells, one for each
-/// class.
+/// UTF-8. Files are read by pages and must be tables: for `view`, `review` and `report` those that the script's positions need, for
+/// `survey` and `find` those that the position or the class needs. Other files are not opened. What `run` saves is put into the cells,
+/// one for each class.
 pub fn answer<'f, 'a, A: Allocator>(
     alloc: &'a A,
     request: &[u8],
@@ -74,7 +74,7 @@ fn of_run<'f, 'a, A: Allocator>(
     ran(ended.text, ended.summary)
 }
 
-/// The file of a class, or why it is not made.
+/// The file of a class, or why it cannot be made.
 fn file_of<'a, A: Allocator>(
     alloc: &'a A,
     class: Class,
@@ -90,7 +90,7 @@ fn file_of<'a, A: Allocator>(
     }
 }
 
-/// Why a file is not made.
+/// Why a file cannot be made.
 fn of_make_fault(fault: MakeFault) -> Denial
     ensures { result ≡ of_make fault }
 {
@@ -158,7 +158,7 @@ fn report_over<'f, 'a, A: Allocator>(
     }
 }
 
-/// The files that the script's positions need, or why they are not known.
+/// The files that the script's positions need, or why these are not known.
 fn files_for<'a, A: Allocator>(
     alloc: &'a A,
     script: &[u8],
@@ -237,7 +237,7 @@ fn of_report<'a, A: Allocator>(alloc: &'a A, script: &[u8], files: &TableFiles<'
     }
 }
 
-/// Of the files those that the position needs are looked at.
+/// Opens only the files that the position needs.
 fn of_survey<'a, A: Allocator>(
     alloc: &'a A,
     asked: &Surveyed,
@@ -268,7 +268,7 @@ fn of_passed<'a, A: Allocator>(alloc: &'a A, start: &Start) -> Reply<'a, A>
     told(alloc, passed_of(alloc, start))
 }
 
-/// Of the files those that are needed are looked at.
+/// Opens only the files that are needed.
 fn of_find<'a, A: Allocator>(alloc: &'a A, piece: &Piece, files: &TableFiles<'_>) -> Reply<'a, A>
     requires { IfSome files.now.pages (λ n. (1 ≤ n) × (n ≤ 4096)) }
     ensures { IsFoundTo files.now.spans.now files.now.bytes.now piece.now result.text.items result.ended }

@@ -1,4 +1,4 @@
-//! The files of some classes, of those that are handed in.
+//! The files of some classes, among those of the request.
 ghost use Rattle.std.specs.Prelude.{◌≡◌, ◌++◌, IfOk, OnOk};
 ghost use Rattle.study_web.specs.Spans.{is_for_one, span_for, spans_for};
 

@@ -7,12 +7,12 @@ use study_reply::Refusal;
 /// Why a request is not answered.
 #[derive(Clone, Copy, Debug, PartialEq, Eq)]
 pub enum Denial {
-    /// As the script's replies name it.
+    /// A refusal that the script's replies name too.
     Refused(Refusal),
-    /// The file of the class gives no table: it reads as none, or as that of another class.
+    /// The file of the class is not a table, or is the table of another class.
     OfFile(Class, Refusal),
     /// There is no man on the square.
     NoMan,
-    /// The words of a request to find name no theme, or no filter.
+    /// The words of a search name no known theme or filter.
     Unread(Unread),
 }

@@ -1,4 +1,4 @@
-//! How a run over bytes that are handed in ends, and what it wrote.
+//! How a run over the bytes of a request ends, and what it wrote.
 ghost use Rattle.std.specs.Prelude.{◌≡◌, ◌⊎◌, [], Err};
 ghost use Rattle.study_web.specs.Answers.{IsOwn, IsOwnEnd};
 
@@ -8,12 +8,12 @@ use study_script::{RunFault, Summary};
 /// What a run wrote, and how it ended.
 #[derive(Drop)]
 pub struct Ended<'a, A: Allocator> {
-    /// The replies, the review or the pages, as far as the run came; empty where it stopped for want of memory.
+    /// The replies, the review or the pages, as far as the run came; empty if it stopped for want of memory.
     pub text: Vec<u8, &'a A>,
     pub summary: Result<Summary, RunFault>,
 }
 
-/// The fault of a run that reads a slice and writes into memory: a slice does not fail, and memory for a text that grows may.
+/// The fault of a run that reads a slice and writes into memory: reading cannot fail, and writing fails only for want of memory.
 pub fn own_fault(fault: RunFault) -> RunFault
     ensures own { IsOwn result }
     ensures same { (result ≡ fault) ⊎ (result ≡ RunFault.OutOfMemory) }
@@ -27,7 +27,7 @@ pub fn own_fault(fault: RunFault) -> RunFault
     }
 }
 
-/// What such a run wrote; nothing where there was no memory for it.
+/// What such a run wrote; nothing if there was no memory for it.
 pub fn own_end<'a, A: Allocator>(
     alloc: &'a A,
     text: Vec<u8, &'a A>,

@@ -1,4 +1,4 @@
-//! What a module hands back to a page: how the answer ended, a line, and then its text.
+//! The bytes that a module writes back to a page: a line with how the answer ended, then its text.
 ghost use Rattle.std.specs.Prelude.{◌≡◌, ◌≤◌, ◌⊎◌, ◌++◌, ℕ, List, length, take, drop, min, is_some, IfSome, IfOk, OnOk};
 ghost use Rattle.study_web.specs.Answers.{IsAnswer, IsHanded, IsNothing, is_paged, spans_of};
 ghost use Rattle.study_web.specs.Request.{request_of};
@@ -13,23 +13,23 @@ use crate::told::put_ending;
 use std::alloc::{AllocError, Allocator};
 use study_text::{DeviceFailed, write_text};
 
-/// What a page hands in.
+/// The files that a page hands in.
 #[derive(Clone, Copy)]
 pub struct HandedIn<'f> {
     pub request: &'f [u8],
     pub script: &'f [u8],
-    /// Three numbers for each file: the place of its class in the class list, and its start and length in `bytes`.
+    /// Three numbers for each file: the index of its class in the class list, and its start and length in `bytes`.
     pub spans: &'f [usize],
     /// The files, one after the other.
     pub bytes: &'f [u8],
-    /// Tables are read by so many pages, from 1 to 4,096; for any other number whole.
+    /// The number of pages kept in memory, from 1 to 4,096; any other number means that tables are read whole.
     pub pages: u16,
 }
 
-/// Answers a request for a page. The answer is how it ended, a line, and then its text.
+/// Answers a request of a page: a line with how the answer ended, then its text.
 ///
-/// The result is the length of the answer, of which as much is in `out` as it has room for; 0 where there is no memory, and `out` is then as it
-/// was. What `run` saves is put into the cells, one for each class.
+/// The result is the length of the answer; `out` has as much of it as fits. If there is no memory, the result is 0 and `out` is unchanged. What `run`
+/// saves is put into the cells, one for each class.
 pub fn answer_into<'a, A: Allocator>(
     alloc: &'a A,
     handed_in: &HandedIn<'_>,
@@ -85,7 +85,7 @@ fn pages_of(pages: u16) -> Option<u16>
     }
 }
 
-/// The answer goes to the front, as much of it as there is room for. The result is its length, or 0 where there is no memory.
+/// Copies as much of the answer to the front of `out` as fits. The result is the length of the answer, or 0 if there is no memory.
 fn hand_back<'a, A: Allocator>(alloc: &'a A, reply: &Reply<'a, A>, out: &mut [u8]) -> usize
     ensures { IsNothing out.old out.new result ⊎ IsHanded (ending_text reply.now.ended ++ reply.now.text.items) out.old out.new result }
 {
@@ -99,7 +99,7 @@ fn hand_back<'a, A: Allocator>(alloc: &'a A, reply: &Reply<'a, A>, out: &mut [u8
     }
 }
 
-/// How the answer ended, a line, and then its text.
+/// Writes a line with how the answer ended, then its text.
 fn put_reply<'a, A: Allocator>(
     text: &mut Vec<u8, &'a A>,
     reply: &Reply<'a, A>,

@@ -16,7 +16,7 @@ use study_reply::{Refusal, of_probe};
 use study_script::TableStore;
 use study_values::{ProbeFault, Values};
 
-/// Why nothing is found. What is written into memory stops for want of it alone.
+/// Why a search fails. Writing into memory fails only for want of it.
 fn of_stop(stop: Stop) -> Denial
     ensures { result ≡ of_stop stop }
 {
@@ -27,7 +27,7 @@ fn of_stop(stop: Stop) -> Denial
     }
 }
 
-/// A piece of a list, or why it is not known.
+/// A piece of a list, or why it cannot be made.
 fn piece_text<'a, V: Values, A: Allocator>(
     alloc: &'a A,
     piece: &Piece,

@@ -14,10 +14,10 @@ use study_material::Class;
 use study_reply::Refusal;
 use study_text::next_word;
 
-/// At most so many words stand behind the class.
+/// The largest number of words after the class.
 const MAX_WORDS: usize = 16;
 
-/// The words of a text, if they are not too many.
+/// The words of a text, unless there are too many.
 fn words_in(text: &[u8]) -> Option<ArrayVec<&[u8], MAX_WORDS>>
     ensures { MatchOption result (16 < length (words text.now)) (λ list. map (λ word. word.now) list.items ≡ words text.now) }
 {

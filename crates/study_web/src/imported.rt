@@ -1,4 +1,4 @@
-//! The script of games that come in as PGN.
+//! The script of imported games.
 ghost use Rattle.std.specs.Prelude.{◌≡◌, IfOk, IfErr};
 ghost use Rattle.study_import.specs.Imported.{script_of, all_games};
 ghost use Rattle.study_web.specs.Answers.{MayEnd, IsNoMemory, IsOutOfMemory};
@@ -23,7 +23,7 @@ fn script_of<'a, A: Allocator>(
     Ok(text)
 }
 
-/// The script of a file of PGN. `given` is the stipulation of the games that say none.
+/// The script of a PGN file. `given` is the stipulation of the games that have none of their own.
 pub fn imported_of<'a, A: Allocator>(
     alloc: &'a A,
     pgn: &[u8],

@@ -1,9 +1,9 @@
 //! The workbench for a page of a browser: bytes in, bytes out.
 //!
-//! A page hands in a request, a script, and the files of tables that it keeps, as a directory of spans into one text of bytes. `answer`
-//! answers it: `run` with the replies to the script, by `replies_over`, whose theorem of scripts holds out to the bytes: with no file
-//! nothing is presumed, and with files only that those of the classes which the script loads are right. `make_file` builds the table of
-//! a class from the files of those that it needs and gives its file. Nothing is kept between two calls.
+//! A page hands in a request, a script, and the table files that it keeps, as a directory of spans into one text of bytes. `answer` answers it: `run`
+//! with the replies to the script, by `replies_over`, whose theorem of scripts reaches to the bytes: without files there is no premise, and with
+//! files the only premise is that those of the classes which the script loads are right. `make_file` builds the table of a class from the files of
+//! those that it needs and returns its file. Nothing is kept between two calls.
 #![tactic(auto)]
 
 mod answering;

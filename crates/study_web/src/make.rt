@@ -22,15 +22,15 @@ use study_tablefile::{read_table, write_table};
 use study_values::{FileFault, cells};
 use thiserror::Error;
 
-/// Why the file of a class is not made.
+/// Why the file of a class cannot be made.
 #[derive(Clone, Copy, Debug, PartialEq, Eq, Error)]
 pub enum MakeFault {
-    /// The first table that the class needs and that is not held: it has no file, or one that it needs itself has none.
+    /// The first table that the class needs and that is not loaded: it has no file, or needs one that has none.
     #[error("MissingTable {0:?}")]
     MissingTable(Class),
     #[error("{0:?}: {1}")]
     File(Class, FileFault),
-    /// The file of the first class has a table of the second.
+    /// The file of the first class holds a table of the second.
     #[error("{0:?}: OtherClass {1:?}")]
     OtherClass(Class, Class),
     #[error("DistanceTooLarge")]
@@ -63,9 +63,9 @@ impl From<BuildFault> for MakeFault {
     }
 }
 
-/// Builds the table of a class from the files of those that it needs, and gives its file.
+/// Builds the table of a class from the files of those that it needs, and returns its file.
 ///
-/// Where the files of these are right, so is what is given.
+/// If those files are right, so is the result.
 pub fn make_file<'a, A: Allocator>(
     alloc: &'a A,
     class: Class,
@@ -117,7 +117,7 @@ fn text_of<'a, A: Allocator>(
     }
 }
 
-/// The tables of all classes that the class needs, as far as they have files.
+/// The tables of all classes that the class needs, as far as there are files for them.
 fn needed_tables<'a, A: Allocator>(
     alloc: &'a A,
     class: Class,
@@ -136,7 +136,7 @@ fn needed_tables<'a, A: Allocator>(
     Ok(tables)
 }
 
-/// Holds the tables of these classes, each after those that it needs.
+/// Loads the tables of these classes, each after those that it needs.
 fn hold_each<'a, A: Allocator>(
     alloc: &'a A,
     tables: &mut WholeTables<'a, A>,
@@ -163,7 +163,7 @@ fn hold_each<'a, A: Allocator>(
     }
 }
 
-/// The same for one class that is needed. The class itself is among those that it needs, and is passed over.
+/// The same for one needed class. The class itself is among those that it needs, and is skipped.
 fn hold_needed<'a, A: Allocator>(
     alloc: &'a A,
     tables: &mut WholeTables<'a, A>,
@@ -188,7 +188,7 @@ fn hold_needed<'a, A: Allocator>(
     hold(alloc, tables, need, spans, bytes)
 }
 
-/// Holds the table of a class, where it has a file and all that it needs is held.
+/// Loads the table of a class if it has a file and all that it needs is loaded.
 fn hold<'a, A: Allocator>(
     alloc: &'a A,
     tables: &mut WholeTables<'a, A>,
@@ -231,7 +231,7 @@ fn table_in<'a, A: Allocator>(
     }
 }
 
-/// Why the file of a class gives no table. It is a slice, which does not fail.
+/// Why the file of a class is not a table. The file is a slice, so reading it cannot fail.
 fn of_file(class: Class, fault: FileFault) -> MakeFault
     ensures device { fault ≡ FileFault.Device → result ≡ MakeFault.OutOfMemory }
     ensures file { fault ≢ FileFault.Device → result ≡ MakeFault.File class fault }

@@ -1,4 +1,4 @@
-//! A report of refused lines alone.
+//! A report of refused lines only.
 
 use std::alloc::Allocator;
 use std::io::Write;
@@ -7,7 +7,7 @@ use study_report::{Lines, NotTold, Report};
 use study_review::ReviewFault;
 use study_values::Values;
 
-/// Refused lines as `refused 7 NoTable KRK`, and nothing of studies.
+/// Refused lines as `refused 7 NoTable KRK`; nothing is printed for studies.
 #[derive(Clone, Copy, Debug, PartialEq, Eq)]
 pub struct Refusals;
 

@@ -1,4 +1,4 @@
-//! The replies to a script over the files that are handed in.
+//! The replies to a script over the files of the request.
 ghost use Rattle.std.specs.Prelude.{◌≤◌, ℕ, Bool, true, List, [], Option, Some, IfSome, is_some};
 ghost use Rattle.study_material.specs.declared.class.Class.{Class as AClass};
 ghost use Rattle.study_script.specs.Outcome.{Outcome, Shape, begun_state};
@@ -15,10 +15,10 @@ use crate::store::SpanStore;
 use std::alloc::Allocator;
 use study_script::{Settings, run};
 
-/// Answers a script over the files that are handed in. What it saves is put into the cells, one for each class.
+/// Answers a script over the files of the request. What it saves is put into the cells, one for each class.
 ///
-/// Tables are held whole, or so many pages of them, and studies are kept apart. The replies are those of the script, over files of which
-/// nothing is presumed but that those of the classes which it loads are right.
+/// Tables are read whole or by so many pages, and studies are kept apart. The replies are those of the script; the only premise is that the files
+/// of the classes which it loads are right.
 pub fn replies_over<'f, 'a, A: Allocator>(
     alloc: &'a A,
     script: &[u8],

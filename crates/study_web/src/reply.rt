@@ -1,4 +1,4 @@
-//! What is given back, and how it ended.
+//! An answer, and how it ended.
 ghost use Rattle.std.specs.Prelude.{◌≡◌, [], IfOk, IfErr};
 ghost use Rattle.study_web.specs.Told.{IsDenied, IsUntold, ending_of};
 
@@ -10,24 +10,24 @@ use study_script::{RunFault, Summary};
 /// How an answer ended.
 #[derive(Clone, Copy, Debug, PartialEq, Eq)]
 pub enum Ending {
-    /// The text is what was asked for, whole.
+    /// The text is the whole answer.
     Answered,
     /// The text is the name of the refusal, and a line feed.
     Refused(Denial),
-    /// Each line of the script was read; the text is what was replied or told.
+    /// Each line of the script was read; the text has the replies or the report.
     Ran(Summary),
-    /// The script was not read to its end, or there is no memory. The text is what was replied or told before, and else empty.
+    /// The script was not read to the end, or there is no memory. The text has what was written before, or is empty.
     Stopped(RunFault),
 }
 
-/// What a page is answered.
+/// The answer to a request.
 #[derive(Drop)]
 pub struct Reply<'a, A: Allocator> {
     pub text: Vec<u8, &'a A>,
     pub ended: Ending,
 }
 
-/// Why there is no text: the request is refused, or the script was not read to its end.
+/// Why there is no text: the request is refused, or the script was not read to the end.
 #[derive(Clone, Copy, Debug, PartialEq, Eq)]
 pub enum NoText {
     Denied(Denial),
@@ -48,7 +48,7 @@ pub fn denied<'a, A: Allocator>(alloc: &'a A, denial: Denial) -> Reply<'a, A>
     }
 }
 
-/// Nothing, for this fault.
+/// An empty text, and this fault.
 fn stopped<'a, A: Allocator>(alloc: &'a A, fault: RunFault) -> Reply<'a, A>
     ensures ended { result.ended ≡ Ending.Stopped fault }
     ensures text { result.text.items ≡ [] }
@@ -74,7 +74,7 @@ pub fn told<'a, A: Allocator>(alloc: &'a A, made: Result<Vec<u8, &'a A>, NoText>
     }
 }
 
-/// What was told of a script, and how that ended.
+/// The text that a run wrote, and how the run ended.
 pub fn ran<'a, A: Allocator>(
     text: Vec<u8, &'a A>,
     summary: Result<Summary, RunFault>,

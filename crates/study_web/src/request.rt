@@ -1,4 +1,4 @@
-//! What a page asks for, in a line of words.
+//! The request of a page: a line of words.
 ghost use Rattle.std.specs.Prelude.{◌≡◌, true, Some, IfSome};
 ghost use Rattle.std.specs.Option.{option_map};
 ghost use Rattle.std.specs.List.{list_all};
@@ -24,7 +24,7 @@ use study_notation::{FenFault, Start, read_fen};
 use study_reply::Refusal;
 use study_text::next_word;
 
-/// A man of a position, and what a survey of it is to reach.
+/// A man of a position, and the stipulation to survey it for.
 #[derive(Drop)]
 pub struct Surveyed {
     pub square: Square,
@@ -32,7 +32,7 @@ pub struct Surveyed {
     pub start: Start,
 }
 
-/// What is asked for.
+/// A request.
 #[derive(Drop)]
 pub enum Request<'r> {
     /// `run`: the replies to the script.
@@ -45,21 +45,21 @@ pub enum Request<'r> {
     Review,
     /// `report`: the page of the script's studies.
     Report,
-    /// `survey SQUARE SIDE GOAL FEN`: where else the man of the square could stand.
+    /// `survey SQUARE SIDE GOAL FEN`: the result with the man of the square on each other square.
     Survey(Surveyed),
     /// `tables`: the classes that the script's positions need.
     Tables,
-    /// `passed FEN`: the squares that a pawn can just have jumped over.
+    /// `passed FEN`: the squares that a pawn may have passed in a double step just before.
     Passed(Start),
-    /// `find CLASS THEME [FILTER ..] FROM TO`: the positions of these numbers of the class that have the theme.
+    /// `find CLASS THEME [FILTER ..] FROM TO`: the positions of the class with the theme, among these numbers.
     Find(Piece),
-    /// `find` with words that name no theme or no filter.
+    /// `find` with words that name no known theme or filter.
     Unread(Unread),
-    /// `import` or `import SIDE GOAL`: the script of the games of PGN; the stipulation is that of the games that say none.
+    /// `import` or `import SIDE GOAL`: the script of the games of PGN; the stipulation is for the games that have none of their own.
     Import(Option<Stipulation>),
 }
 
-/// The request that a line of printable words spells, or the first reason why it spells none.
+/// The request that a line of printable words spells, or the first reason why it is not valid.
 #[tactic(auto, using(study_command::proofs::Printable::printable_behind), unfolding(crate::specs::Request::request_of))]
 pub fn read_request(line: &[u8]) -> Result<Request<'_>, Refusal>
     ensures { asks_seen result ≡ request_of line.now }
@@ -179,7 +179,7 @@ fn read_mate_moves(word: &[u8]) -> Option<Goal>
     }
 }
 
-/// `win`, `draw` or `mate K`, and what follows it.
+/// `win`, `draw` or `mate K`, and the rest.
 #[tactic(auto, using(study_command::proofs::Printable::printable_behind))]
 fn read_goal(rest: &[u8]) -> Option<(Goal, &[u8])>
     ensures value { option_map (λ found. (found.0, found.1.now)) result ≡ goal_begun (words rest.now) rest.now }
@@ -200,7 +200,7 @@ fn read_goal(rest: &[u8]) -> Option<(Goal, &[u8])>
     None
 }
 
-/// `SIDE GOAL`, and what follows it.
+/// `SIDE GOAL`, and the rest.
 #[tactic(auto, using(study_command::proofs::Printable::printable_behind))]
 fn read_stipulation(rest: &[u8]) -> Option<(Stipulation, &[u8])>
     ensures value { option_map (λ found. (found.0, found.1.now)) result ≡ stipulation_begun (words rest.now) rest.now }

@@ -5,12 +5,12 @@ use std::cell::RefCell;
 use std::io;
 use std::io::{ErrorKind, Write};
 
-/// The bytes of a file that a script saves; `None` where it saved none. A file that is saved again starts from nothing.
+/// The bytes of a file that a script saves; `None` if it saved none. A file that is saved again starts empty.
 pub type Saved<'a, A> = RefCell<Option<Vec<u8, &'a A>>>;
 
-/// A cell for each class, in the order of the class list, of which none is saved.
+/// A cell for each class, in the order of the class list; all are `None`.
 ///
-/// No contract: no clause can say what a cell holds. Tests tell it.
+/// No contract: no clause can name the content of a cell. Tests check it.
 pub fn none_saved<'a, A: Allocator>(alloc: &'a A) -> Result<Vec<Saved<'a, A>, &'a A>, AllocError> {
     let mut cells = Vec::new(alloc);
     for _ in 0..36u8 {
@@ -19,16 +19,16 @@ pub fn none_saved<'a, A: Allocator>(alloc: &'a A) -> Result<Vec<Saved<'a, A>, &'
     Ok(cells)
 }
 
-/// The writer of such a file. What a cell holds is not known to a clause.
+/// The writer of such a file. No clause can name the content of a cell.
 #[derive(Drop)]
 pub struct SavedFile<'w, 'a, A: Allocator> {
     cell: &'w Saved<'a, A>,
 }
 
 impl<'w, 'a, A: Allocator> SavedFile<'w, 'a, A> {
-    /// Starts the file again, without a byte.
+    /// Starts the file again, empty.
     ///
-    /// No contract: no clause can say what a cell holds. Tests tell it.
+    /// No contract: no clause can name the content of a cell. Tests check it.
     pub fn new(alloc: &'a A, cell: &'w Saved<'a, A>) -> io::Result<Self> {
         *cell.try_borrow_mut()? = Some(Vec::new(alloc));
         Ok(SavedFile { cell })

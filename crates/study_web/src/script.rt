@@ -1,4 +1,4 @@
-//! What is told of a script: its review, and the view of what it leaves in the document.
+//! Scripts: the review of their studies, and the view of the document that they leave.
 ghost use Rattle.std.specs.Prelude.{◌≡◌, ◌≢◌, ◌≤◌, ◌⊎◌, ◌++◌, ℕ, [], true, false, is_some, List, Option, IfSome, IfOk, IfErr, OnOk};
 ghost use Rattle.study_material.specs.declared.class.Class.{Class as AClass};
 ghost use Rattle.study_values.specs.declared.fault.SourceFault.{SourceFault as ASourceFault};
@@ -95,7 +95,7 @@ fn bench_view<'a, A: Allocator, V: Values>(
     }
 }
 
-/// Where a study will start, of which no stipulation is chosen yet.
+/// The line of a start without a stipulation.
 #[tactic(auto, unfolding(study_view::specs::Words::study_line))]
 fn start_view<'a, A: Allocator>(alloc: &'a A, start: &Start) -> Result<Vec<u8, &'a A>, NoText>
     ensures none { IfErr result (λ why. why ≡ NoText.Denied (Denial.Refused Refusal.OutOfMemory)) }
@@ -108,7 +108,7 @@ fn start_view<'a, A: Allocator>(alloc: &'a A, start: &Start) -> Result<Vec<u8, &
     }
 }
 
-/// What has a root alone has no other node.
+/// A document that has only a root has no other node.
 #[tactic(auto, using(crate::proofs::Nodes::places_other), unfolding(study_command::specs::Paths::steps_of))]
 fn at_root(path: &[u8]) -> Result<(), NoText>
     ensures root { OnOk result (steps_of path.now ≡ []) }
@@ -121,7 +121,7 @@ fn at_root(path: &[u8]) -> Result<(), NoText>
     }
 }
 
-/// The view of what is in a document, at a path: of a start its one line, of nothing no line.
+/// The view of a document at a path: for a start its one line, for nothing no line.
 fn document_view<'a, A: Allocator, V: Values>(
     alloc: &'a A,
     document: &Document<'a, A>,
@@ -148,7 +148,7 @@ fn document_view<'a, A: Allocator, V: Values>(
     }
 }
 
-/// What a script leaves: what is in the document, the tables, and its refused lines.
+/// What a script leaves: the document, the tables, and its refused lines.
 #[derive(Drop)]
 struct Left<'a, P: PageSource, A: Allocator> {
     document: Document<'a, A>,
@@ -156,7 +156,7 @@ struct Left<'a, P: PageSource, A: Allocator> {
     refused: Vec<u8, &'a A>,
 }
 
-/// Follows a script over these tables. Of the store no file is opened: lines of tables are skipped.
+/// Follows a script over these tables. No file of the store is opened: table commands are skipped.
 fn left_by<'a, S: TableStore, A: Allocator>(
     alloc: &'a A,
     script: &[u8],
@@ -206,7 +206,7 @@ fn left_by<'a, S: TableStore, A: Allocator>(
     }
 }
 
-/// The view at a path of what is left, and then the lines that were refused.
+/// The view at a path of the document that is left, then the refused lines.
 fn left_view<'a, P: PageSource, A: Allocator>(
     alloc: &'a A,
     left: Left<'a, P, A>,
@@ -232,7 +232,7 @@ fn left_view<'a, P: PageSource, A: Allocator>(
     }
 }
 
-/// The view at a path of what a script leaves in the document, and then its refused lines; over all files of a store.
+/// The view at a path of the document that a script leaves, then its refused lines; over all files of a store.
 pub fn view_of<'a, S: TableStore, A: Allocator>(
     alloc: &'a A,
     path: &[u8],

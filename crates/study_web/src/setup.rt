@@ -1,4 +1,4 @@
-//! What a set-up needs to know: the tables that a script's positions need, and passed squares.
+//! Facts for setting up a position: the tables that a script's positions need, and passed squares.
 ghost use Rattle.std.specs.Prelude.{◌≡◌, ◌++◌, List, IfOk, IfErr, OnOk};
 ghost use Rattle.study_material.specs.declared.class.Class.{Class as AClass};
 ghost use Rattle.study_command.specs.Lines.{script_lines};
@@ -20,7 +20,7 @@ use study_reply::Refusal;
 use study_script::RunFault;
 use study_view::{classes_needed, passed_squares};
 
-/// Adds the position of a line `position` or `shift` whose FEN is one.
+/// Adds the position of a line `position` or `shift`, if its FEN is valid.
 fn add_position<'a, A: Allocator>(
     list: &mut Vec<Position, &'a A>,
     line: &[u8],
@@ -54,7 +54,7 @@ pub fn positions_in<'a, A: Allocator>(
     let mut list = Vec::new(alloc);
     for n in 0..100_000u32 {
         match line.read(&mut reader) {
-            // a slice does not fail
+            // reading a slice cannot fail
             Err(LineFault::Device) => return Err(RunFault::OutOfMemory),
             Err(LineFault::TooLong) => return Err(RunFault::LineTooLong(n + 1)),
             Ok(false) => return Ok(list),
@@ -116,7 +116,7 @@ fn add_squares<A: Allocator>(text: &mut Vec<u8, &A>, squares: &[Square]) -> Resu
     }
 }
 
-/// The names of the classes that positions need, each after its needs, one a line.
+/// The names of the classes that positions need, each after those that it needs, one a line.
 fn needs_of<'a, A: Allocator>(
     alloc: &'a A,
     positions: &[Position],
@@ -129,7 +129,7 @@ fn needs_of<'a, A: Allocator>(
     Ok(text)
 }
 
-/// The classes that the positions of a script need, each after its needs, one a line.
+/// The classes that the positions of a script need, each after those that it needs, one a line.
 pub fn tables_of<'a, A: Allocator>(alloc: &'a A, script: &[u8]) -> Result<Vec<u8, &'a A>, NoText>
     ensures text { IfOk result (λ text. AreTables (script_lines script.now) text.items) }
     ensures none { IfErr result (MayEnd IsOutOfMemory (IsUnread script.now)) }
@@ -143,7 +143,7 @@ pub fn tables_of<'a, A: Allocator>(alloc: &'a A, script: &[u8]) -> Result<Vec<u8
     }
 }
 
-/// The squares that a pawn can just have jumped over, in a position, one a line.
+/// The squares that a pawn may have passed in a double step just before, in a position, one a line.
 pub fn passed_of<'a, A: Allocator>(alloc: &'a A, start: &Start) -> Result<Vec<u8, &'a A>, NoText>
     ensures text { IfOk result (λ text. text.items ≡ squares_text (passed_squares start.now.position.men start.now.position.to_move)) }
     ensures none { IfErr result (MayEnd IsOutOfMemory IsNoMemory) }

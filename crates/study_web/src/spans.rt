@@ -1,13 +1,13 @@
-//! The directory of the files that are handed in.
+//! The directory of the files of a request.
 ghost use Rattle.std.specs.Prelude.{◌≡◌, ◌≤◌, ◌+◌, IsTrue, MatchOption, Some, None, length};
 ghost use Rattle.study_web.specs.Spans.{is_file_of, file_in};
 
 use study_material::Class;
 
-/// Where the file of a class lies in the bytes that are handed in.
+/// The place of a class's file in the bytes of the request.
 #[derive(Clone, Copy, Debug, PartialEq, Eq)]
 pub struct Span {
-    /// The place of the class in the class list, from 0. A place that no class has is that of no file.
+    /// The index of the class in the class list, from 0. An index beyond the list is that of no file.
     pub class: usize,
     /// The file's first byte, from 0.
     pub start: usize,
@@ -15,14 +15,14 @@ pub struct Span {
     pub length: usize,
 }
 
-/// The files of tables that are handed in, and how they are read.
+/// The table files of a request, and how they are read.
 #[derive(Clone, Copy)]
 pub struct TableFiles<'f> {
-    /// Where each lies.
+    /// The span of each file.
     pub spans: &'f [Span],
     /// The files, one after the other.
     pub bytes: &'f [u8],
-    /// Tables are read by so many pages, from 1 to 4,096, or else whole.
+    /// The number of pages kept in memory, from 1 to 4,096; `None` if tables are read whole.
     pub pages: Option<u16>,
 }
 
@@ -36,7 +36,7 @@ fn is_file_of(class: Class, bytes: &[u8], span: &Span) -> bool
         && span.length <= bytes.len() - span.start
 }
 
-/// The file of a class: what the first of its spans that lies within the bytes has. Spans may overlap.
+/// The file of a class: the bytes of the first valid span for it. Spans may overlap.
 pub fn file_in<'f>(spans: &[Span], bytes: &'f [u8], class: Class) -> Option<&'f [u8]>
     ensures { MatchOption result (file_in spans.now bytes.now class ≡ None) (λ file. file_in spans.now bytes.now class ≡ Some file.now) }
 {

@@ -1,4 +1,4 @@
-//! A store of tables over the files that are handed in.
+//! A store of tables over the files of a request.
 ghost use Rattle.std.specs.Prelude.{◌≡◌, false, replicate, length, IfOk, IfErr};
 ghost use Rattle.study_web.specs.Spans.{bytes_given, header_given, file_in, IsHonestIn};
 ghost use Rattle.study_web.specs.Store.{known, faults_known, IsFileGiven, IsWithheld};
@@ -11,15 +11,15 @@ use study_script::{StoreFault, TableStore};
 use study_tablefile::MemorySource;
 use study_text::MemoryReader;
 
-/// The files that are handed in, and cells for those that a script saves: one for each class, in the order of the class list. A class
-/// without a cell is not saved.
+/// The files of a request, and cells for those that a script saves: one for each class, in the order of the class list. A class without a cell is not
+/// saved.
 #[derive(Drop)]
 pub struct SpanStore<'f, 'w, 'a, A: Allocator> {
     alloc: &'a A,
     spans: &'f [Span],
     bytes: &'f [u8],
     saved: &'w [Saved<'a, A>],
-    /// Which classes' files were opened to be written.
+    /// The classes whose files were opened for writing.
     written: [bool; CLASS_COUNT],
     ghost full: { length written ≡ 36 },
 }
@@ -39,7 +39,7 @@ impl<'f, 'w, 'a, A: Allocator> SpanStore<'f, 'w, 'a, A> {
         }
     }
 
-    /// The file of a class; one that was written is not read again over this store.
+    /// The file of a class; over this store, a file that was written cannot be read again.
     fn file(&self, class: Class) -> Result<&'f [u8], StoreFault>
         ensures ok { IfOk result (λ file. IsFileGiven self.now.spans.now self.now.bytes.now self.now.written class file.now) }
         ensures err { IfErr result (IsWithheld self.now.spans.now self.now.bytes.now self.now.written class) }

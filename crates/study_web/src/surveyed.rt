@@ -14,7 +14,7 @@ use study_reply::{Refusal, of_probe};
 use study_script::TableStore;
 use study_view::{Question, SurveyFault, write_survey};
 
-/// The survey that is asked for, over all files of a store.
+/// The requested survey, over all files of a store.
 #[tactic(auto, using(crate::proofs::Denials::survey_over))]
 pub fn survey_of<'a, S: TableStore, A: Allocator>(
     alloc: &'a A,

@@ -1,4 +1,4 @@
-//! The tables of all files of a store, opened by pages.
+//! The tables of all files of a store, read by pages.
 ghost use Rattle.std.specs.Prelude.{◌≡◌, ◌≤◌, ◌⊎◌, true, false, is_some, IfSome, OnOk, IfOk, IfErr, Err};
 ghost use Rattle.study_material.specs.declared.class.Class.{Class as AClass};
 ghost use Rattle.study_values.specs.declared.fault.SourceFault.{SourceFault as ASourceFault};
@@ -15,10 +15,10 @@ use study_reply::Refusal;
 use study_script::{StoreFault, TableStore};
 use study_values::Values;
 
-/// How many pages are kept where nothing is said.
+/// The number of pages kept in memory unless another is given.
 const PAGES: u16 = 1024;
 
-/// Why the file of a class gives no table, as a script tells it; or that there is no memory.
+/// Why the file of a class is not a table, as a script's reply names it; or want of memory.
 fn denial_of(class: Class, fault: PagedFault) -> Denial
     ensures { result ≡ denial_of class fault }
 {
@@ -91,7 +91,7 @@ fn open_each<'a, S: TableStore, A: Allocator>(
     }
 }
 
-/// The tables of all files of a store, in the order of the class list. A file that gives no table refuses all.
+/// The tables of all files of a store, in the order of the class list. One file that is not a table refuses them all.
 pub fn open_tables<'a, S: TableStore, A: Allocator>(
     alloc: &'a A,
     store: &mut S,

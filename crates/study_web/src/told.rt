@@ -69,7 +69,7 @@ pub fn put_denial<W: Write>(out: &mut W, denial: Denial) -> Result<(), DeviceFai
     }
 }
 
-/// Why a request to find asks for nothing.
+/// Why a search is not valid.
 fn unread_text(fault: Unread) -> &'static [u8]
     ensures { result.now ≡ unread_text fault }
 {

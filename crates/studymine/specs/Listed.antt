@@ -9,7 +9,7 @@ use Rattle.study_listing.specs.Lists.{AreSoMany, HasWritten, IsSelectionOf}
 use Rattle.studymine.specs.declared.options.Output.{Output}
 use Rattle.studymine.specs.declared.options.Output.TheVariants as output
 
--- so many positions are listed: none, where nothing is looked for
+-- so many positions are listed: zero if the request selects none
 abbrev pub AreSoManyOf : Option Selection → ℕ → Type 0
 AreSoManyOf None count = count ≡ 0
 AreSoManyOf (Some s) count = AreSoMany s 0 (cells_of s.search.class) count
@@ -27,6 +27,6 @@ abbrev pub HasPut : Output → Option Selection → Option (List ℕ) → Option
 HasPut (output.List form) selection old new = HasListed form selection old new
 HasPut output.Count selection old new = HasCounted selection old new
 
--- what the request looks for, in the form that is asked for
+-- the positions of the request, in the requested form
 abbrev pub HasAnswered : Request → Output → Option (List ℕ) → Option (List ℕ) → Type 0
 HasAnswered request out old new = (selection : Option Selection) × IsSelectionOf request selection × HasPut out selection old new

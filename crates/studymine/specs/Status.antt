@@ -9,7 +9,7 @@ use Rattle.study_values.specs.declared.values.ProbeFault.TheVariants.{NoTable, T
 use Rattle.study_listing.specs.declared.fault.Stop.{Stop}
 use Rattle.study_listing.specs.declared.fault.Stop.TheVariants.{Values, TooManyStudies, WriteDevice}
 
--- 0 where the list was made, and 3 where it stopped
+-- 0 if the list is complete, and 3 if it stopped
 abbrev pub status_of : Result (Unit {0}) Stop → ℕ
 status_of (Ok x) = 0
 status_of (Err stop) = 3
@@ -31,7 +31,7 @@ probe_text (NoTable c) = no_table_text c
 probe_text (TableRead fault) = read_text fault
 probe_text (PageDamaged c n) = file_fault_text c (codes "PageDamaged " ++ (decimal n ++ 10 ∷ []))
 
--- why a list was not made
+-- why a list is not complete
 abbrev pub stop_text : Stop → List ℕ
 stop_text (Values fault) = probe_text fault
 stop_text TooManyStudies = codes "studymine: TooManyStudies\n"

@@ -1,4 +1,4 @@
-//! The answer to a request over values: the list, or how much it is.
+//! The answer to a request over values: the list, or its length.
 ghost use Rattle.std.specs.Prelude.{◌≡◌, false, IfOk, OnOk, IsErrOf};
 ghost use Rattle.study_material.specs.declared.class.Class.{Class as AClass};
 ghost use Rattle.studymine.specs.Listed.{AreSoManyOf, HasCounted, HasListed, HasPut, HasAnswered};
@@ -10,7 +10,7 @@ use study_listing::{Form, Request, Selection, Stop, Watch, count_found, list_fou
 use study_material::order;
 use study_values::{ProbeFault, Values};
 
-/// Refuses what wants a table that is not there: before the first line, that of the class, or of a class that its moves lead to.
+/// Refuses a request, before the first line, if the table of the class is missing, or of a class that its moves lead to.
 fn need_tables<V: Values>(request: &Request, values: &V) -> Result<(), ProbeFault>
     ensures { (c : AClass) → IsErrOf result (ProbeFault.NoTable c) → V.held values.now c ≡ false }
 {
@@ -23,7 +23,7 @@ fn need_tables<V: Values>(request: &Request, values: &V) -> Result<(), ProbeFaul
     Ok(())
 }
 
-/// How many positions are listed: none, where nothing is looked for.
+/// The number of listed positions: zero if the request selects none.
 fn count_of<V: Values, H: Watch>(
     selection: Option<Selection>,
     values: &mut V,
@@ -37,7 +37,7 @@ fn count_of<V: Values, H: Watch>(
     }
 }
 
-/// Writes how many positions are listed.
+/// Writes the number of listed positions.
 fn write_count<V: Values, W: Write, H: Watch>(
     selection: Option<Selection>,
     values: &mut V,

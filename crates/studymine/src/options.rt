@@ -27,11 +27,11 @@ Filters, after a theme but 'longest', a word each and in any order:
 
 Exit status: 0 the list was made; 2 the command line was refused; 3 the list stopped, and why is on standard error.";
 
-/// What is written.
+/// The form of the output.
 #[derive(Clone, Copy, Debug, PartialEq, Eq)]
 pub enum Output {
     List(Form),
-    /// How many positions there are, and nothing else.
+    /// The number of positions, and nothing else.
     Count,
 }
 
@@ -47,12 +47,12 @@ pub enum WordFault {
 /// The options of the command line.
 #[derive(Clone, Copy, Debug)]
 pub struct Options<'a> {
-    /// The folder of the files of tables: never an empty text, of which the files would stand in the root folder.
+    /// The folder of the table files; never empty, since an empty name would mean the root folder.
     pub tables: &'a str,
-    /// How many pages of tables are kept: 1 to 4,096.
+    /// The number of pages kept in memory: 1 to 4,096.
     pub pages: u16,
     pub output: Output,
-    /// Whether it is written to standard error how far the search has come.
+    /// Whether the progress of the search is written to standard error.
     pub progress: bool,
     pub request: Request,
     ghost named: { 0 < length tables.now },
@@ -60,11 +60,10 @@ pub struct Options<'a> {
     ghost few: { pages ≤ 4096 },
 }
 
-/// Reads the words of the command line, of which the first is the program's name; `Ok(Err(..))` if clap takes them but they are not a request.
-/// `--help` and `--version` are answered as errors whose exit code is 0.
+/// Reads the words of the command line, the first of which is the program's name; `Ok(Err(..))` if clap takes them but they are not a request.
+/// `--help` and `--version` are reported as errors whose exit code is 0.
 ///
-/// No contract: clap has none on the words that it takes. The type proves that the folder has a name, and the range of pages; the tests
-/// tell the rest.
+/// No contract: clap has none on the words that it takes. The type proves that the folder has a name, and the range of pages; tests check the rest.
 pub fn read_words<'a>(
     alloc: Global,
     words: &'a [String],
@@ -165,7 +164,7 @@ fn bytes_of<'a>(
     Ok(list)
 }
 
-/// The request of the words of the class and of the theme.
+/// The request that the words for class and theme spell.
 fn read_words_of_request(class: Option<&str>, theme: &[&[u8]]) -> Result<Request, WordFault> {
     let Some(name) = class else {
         return Err(WordFault::NoSuchClass);
@@ -181,7 +180,7 @@ fn read_words_of_request(class: Option<&str>, theme: &[&[u8]]) -> Result<Request
     }
 }
 
-/// So many pages, where it is a number of pages that can be kept, else 4,096.
+/// The number of pages, if it is in range, else 4,096.
 fn pages_of(given: Option<u16>) -> u16
     ensures some { 1 ≤ result }
     ensures few { result ≤ 4096 }
@@ -192,7 +191,7 @@ fn pages_of(given: Option<u16>) -> u16
     }
 }
 
-/// What is to be written. Of a list and a script that are both counted, the count alone is.
+/// The form of the output. With both `--count` and `--script`, only the count is printed.
 fn output_of(count: bool, script: bool) -> Output {
     if count {
         Output::Count

@@ -1,4 +1,4 @@
-//! What the program does, over the streams of its process or over any others.
+//! The program, over the streams of its process or over any others.
 ghost use Rattle.std.specs.Prelude.{◌≡◌, Bool};
 ghost use Rattle.clap.specs.Values.{kind_of};
 ghost use Rattle.study_program.specs.Status.{status_unread};
@@ -21,10 +21,10 @@ use study_text::write_text;
 
 /// Writes the positions of the request to standard output as they are found.
 ///
-/// The exit status is 0 where the list was made, 2 where the command line was refused, and 3 where the list stopped: at a table that is not
-/// there or not read, at too many studies, or at a device, whose name then goes to standard error.
+/// The exit status is 0 if the list is complete, 2 if the command line was refused, and 3 if the list stopped: at a table that is missing or cannot
+/// be read, at too many studies, or at a device, whose name then goes to standard error.
 ///
-/// No contract: of the streams and the words of a process no clause can say what they hold.
+/// No contract: no clause can name the content of the streams and the words of a process.
 pub fn studymine(rt: &HostRuntime) -> ExitCode {
     let words = match words_of(rt) {
         Ok(words) => words,
@@ -45,7 +45,7 @@ fn without_memory(rt: &HostRuntime) -> u8
     3
 }
 
-/// The words of the command line are not known.
+/// The words of the command line cannot be read.
 fn not_read(rt: &HostRuntime, error: &io::Error) -> u8 {
     if error.kind() == ErrorKind::OutOfMemory {
         return without_memory(rt);
@@ -68,7 +68,7 @@ fn not_known(rt: &HostRuntime, fault: WordFault) -> u8
     2
 }
 
-/// Help, the version, or why the words are refused.
+/// Prints help, the version, or why the words are refused.
 fn answered(rt: &HostRuntime, error: &Error) -> u8
     ensures { (printed : Bool) × (result ≡ status_unread (kind_of error.now) printed) }
 {
@@ -95,8 +95,8 @@ fn list_to_streams(rt: &HostRuntime, options: &Options<'_>) -> u8 {
     }
 }
 
-/// Lists over the tables of a folder, writes to `errors` which files give no table and why the list stopped, if it did, and gives
-/// the exit status; none, where there is no memory for the tables.
+/// Lists over the tables of a folder, writes to `errors` which files are not tables and why the list stopped, if it did, and returns the exit status;
+/// `None` if there is no memory for the tables.
 pub fn list_over_files<F: Files, A: Allocator, W: Write, E: Write>(
     files: &F,
     alloc: &A,
@@ -118,12 +118,12 @@ pub fn list_over_files<F: Files, A: Allocator, W: Write, E: Write>(
         out,
         &mut progress,
     );
-    // What is left in a buffer of the writer are lines too.
+    // Lines may still be in the writer's buffer.
     if out.flush().is_err() {
         answered = Err(Stop::WriteDevice);
     }
     if let Err(stop) = &answered {
-        // Nobody can be informed that standard error failed.
+        // A failure of standard error cannot be reported.
         let _ = put_stop(progress.errors, *stop);
     }
     Some(status_of(&answered))

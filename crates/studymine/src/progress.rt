@@ -1,10 +1,10 @@
-//! How far a search has come.
+//! The progress of a search.
 
 use crate::status::put_progress;
 use std::io::Write;
 use study_listing::Watch;
 
-/// Writes how far a search has come, if the option is set.
+/// Writes the progress of a search, if the option is set.
 #[derive(Drop)]
 pub struct Progress<'e, E: Write> {
     pub errors: &'e mut E,
@@ -14,7 +14,7 @@ pub struct Progress<'e, E: Write> {
 impl<'e, E: Write> Watch for Progress<'e, E> {
     fn passed(&mut self, numbers: u32, all: u32, found: u32) {
         if self.wanted {
-            // Nobody can be informed that standard error failed.
+            // A failure of standard error cannot be reported.
             let _ = put_progress(self.errors, numbers, all, found);
         }
     }

@@ -14,7 +14,7 @@ use study_reply::put_line;
 use study_text::{DeviceFailed, write_text};
 use study_values::{ProbeFault, SourceFault};
 
-/// The exit status after a list, or where it stopped.
+/// The exit status after a list, complete or stopped.
 pub fn status_of(answer: &Result<(), Stop>) -> u8
     ensures { result ≡ status_of answer.now }
 {
@@ -24,7 +24,7 @@ pub fn status_of(answer: &Result<(), Stop>) -> u8
     }
 }
 
-/// Writes why a list was not made, in a line of its own: `studymine: NoTable KRK`.
+/// Writes why a list stopped, in a line of its own: `studymine: NoTable KRK`.
 pub fn put_stop<W: Write>(out: &mut W, stop: Stop) -> Result<(), DeviceFailed>
     ensures ok { OnOk result (Appends (W.contents out.old) (W.contents out.new) (stop_text stop)) }
     ensures err { OnErr result (TakesPrefix (W.contents out.old) (W.contents out.new) (stop_text stop)) }
@@ -95,7 +95,7 @@ pub fn without_error(reply: &[u8]) -> &[u8]
     &reply[6..]
 }
 
-/// Writes why the file of a class gives no table: `studymine: KRK.dtm: HeaderDamaged`. The words end with a line feed.
+/// Writes why the file of a class is not a table: `studymine: KRK.dtm: HeaderDamaged`. The words end with a line feed.
 pub fn put_file_fault<W: Write>(out: &mut W, class: Class, words: &[u8]) -> Result<(), DeviceFailed>
     ensures ok { OnOk result (Appends (W.contents out.old) (W.contents out.new) (file_fault_text class words.now)) }
     ensures err { OnErr result (TakesPrefix (W.contents out.old) (W.contents out.new) (file_fault_text class words.now)) }
@@ -142,7 +142,7 @@ fn progress_line(number: u32, end: u32, found: u32) -> ArrayString<64>
     line
 }
 
-/// Writes how far a search has come, in a line of its own: `300000 of 5242880 numbers, 12 positions`.
+/// Writes the progress of a search, in a line of its own: `300000 of 5242880 numbers, 12 positions`.
 pub fn put_progress<W: Write>(
     out: &mut W,
     number: u32,

@@ -11,7 +11,7 @@ use study_reply::{Refusal, refuse};
 use study_script::{StoreFault, TableStore};
 use study_text::MemoryWriter;
 
-/// Why the file of a class gives no table.
+/// Why the file of a class is not a table.
 #[derive(Clone, Copy, Debug, PartialEq, Eq)]
 enum NoTable {
     NoFile,
@@ -49,7 +49,7 @@ fn open_table<'a, S: TableStore, A: Allocator>(
     }
 }
 
-/// Writes the fault of a file. Nobody can be informed that standard error failed.
+/// Writes the fault of a file. A failure of standard error cannot be reported.
 fn put_fault<A: Allocator, E: Write>(alloc: &A, errors: &mut E, class: Class, refusal: Refusal) {
     let mut reply = MemoryWriter::new(alloc);
     if refuse(&mut reply, refusal).is_ok() {
@@ -57,7 +57,7 @@ fn put_fault<A: Allocator, E: Write>(alloc: &A, errors: &mut E, class: Class, re
     }
 }
 
-/// Opens each table whose file is there, in the order of the class list, and writes the fault of each file that gives no table.
+/// Opens each table whose file exists, in the order of the class list, and writes the fault of each file that is not a table.
 ///
 /// No contract: `tools/finding.sh` compares what is written.
 pub fn open_tables<'a, S: TableStore, A: Allocator, E: Write>(

@@ -1,5 +1,5 @@
-//! Tests of the lists of positions that are found, over built tables of pawn against king. What they expect comes from an
-//! independent program's lists. Tests alone call these functions, and none has a contract.
+//! Tests of the lists of found positions, over built tables of pawn against king. The expected lists are those of an independent program. Only tests
+//! call these functions, and none has a contract.
 #![tactic(auto)]
 
 #[cfg(test)]

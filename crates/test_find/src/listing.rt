@@ -31,7 +31,7 @@ const ZUGZWANGS: &[u8] = b"8/8/8/k7/8/K7/1P6/8 w - - 0 1 draw loss 46
 8/8/8/k7/8/K7/2P5/8 w - - 0 1 draw loss 44
 ";
 
-/// The tables of KPK and of what its moves lead to.
+/// The tables of KPK and of the classes that its moves lead to.
 fn tables<'a>(rt: &impl Abort, alloc: &'a Global) -> WholeTables<'a, Global> {
     let mut set = TableSet::new(alloc).ok().expect(rt, "a set");
     for class in [
@@ -91,7 +91,7 @@ fn a_position_becomes_a_line_and_a_study(rt: HostRuntime) {
     assert!(rt; is_said(&rt, &alloc, Form::Script, fen, &mut values, STUDY));
 }
 
-/// A writer with room for two lines and one byte takes these, and then nothing.
+/// A writer with room for two lines and one byte accepts these, and then nothing.
 #[test]
 fn a_list_stops_in_its_midst(rt: HostRuntime) {
     let alloc = rt.alloc();
@@ -156,7 +156,7 @@ fn a_script_with_too_many_studies_is_refused(rt: HostRuntime) {
     assert!(rt; out.taken.is_empty());
 }
 
-/// Without a table, and where one is not read, the list stops with the fault.
+/// Without a table, and if one cannot be read, the list stops with the fault.
 #[test]
 fn a_table_is_not_there_or_not_read(rt: HostRuntime) {
     let alloc = rt.alloc();
@@ -178,7 +178,7 @@ const PLACED: &[u8] = b"5k2/5P2/4K3/8/8/8/8/8 w - - 0 1 draw loss 14
 4k3/8/4KP2/8/8/8/8/8 w - - 0 1 draw loss 16
 ";
 
-/// Of images the first with men on the squares is listed; none, where no image has them.
+/// Of the images the first with men on the squares is listed; nothing if no image has them.
 #[test]
 fn images_are_listed(rt: HostRuntime) {
     let alloc = rt.alloc();
@@ -197,7 +197,7 @@ fn images_are_listed(rt: HostRuntime) {
     assert!(rt; found == Ok(2) && out.taken.as_slice() == PLACED);
 }
 
-/// By an independent program: of the three underpromotions of KPK none captures or gives check.
+/// By an independent program: none of the three underpromotions of KPK captures or gives check.
 #[test]
 fn keys_are_let_through(rt: HostRuntime) {
     let alloc = rt.alloc();

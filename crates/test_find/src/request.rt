@@ -7,7 +7,7 @@ use study_listing::{Filters, Placed, Request, Selection, Unread, read_request};
 use study_material::Class;
 use study_search::{Outcome, Search, Theme};
 
-/// The request of the words of a line, behind a class.
+/// The request that the words of a line spell, after a class.
 fn read(rt: &impl Abort, alloc: Global, class: Class, line: &str) -> Result<Request, Unread> {
     let mut words = Vec::new(alloc);
     for word in line.split_ascii_whitespace() {
@@ -89,7 +89,7 @@ zugzwang no-check red
 zugzwang no-capture
 zugzwang white no-check";
 
-/// The theme is refused before what stands behind it, and there the first word that is not known.
+/// A refusal for the theme comes before one for the words after it, and among these the first unknown word is refused.
 #[test]
 fn words_are_refused(rt: HostRuntime) {
     let alloc = rt.alloc();

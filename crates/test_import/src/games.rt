@@ -1,4 +1,4 @@
-//! Imports of texts. What each comes to was written down by hand, by the rules of docs/IMPORT.md.
+//! Imports of texts. The expected scripts were written by hand, by the rules of docs/IMPORT.md.
 
 use linked_list_allocator::LocalHeap;
 use std::alloc::{AllocError, Allocator};
@@ -12,7 +12,7 @@ use study_import::{
 use study_marks::{Goal, Stipulation};
 use study_text::Text;
 
-/// Two games: a variation, a move that is there already, a tag in Latin 1; and one that breaks off.
+/// Two games: a variation, a repeated move, a tag in Latin 1; and one that breaks off.
 const TWO: &[u8] = b"[Event \"A \"first\" one\"]
 [White \"R\xe9ti\"]
 [FEN \"8/8/8/4k3/8/4K3/4P3/8 w - - 0 1\"]
@@ -60,7 +60,7 @@ fn check<A: Allocator>(
     Ok(script.as_slice() == wanted)
 }
 
-/// Each game comes to its block, or to the line of its first fault.
+/// Each game leads to its block, or to the line of its first fault.
 #[test]
 fn games_come_to_their_blocks(rt: HostRuntime) -> Result<(), Fail> {
     let alloc = rt.alloc();
@@ -69,7 +69,7 @@ fn games_come_to_their_blocks(rt: HostRuntime) -> Result<(), Fail> {
     Ok(())
 }
 
-/// A file that comes in byte by byte comes to the same script; a game is written when the next one begins, and all are counted.
+/// A file read byte by byte leads to the same script; a game is written when the next one begins, and all are counted.
 #[test]
 fn a_file_may_come_in_byte_by_byte(rt: HostRuntime) -> Result<(), Fail> {
     let alloc = rt.alloc();
@@ -91,7 +91,7 @@ fn a_file_may_come_in_byte_by_byte(rt: HostRuntime) -> Result<(), Fail> {
     Ok(())
 }
 
-/// Games with other numbers than those that are chosen are counted, and not written.
+/// Games that are not chosen are counted, and not written.
 #[test]
 fn games_may_be_chosen(rt: HostRuntime) -> Result<(), Fail> {
     let alloc = rt.alloc();
@@ -129,7 +129,7 @@ fn laws_are_called(_rt: HostRuntime) -> Result<(), Fail> {
     Ok(())
 }
 
-/// A game that says no stipulation takes the caller's.
+/// A game that states no stipulation has the caller's.
 #[test]
 fn the_stipulation_may_be_given(rt: HostRuntime) -> Result<(), Fail> {
     let alloc = rt.alloc();
@@ -157,7 +157,7 @@ pgn
     Ok(())
 }
 
-/// Wherever memory ends, an import ends with it, and never answers another script.
+/// Whenever memory is refused, the import ends, and never returns another script.
 #[test]
 fn each_growth_may_be_refused(rt: HostRuntime) -> Result<(), Fail> {
     let mut refused = 0usize;

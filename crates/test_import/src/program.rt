@@ -1,4 +1,4 @@
-//! The program's command line, its exit status, and what it writes where it stops.
+//! The program's command line, its exit status, and its output when it stops.
 
 use linked_list_allocator::LocalHeap;
 use std::test::Fail;
@@ -70,7 +70,7 @@ fn check_ends(
     }
 }
 
-/// Two texts, one behind the other, and a last line.
+/// Two texts, one after the other, and a last line.
 fn joined(rt: &HostRuntime, parts: &[&[u8]]) -> Result<Vec<u8>, Fail> {
     let mut text = Vec::new(rt.alloc());
     for part in parts {
@@ -79,7 +79,7 @@ fn joined(rt: &HostRuntime, parts: &[&[u8]]) -> Result<Vec<u8>, Fail> {
     Ok(text)
 }
 
-/// The exit status says whether each game that was taken has its block.
+/// The exit status shows whether each game that was used has its block.
 #[test]
 fn games_are_chosen_and_counted(rt: HostRuntime) -> Result<(), Fail> {
     let both = joined(&rt, &[BLOCK, FAULT, b"# games 2, studies 1\n"])?;
@@ -116,7 +116,7 @@ fn a_reader_that_fails_ends_the_run(rt: HostRuntime) -> Result<(), Fail> {
     check_stops(&rt, 130, BLOCK)
 }
 
-/// Wherever a read fails, the run ends with it: the blocks before stay written, and no other script is.
+/// Whenever a read fails, the run ends: the blocks before stay written, and nothing else.
 #[test]
 fn each_read_may_fail(rt: HostRuntime) -> Result<(), Fail> {
     for after in 0..GAMES.len() {
@@ -126,7 +126,7 @@ fn each_read_may_fail(rt: HostRuntime) -> Result<(), Fail> {
     Ok(())
 }
 
-/// Wherever a write fails, what is written is a front of the script, and the exit status says so.
+/// Whenever a write fails, a prefix of the script is written, and the exit status shows it.
 #[test]
 fn each_write_may_fail(rt: HostRuntime) -> Result<(), Fail> {
     let alloc = rt.alloc();
@@ -149,7 +149,7 @@ fn each_write_may_fail(rt: HostRuntime) -> Result<(), Fail> {
     Ok(())
 }
 
-/// Wherever memory ends, the run ends with it: what is written is a front of the script, and the exit status says so.
+/// Whenever memory is refused, the run ends: a prefix of the script is written, and the exit status shows it.
 #[test]
 fn each_growth_of_a_run_may_be_refused(rt: HostRuntime) -> Result<(), Fail> {
     let alloc = rt.alloc();
@@ -181,7 +181,7 @@ fn each_growth_of_a_run_may_be_refused(rt: HostRuntime) -> Result<(), Fail> {
     Ok(())
 }
 
-/// Runs the program over a reader that fails after some bytes; compares what is written by then.
+/// Runs the program over a reader that fails after some bytes; compares the output so far.
 fn check_stops(rt: &HostRuntime, after: usize, wanted: &[u8]) -> Result<(), Fail> {
     let mut games = MemoryReader::failing_after(GAMES, after);
     let told = b"studyimport: ReadDevice\n";

@@ -1,11 +1,11 @@
-//! Tails of games. What each comes to was written down by hand, by the rules of docs/IMPORT.md.
+//! Tails of games. The expected scripts were written by hand, by the rules of docs/IMPORT.md.
 
 use std::test::Fail;
 use study_import::{Choice, Importer, import};
 use study_text::Text;
 
-/// A tail with variations around its position, one whose mate is counted from the game's start, one with a fault behind lines that are
-/// skipped, and a game whose main line names no position.
+/// A tail with variations around its position, one whose mate is counted from the game's start, one with a fault after skipped lines, and a game
+/// whose main line states no position.
 const GAMES: &[u8] = b"[Event \"five\"]
 [FEN \"7K/8/k1P5/6r1/8/7B/8/8 w - - 0 1\"]
 [Result \"1/2-1/2\"]
@@ -83,7 +83,7 @@ const LEFT_OUT: &[u8] = b"# game 1, line 1: left out: 5 men
 # games 4, studies 0
 ";
 
-/// A game with more than four men comes to its tail with `tails`, and is left out without.
+/// A game with more than four men leads to its tail with `tails`, and is left out without.
 #[test]
 fn games_come_to_their_tails(rt: HostRuntime) -> Result<(), Fail> {
     let alloc = rt.alloc();

@@ -1,4 +1,4 @@
-//! A class whose table is another builder's, and one each of whose numbers is read.
+//! A class whose table is compared with another builder's, and a class each of whose numbers is read.
 use sha2::{Digest, Sha256};
 use std::alloc::Allocator;
 use std::process::Abort;
@@ -63,7 +63,7 @@ fn rook_against_knight_is_that_of_another_builder(rt: HostRuntime) {
     assert!(rt; table.class() == Class::KRKN && is_digest(table.cells(), ROOK_AGAINST_KNIGHT));
 }
 
-/// How many numbers of KPKP are decoded as positions with an en passant square, and how many of these have another index.
+/// The numbers of KPKP that are decoded as positions with an en passant square, and how many of these have another index.
 fn en_passant_positions() -> (u32, u32) {
     let (mut found, mut others) = (0u32, 0u32);
     for n in 16_777_216..33_554_432u32 {

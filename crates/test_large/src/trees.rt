@@ -5,7 +5,7 @@ use std::test::Fail;
 use study_script::{MemoryStore, Settings, Summary, run};
 use study_text::{MemoryReader, MemoryWriter};
 
-/// The moves of the kings as they go to and fro, eight each time; the first of them goes on.
+/// The moves of the kings to and fro, eight each time; the first of them continues.
 const MOVES: [[&str; 8]; 4] = [
     ["Ke3", "Kc2", "Kd2", "Ke2", "Kc3", "Kc4", "Kd4", "Ke4"],
     ["Ke6", "Kc5", "Kd5", "Ke5", "Kc6", "Kc7", "Kd7", "Ke7"],
@@ -13,7 +13,7 @@ const MOVES: [[&str; 8]; 4] = [
     ["Kd6", "Kd5", "Ke5", "Kf5", "Kf6", "Kd7", "Ke7", "Kf7"],
 ];
 
-/// Adds `insert PATH SAN`: PATH is the node so far down, by first children from the node at a path.
+/// Adds `insert PATH SAN`: PATH is the node at this depth, by first children from the node at a path.
 fn put_insert<A: Allocator>(
     rt: &impl Abort,
     text: &mut Vec<u8, &A>,
@@ -51,7 +51,7 @@ fn put<A: Allocator>(rt: &impl Abort, text: &mut Vec<u8, &A>, more: &str) {
     assert!(rt; text.extend_from_slice(more.as_bytes()).is_ok());
 }
 
-/// All moves of the kings below the nodes from a path on, so many deep, up to so many moves. Answers how many.
+/// All moves of the kings below the nodes from a path on, to this depth, up to so many moves. Returns their number.
 fn put_comb<A: Allocator>(
     rt: &impl Abort,
     text: &mut Vec<u8, &A>,
@@ -83,12 +83,12 @@ const FULL: &str = "insert 3 Ke6\ninsert root Kc2\ndelete 3\ninsert root Ke2\nin
 const FULL_REPLIES: &str =
     "error TreeFull\nerror AlreadyThere 1\ndelete 3\ninsert 7 Ke2\nerror TreeFull\n";
 
-/// A store without files, and without writers for those that are saved.
+/// A store without files, and without writers for saved files.
 fn no_files<'f, 'a, A: Allocator>(_alloc: &'a A) -> MemoryStore<'f, 'a, 'a, A> {
     MemoryStore::new(&[])
 }
 
-/// A tree of 4,096 nodes; one more is refused, until one is taken out.
+/// A tree of 4,096 nodes; one more is refused, until one is deleted.
 #[test]
 fn a_tree_has_at_most_4096_nodes(rt: HostRuntime) -> Result<(), Fail> {
     let alloc = rt.alloc();

@@ -45,7 +45,7 @@ enum List {
     Alternatives,
     Drawing,
     Holding,
-    /// The moves that the tree has not.
+    /// The moves that are not in the tree.
     Missing,
     Refutations,
 }
@@ -79,11 +79,11 @@ fn list_of<'a, V: Values>(
     (place.position, list.ok().expect(rt, "values"))
 }
 
-/// Of a mate in so many moves the list at a node: its moves, each with the value after it.
+/// The list at a node for a mate in so many moves: its moves, each with the value after it.
 type Row = (u8, &'static [u16], List, &'static [(&'static str, Value)]);
 
-/// Refutations of a slow move, of a rook left to be taken, and of a stalemate; the moves that keep a draw; the alternatives of
-/// two duals; the one move in time, and the answers to a slow move that the tree has not.
+/// Refutations of a slow move, of a rook left en prise, and of a stalemate; the moves that keep a draw; the alternatives of two duals; the one move
+/// in time, and the answers to a slow move that are not in the tree.
 const ROWS: [Row; 9] = [
     (
         3,
@@ -147,7 +147,7 @@ fn lists_of_moves_are_those_of_an_independent_program(rt: HostRuntime) {
     }
 }
 
-/// The one defence to the waiting move, with its one answer, and the nodes of the solution.
+/// The only defence to the waiting move, with its only answer, and the nodes of the solution.
 #[test]
 fn the_defence_has_one_answer_in_the_solution(rt: HostRuntime) {
     let alloc = rt.alloc();
@@ -193,7 +193,7 @@ fn best_play_goes_on_to_the_mate(rt: HostRuntime) {
     }
 }
 
-/// Two duals of a win with a queen: of 21 alternatives none loses time, of 27 the queen's way back alone, within 0.
+/// Two duals of a win with a queen: of 21 alternatives none loses time, of 27 only the queen's way back, within 0.
 #[test]
 fn one_alternative_of_a_win_loses_time(rt: HostRuntime) {
     let alloc = rt.alloc();

@@ -24,7 +24,7 @@ enum Call {
 
 const CALLS: [Call; 3] = [Call::TimedAlternatives, Call::BestPlay, Call::Defences];
 
-/// The fault of a call at a root with a queen, or at the node after her check.
+/// The fault of a call at a root with a queen, or at the node after its check.
 fn fault_of<V: Values>(rt: &impl Abort, call: Call, values: &mut V) -> Option<ProbeFault> {
     let position = position_of(rt, "8/8/8/8/8/2k5/8/K6Q w - - 0 1");
     let check = read_san(&position, "Qh3+").ok().expect(rt, "a move");
@@ -67,7 +67,7 @@ fn each_question_of_a_call_fails_in_turn(rt: HostRuntime) {
     assert!(rt; values.failures() == 120);
 }
 
-/// A class that is not held is named, and no failure is counted.
+/// A class without a table is named, and no failure is counted.
 #[test]
 fn a_missing_table_is_told_by_its_name(rt: HostRuntime) {
     let alloc = rt.alloc();

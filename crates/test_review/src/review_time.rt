@@ -1,4 +1,4 @@
-//! Alternatives that lose time along best play: how many, counted by another program from values alone.
+//! Alternatives that lose time along best play: their number, counted by another program from values alone.
 use crate::studies::{position_of, tables_of};
 use std::alloc::Global;
 use std::process::Abort;
@@ -9,7 +9,7 @@ use study_moves::{is_legal, played};
 use study_review::{Continuation, Node, alternatives, best_move, is_back, time_lost};
 use study_values::Values;
 
-/// How many alternatives a best move has, and of how many the position is back within 0, within 1 and within 2.
+/// The number of alternatives of a best move, and the numbers of those after which the position is back within 0, within 1 and within 2.
 type Counts = (usize, [usize; 3]);
 
 /// The best move, and the value after it.

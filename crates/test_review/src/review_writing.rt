@@ -1,4 +1,4 @@
-//! The way of a review to its writer: empty trees, a mate, want of memory, values that fail, devices that fail.
+//! Writing a review: empty trees, a mate, want of memory, values that fail, devices that fail.
 use crate::studies::{Moves, study, tables_of, white};
 use linked_list_allocator::LocalHeap;
 use std::alloc::Global;
@@ -11,7 +11,7 @@ use study_review::{ReviewFault, write_review};
 use study_text::{MemoryWriter, WhenFull};
 use study_values::{ProbeFault, SourceFault, Values};
 
-/// By hand: Rh8 is the one mate, and nothing was inserted.
+/// By hand: Rh8 is the only mate, and nothing was inserted.
 const EMPTY: &[u8] = b"study 7 k7/8/1K6/8/8/8/8/7R w - - 0 1
 stipulation White to win: sound, White mates in 1
 empty
@@ -94,7 +94,7 @@ fn nothing_is_written_where_a_value_is_not_told(rt: HostRuntime) -> Result<(), F
     Err(Fail::from("more is asked than one position has moves"))
 }
 
-/// A device that is full at each place in turn, whatever it answers then, has the beginning of the review.
+/// A device that is full at each place in turn, whatever it returns then, has a prefix of the review.
 #[test]
 fn a_full_writer_has_the_beginning_of_the_review(rt: HostRuntime) {
     let alloc = rt.alloc();

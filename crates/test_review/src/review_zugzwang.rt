@@ -1,5 +1,5 @@
-//! Mutual zugzwangs and faults that lose time alone, with king and pawn: by an independent program's list of all mutual zugzwangs, and by
-//! another one's search for moves after which the opponent forces a position of the line.
+//! Mutual zugzwangs, and mistakes that only lose time, with king and pawn: by an independent program's list of all mutual zugzwangs, and by another
+//! one's search for moves after which the opponent forces a position of the line.
 use crate::studies::{Moves, position_of, study, tables_of, white};
 use std::alloc::Global;
 use std::process::Abort;
@@ -22,8 +22,8 @@ fn tables<'a>(rt: &impl Abort, alloc: &'a Global) -> WholeTables<'a, Global> {
     tables_of(rt, alloc, &classes)
 }
 
-/// Positions, and what mutual zugzwang each is: the first of the list with either side to move, its mirror image, the same with colours
-/// exchanged, the black king on the next square, a check, and two kings alone.
+/// Positions, and the kind of mutual zugzwang each is: the first of the list with either side to move, its mirror image, the same with colours
+/// exchanged, the black king on the next square, a check, and two bare kings.
 const ROWS: [(&str, Option<Zugzwang>); 8] = [
     (
         "8/8/8/k7/8/K7/1P6/8 w - - 0 1",
@@ -84,7 +84,7 @@ const LOST_TIME: &[(&str, Moves, &[u8])] = &[(
     b"dual 1 time 1\nwaste sound but for loss of time\nmissing ",
 )];
 
-/// The line comes right behind the faults.
+/// The line comes right after the faults.
 #[test]
 fn loss_of_time_has_a_line_of_its_own(rt: HostRuntime) {
     let alloc = rt.alloc();

@@ -1,4 +1,4 @@
-//! Studies over built tables, and the nodes that a review speaks of.
+//! Studies over built tables, and nodes for a review.
 ghost use Rattle.std.specs.Prelude.{◌≡◌};
 
 use std::alloc::Allocator;
@@ -15,7 +15,7 @@ use study_table::TableSet;
 use study_tree::Path;
 use study_values::{Values, cells};
 
-/// The values of the tables of these classes, each of which needs none but those before it.
+/// The values of the tables of these classes, each of which needs only those before it.
 pub(crate) fn tables_of<'a, A: Allocator>(
     rt: &impl Abort,
     alloc: &'a A,
@@ -47,7 +47,7 @@ pub(crate) fn white(rt: &impl Abort, moves: Option<u8>) -> Stipulation {
     }
 }
 
-/// The moves of a study, each put last below the node at a path.
+/// The moves of a study, each inserted last below the node at a path.
 pub(crate) type Moves = &'static [(&'static [u16], &'static str)];
 
 /// A study with these moves.

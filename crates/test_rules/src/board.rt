@@ -1,12 +1,11 @@
-//! What no clause says: that the definitions are chess's, by positions from outside.
+//! Tests of what no clause states: that the definitions are those of chess, by positions from outside.
 use crate::men::{man, position, side, sound, square};
 use crate::rows::field;
 use std::process::Abort;
 use study_board::Side::{Black, White};
 use study_board::{Position, PositionFault, Square, Symmetry};
 
-/// Men on squares, the side to move, the passed square, and the one fault of them; a man is behind the last row's passed
-/// square.
+/// Men on squares, the side to move, the passed square, and the fault; in the last row a man is behind the passed square.
 const FAULTS: &str = "\
 K0 k63 R9 R18 N27,w,-,TooManyMen
 K0 k63 R9 B9,w,-,SquareTwice
@@ -48,7 +47,7 @@ fn name(fault: PositionFault) -> &'static str {
     }
 }
 
-/// That the position of each row has the fault that its last field names.
+/// The position of each row has the fault in its last field.
 fn expect_faults(rt: &impl Abort, rows: &str) {
     for row in rows.lines() {
         match position(rt, row) {
@@ -97,7 +96,7 @@ fn sound_positions_are_accepted(rt: HostRuntime) {
     assert!(rt; sound(&rt, "K0 k63,w,-") == Position::default());
 }
 
-/// The squares that each side attacks where White has Ke1 and Rd2, which is pinned by the bishop on a5, and Black Kh8.
+/// The squares that each side attacks if White has Ke1 and Rd2, which is pinned by the bishop on a5, and Black Kh8.
 const WHITE_ATTACKS: &str = "3 5 8 9 10 11 12 13 14 15 19 27 35 43 51 59";
 
 const BLACK_ATTACKS: &str = "11 18 25 41 50 54 55 59 62";
@@ -138,7 +137,7 @@ fn symmetry(letters: &str) -> Symmetry {
     }
 }
 
-/// That the position has the image of each row under the symmetry of the row's last field.
+/// The position has the image of each row under the symmetry in the row's last field.
 fn expect_images(rt: &impl Abort, p: &Position, rows: &str) {
     for row in rows.lines() {
         let s = symmetry(field(row, 3));
@@ -166,7 +165,7 @@ k13 K7 r56,b,-,fdc
 k50 K56 r7,b,-,rdc
 k10 K0 r63,b,-,frdc";
 
-/// The images of White's Kb6 and Rh1 against the king on a8, White to move, made apart from this program.
+/// The images of White's Kb6 and Rh1 against the king on a8, White to move, made independently of this program.
 #[test]
 fn a_position_without_pawns_has_sixteen_images(rt: HostRuntime) {
     let p = sound(&rt, "K41 k56 R7,w,-");
@@ -179,7 +178,7 @@ k31 P28 p27 K3,b,20,f
 K32 p35 P36 k60,w,43,c
 K39 p36 P35 k59,w,44,fc";
 
-/// With pawns the file mirror and the swap of colours are left, and the passed square goes along.
+/// With pawns only the file mirror and the swap of colours are left, and the passed square moves along.
 #[test]
 fn a_position_with_pawns_has_four_images(rt: HostRuntime) {
     let p = sound(&rt, "k24 P27 p28 K4,b,19");

@@ -56,7 +56,7 @@ fn has_number(p: &Position, text: &str) -> bool {
     number(text) == Some(index(p))
 }
 
-/// How many rows there are; each is right.
+/// The number of rows, each of which is right.
 fn right_rows(rt: &impl Abort, rows: &str) -> u32 {
     let mut right = 0u32;
     for row in rows.lines() {
@@ -71,7 +71,7 @@ fn numbers_are_those_of_another_program(rt: HostRuntime) {
     assert!(rt; right_rows(&rt, SAMPLES) == 250);
 }
 
-/// Whether the number is that of no position.
+/// Whether the number encodes no position.
 fn is_of_none(class: Class, number: u32) -> bool {
     decode(class, number).is_none()
 }
@@ -136,7 +136,7 @@ fn each_class_has_its_number_of_cells(rt: HostRuntime) {
     }
 }
 
-/// Whether the class of the name has so many cells.
+/// Whether the class of the name has this number of cells.
 fn has_cells(name: &str, text: &str) -> bool {
     match Class::parse(name) {
         Ok(class) => number(text) == Some(cells(class)),
@@ -144,7 +144,7 @@ fn has_cells(name: &str, text: &str) -> bool {
     }
 }
 
-/// How many numbers of the class are decoded as positions, and how many of these have another index.
+/// The numbers of the class that are decoded as positions, and how many of these have another index.
 fn counted(class: Class) -> (u32, u32) {
     let (mut found, mut others) = (0u32, 0u32);
     for n in 0..cells(class) {

@@ -7,8 +7,8 @@ use study_index::{Departure, RowDeparture, row_of_last};
 use study_material::Class;
 use study_values::cells;
 
-/// Classes, numbers, the square from which a man goes, those to which it goes, and the numbers after that, by another
-/// program. The white king goes or stands on the diagonal; like men pass one another; or a square is replaced.
+/// Classes, numbers, the square a man leaves, the squares it moves to, and the numbers after that, by another program. The white king moves, or is on
+/// the diagonal; like men pass one another; or a square is replaced.
 const DEPARTURES: &str = "\
 KRK,20543,63,55 61,61495 61501
 KRK,20543,10,17 18 9,61503 69695 57407
@@ -23,9 +23,8 @@ KQKP,9422001,49,41 33,1033385 1033377
 KPKP,258678,9,17,8647798
 KK,658,18,26 27,19 27";
 
-/// Classes, numbers, the square from which a man goes, those to which it goes, its slot, and the rows of the numbers after
-/// that, a 64th of them: none where the white king is on the diagonal or comes to it or to a square that is not listed, where
-/// two men are like, and where the man is the last.
+/// Classes, numbers, the square a man leaves, the squares it moves to, its slot, and the rows of the numbers after that, a 64th of them: `-` if the
+/// white king is on the diagonal or comes to it or to a square that is not listed, if two men are like, and if the man is the last.
 const ROWS: &str = "\
 KRKN,1174028,9,0 1,0,- 47016
 KPK,85536,40,41 42,0,3448 3512
@@ -38,8 +37,7 @@ KQQK,377064,40,0,3,-
 KPPK,778964,11,19 27,2,- -
 KK,658,18,26 27,1,- -";
 
-/// Classes, numbers, and the rows of the numbers after the last man has moved: none where the white king is on the diagonal
-/// or two men are like.
+/// Classes, numbers, and the rows of the numbers after the last man has moved: `-` if the white king is on the diagonal or two men are like.
 const ROWS_OF_LAST: &str = "\
 KRK,20543,960
 KQKP,9422001,16146
@@ -47,7 +45,7 @@ KRKN,1174028,-
 KQQK,377064,-
 KNNK,1995368,-";
 
-/// That the man leads to each number of the row, whatever slot it is said to fill, and alone or among a row of numbers.
+/// The man leads to each number of the row, whatever slot is given for it, alone or among a row of numbers.
 fn expect_numbers(rt: &impl Abort, row: &str) {
     let class = Class::parse(field(row, 0)).ok().expect(rt, row);
     let start = number(field(row, 1)).expect(rt, row);
@@ -61,7 +59,7 @@ fn expect_numbers(rt: &impl Abort, row: &str) {
     }
 }
 
-/// That the departure by the numbers of a row leads from the one to each number of the text.
+/// The departure by the numbers of a row leads from the number to each number of the text.
 fn expect_numbers_in_row(rt: &impl Abort, row: &str, departure: &RowDeparture, start: u32) {
     let last = Square::new((start % 64) as u8).expect(rt, row);
     let mut wants = field(row, 4).split(' ');
@@ -75,7 +73,7 @@ fn expect_numbers_in_row(rt: &impl Abort, row: &str, departure: &RowDeparture, s
     }
 }
 
-/// That the departure leads to each number of the row.
+/// The departure leads to each number of the row.
 fn expect_numbers_by(rt: &impl Abort, row: &str, departure: &Departure) {
     let mut wants = field(row, 4).split(' ');
     for word in field(row, 3).split(' ') {
@@ -93,7 +91,7 @@ fn a_man_leads_to_a_number_for_each_square(rt: HostRuntime) {
     }
 }
 
-/// That the man of the slot leads to each row, and that of another to none.
+/// The man of the slot leads to each row, and that of another slot to none.
 fn expect_rows(rt: &impl Abort, row: &str) {
     let class = Class::parse(field(row, 0)).ok().expect(rt, row);
     let start = number(field(row, 1)).expect(rt, row);
@@ -111,7 +109,7 @@ fn expect_rows(rt: &impl Abort, row: &str) {
     }
 }
 
-/// That the departure leads to each row, if the slot is the man's.
+/// The departure leads to each row, if the slot is the man's.
 fn expect_rows_by(rt: &impl Abort, row: &str, departure: Option<RowDeparture>, filled: bool) {
     let mut wants = field(row, 5).split(' ');
     for word in field(row, 3).split(' ') {
@@ -130,7 +128,7 @@ fn a_man_leads_to_a_row_for_each_square(rt: HostRuntime) {
     }
 }
 
-/// That the last man leads to the row.
+/// The last man leads to the row.
 fn expect_row_of_last(rt: &impl Abort, row: &str) {
     let class = Class::parse(field(row, 0)).ok().expect(rt, row);
     let start = number(field(row, 1)).expect(rt, row);

@@ -49,7 +49,7 @@ fn numbers_tell_their_men(rt: HostRuntime) {
 }
 
 /// Classes, numbers, slots, the squares to which their men go, and the numbers after that, by another program.
-/// White's king goes over the middle and over the diagonal, or stands on the diagonal; like men pass one another.
+/// White's king crosses the middle and the diagonal, or is on the diagonal; like men pass one another.
 const STEPPED: &str = "\
 KRK,20543,2,55,61495
 KRK,20543,2,61,61501

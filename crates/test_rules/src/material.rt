@@ -15,7 +15,7 @@ fn class(rt: &impl Abort, name: &str) -> Class {
     }
 }
 
-/// Whether no class has the name.
+/// Whether there is no class with the name.
 fn is_refused(name: &str) -> bool {
     match Class::parse(name) {
         Err(ClassFault::NotAClass) => true,
@@ -23,7 +23,7 @@ fn is_refused(name: &str) -> bool {
     }
 }
 
-/// Whether the class is written so, and is no class that is left out.
+/// Whether the class is written as this name, and is not one of the excluded classes.
 fn has_name(class: Class, name: &str) -> bool {
     class.name() == name && !class.left_out()
 }
@@ -63,14 +63,14 @@ fn order_length(class: Class) -> usize {
     order(class).len()
 }
 
-/// Classes with what they need.
+/// Classes, each with the classes that it needs.
 const NEEDS: &str = "\
 KK,
 KPK,KK KQK KRK KBK KNK
 KQKP,KQK KRK KBK KNK KPK KQKQ KQKR KQKB KQKN
 KPKP,KPK KQKP KRKP KBKP KNKP";
 
-/// Classes with their orders.
+/// Classes with their order.
 const ORDERS: &str = "\
 KK,KK
 KPK,KK KQK KRK KBK KNK KPK";

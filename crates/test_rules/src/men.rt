@@ -1,10 +1,10 @@
-//! Men and positions as the tests write them.
+//! Men and positions in the tests' notation.
 use crate::rows::field;
 use arrayvec::ArrayVec;
 use std::process::Abort;
 use study_board::{Kind, Man, Position, PositionFault, Side, Square};
 
-/// The kind of man that a FEN letter stands for.
+/// The kind of man for a FEN letter.
 fn kind(letter: u8) -> Option<Kind> {
     match letter {
         b'K' | b'k' => Some(Kind::King),
@@ -17,7 +17,7 @@ fn kind(letter: u8) -> Option<Kind> {
     }
 }
 
-/// The man that a FEN letter stands for, on a square.
+/// The man for a FEN letter, on a square.
 pub(crate) fn man_at(letter: u8, at: Square) -> Option<Man> {
     let kind = kind(letter)?;
     let side = if letter.is_ascii_uppercase() {
@@ -37,7 +37,7 @@ pub(crate) fn side(text: &str) -> Side {
     }
 }
 
-/// The square with this number; any other text is for none.
+/// The square with this number; `None` for any other text.
 pub(crate) fn square(text: &str) -> Option<Square> {
     match text.parse::<u8>() {
         Ok(number) => Square::new(number),

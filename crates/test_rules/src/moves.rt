@@ -1,4 +1,4 @@
-//! Worked positions: that the definitions are chess's.
+//! Worked positions: tests that the definitions are those of chess.
 use crate::men::{sound, square};
 use crate::rows::field;
 use std::process::Abort;
@@ -37,8 +37,8 @@ fn is_before(p: &Position, m: Move, list: &[Position]) -> bool {
     false
 }
 
-/// That the last quiet moves to the position of the row came from the squares to the squares of its last field, in this
-/// order, that each can be played again from the position before it, and that `earlier` gives these positions.
+/// The last quiet moves to the position of the row came from and went to the squares of its last field, in this order, each can be played again from
+/// the position before it, and `earlier` returns these positions.
 fn expect_unmoves(rt: &impl Abort, row: &str) {
     let q = sound(rt, row);
     let before = earlier(&q);
@@ -53,11 +53,10 @@ fn expect_unmoves(rt: &impl Abort, row: &str) {
     assert!(rt; before.len() == list.len(), "{row}");
 }
 
-/// Men on squares, the side to move, no passed square, and the squares that the last quiet moves went between.
-/// In the first row the rook came not from a1 or h8, where it gave check, and the king not from a7 or b7.
-/// Then a pawn came one or two squares ahead; in the next three not over a man, not from its first rank, and not on to
-/// its starting rank.
-/// In the last the rook came not along its line to the king, the bishop from where it stood between the two.
+/// Men on squares, the side to move, no passed square, and the squares that the last quiet moves went between. In the first row the rook did not come
+/// from a1 or h8, where it gave check, nor the king from a7 or b7. Then a pawn advanced one or two squares; in the next three not over a man, not
+/// from its first rank, and not onto its starting rank. In the last the rook did not come along its line to the king, the bishop from its square
+/// between the two.
 const LAST_MOVES: &str = "\
 K41 k56 R7,b,-,1-7 2-7 3-7 4-7 5-7 6-7 15-7 23-7 31-7 39-7 47-7 55-7 32-41 33-41 34-41 40-41 42-41 50-41
 K0 k2 P28,b,-,8-0 12-28 20-28

@@ -6,7 +6,7 @@ use std::process::Abort;
 use study_board::{Man, Side};
 use study_moves::{origins, safe_targets};
 
-/// The men of the row's first field, in the order in which they stand there.
+/// The men of the row's first field, in the order of that field.
 fn men(rt: &impl Abort, row: &str) -> ArrayVec<Man, 4> {
     let mut men = ArrayVec::new();
     for word in field(row, 0).split_ascii_whitespace() {
@@ -16,7 +16,7 @@ fn men(rt: &impl Abort, row: &str) -> ArrayVec<Man, 4> {
     men
 }
 
-/// How many legal moves the side to move has, where none promotes and none captures in passing.
+/// The number of legal moves of the side to move, if none promotes and none captures en passant.
 fn count_moves(men: &[Man], to_move: Side) -> u32 {
     let mut count = 0u32;
     for m in men {
@@ -27,7 +27,7 @@ fn count_moves(men: &[Man], to_move: Side) -> u32 {
     count
 }
 
-/// Men in no order of their squares, the side to move, and the number of legal moves by another program.
+/// Men in no particular order of squares, the side to move, and the number of legal moves by another program.
 const COUNTED: &str = "\
 q57 k42 K10,b,29
 Q49 k52 K6,b,6
@@ -79,7 +79,7 @@ fn came(men: &[Man], to_move: Side, word: &str) -> bool {
     }
 }
 
-/// The rows of `LAST_MOVES` in moves.rt, the men in another order.
+/// The rows of `LAST_MOVES` in moves.rt, with the men in another order.
 const CAME: &str = "\
 R7 k56 K41,b,1-7 2-7 3-7 4-7 5-7 6-7 15-7 23-7 31-7 39-7 47-7 55-7 32-41 33-41 34-41 40-41 42-41 50-41
 P28 k2 K0,b,8-0 12-28 20-28

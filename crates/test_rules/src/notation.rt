@@ -1,4 +1,4 @@
-//! Texts with what they stand for, from outside.
+//! Texts and their meaning, from outside.
 
 use crate::men::square;
 use crate::notation_moves::MOVES;
@@ -79,14 +79,14 @@ fn the_first_fault_of_a_fen_is_told(rt: HostRuntime) {
     }
 }
 
-/// FENs, and what is written of them.
+/// FENs, and the FENs written for them.
 const WRITTEN: &str = "\
 k7/8/2K5/8/8/8/8/7R w - -,k7/8/2K5/8/8/8/8/7R w - - 0 1
 k7/44/1K6/8/8/8/8/7R w - - 3 0,k7/8/1K6/8/8/8/8/7R w - - 3 1
   k7/8/1K6/8/8/8/8/7R  w -   - 0007 9999 ,k7/8/1K6/8/8/8/8/7R w - - 7 9999
 8/8/8/8/4P3/k7/8/4K3 b - e3 0 1,8/8/8/8/4P3/k7/8/4K3 b - e3 0 1";
 
-/// What a FEN says, which has no fault.
+/// The start of a FEN without a fault.
 fn start(rt: &impl Abort, fen: &str) -> Start {
     match read_fen(fen) {
         Ok(start) => start,
@@ -94,7 +94,7 @@ fn start(rt: &impl Abort, fen: &str) -> Start {
     }
 }
 
-/// Whether the start is written so.
+/// Whether the start is written as this FEN.
 fn is_fen(start: &Start, fen: &str) -> bool {
     write_fen(start).as_str() == fen
 }
@@ -126,7 +126,7 @@ fn are_written(p: &Position, moves: &str) -> bool {
     words.next().is_none()
 }
 
-/// That each line has a start as it is written, a tab and its legal moves.
+/// Each line has the FEN of a start, a tab and its legal moves.
 fn expect_moves(rt: &impl Abort, lines: &str) {
     for line in lines.lines() {
         let (fen, moves) = line.split_once('\t').expect(rt, "a tab");
@@ -143,7 +143,7 @@ fn san_of_all_legal_moves_is_that_of_another_program(rt: HostRuntime) {
 
 const KNIGHTS: &str = "7k/8/8/8/8/2N5/8/4K1N1 w - - 0 1";
 
-/// Texts, and as what they are read: the squares between which the move goes with what the pawn becomes, or the fault.
+/// Texts, and their reading: the squares between which the move goes with the promotion, or the fault.
 const OF_KNIGHTS: &str = "\
 Nce2,18 12
 Nge2,6 12
@@ -189,7 +189,7 @@ fn san_fault(fault: SanFault) -> &'static str {
     }
 }
 
-/// What the pawn becomes, as a row says it.
+/// The promotion of a row.
 fn promotion(m: &Move) -> &'static str {
     match m.promoted {
         None => "",
@@ -199,7 +199,7 @@ fn promotion(m: &Move) -> &'static str {
     }
 }
 
-/// Whether the words are the move's origin and target with what its pawn becomes.
+/// Whether the words are the move's origin, target and promotion.
 fn has_coordinates(m: &Move, words: &str) -> bool {
     let mut words = words.split_ascii_whitespace();
     square(words.next().unwrap_or("")) == Some(m.origin)
@@ -207,7 +207,7 @@ fn has_coordinates(m: &Move, words: &str) -> bool {
         && words.next().unwrap_or("") == promotion(m)
 }
 
-/// Whether the text is read as the row says.
+/// Whether the text is read as in the row.
 fn is_read(p: &Position, text: &str, want: &str) -> bool {
     match read_san(p, text) {
         Ok(m) => has_coordinates(&m, want),
@@ -215,7 +215,7 @@ fn is_read(p: &Position, text: &str, want: &str) -> bool {
     }
 }
 
-/// That the text of each row is read as the row says.
+/// The text of each row is read as in the row.
 fn expect_read(rt: &impl Abort, fen: &str, rows: &str) {
     let start = start(rt, fen);
     for row in rows.lines() {

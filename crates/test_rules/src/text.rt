@@ -8,7 +8,7 @@ use study_text::{
     DeviceFailed, MemoryReader, MemoryWriter, Text, WhenFull, next_word, space_len, write_text,
 };
 
-/// Writes three letters, and compares the answer, what was taken, and that the writer was called no more after it was full.
+/// Writes three letters, and compares the result, the letters accepted, and that the writer was not called again after it was full.
 fn put_letters<A: Allocator>(
     rt: &impl Abort,
     writer: &mut MemoryWriter<'_, A>,
@@ -32,7 +32,7 @@ fn fails_each_time<A: Allocator>(
     assert!(rt; full.errors == want.is_err() as u64 + 1, "{taken}");
 }
 
-/// A writer that is full once goes on after it failed, whether in the first three letters or in the next.
+/// A writer that is full once continues after it failed, whether in the first three letters or in the next.
 fn fails_once<A: Allocator>(
     rt: &impl Abort,
     mut recovers: MemoryWriter<'_, A>,
@@ -48,7 +48,7 @@ fn fails_once<A: Allocator>(
     assert!(rt; recovers.errors == 1, "{taken}");
 }
 
-/// Writers fail, or take nothing, where their plan says, each time or once.
+/// Writers fail, or accept nothing, as planned, each time or once.
 #[test]
 fn writers_in_memory_fail_where_they_are_told(rt: HostRuntime) {
     let alloc = rt.alloc();
@@ -69,7 +69,7 @@ fn writers_in_memory_fail_where_they_are_told(rt: HostRuntime) {
     assert!(rt; full.flush().is_ok() && full.errors == 0);
 }
 
-/// Reads to the end: how many bytes, if the reader does not fail.
+/// Reads to the end: the number of bytes, if the reader does not fail.
 fn read_on(reader: &mut MemoryReader<'_>, text: &mut Vec<u8>) -> Option<usize> {
     reader.read_to_end(text).ok()
 }
@@ -78,7 +78,7 @@ fn is_text(bytes: &[u8], text: &str) -> bool {
     bytes == text.as_bytes()
 }
 
-/// Readers fail where their plan says, each time or once.
+/// Readers fail as planned, each time or once.
 #[test]
 fn readers_in_memory_fail_where_they_are_told(rt: HostRuntime) {
     let mut text = Vec::new(rt.alloc());
@@ -125,7 +125,7 @@ fn a_text_grows_until_memory_ends(rt: HostRuntime) -> Result<(), Fail> {
     Ok(())
 }
 
-/// Words stand between spaces alone.
+/// Words are separated only by spaces.
 #[test]
 fn words_stand_between_spaces(rt: HostRuntime) {
     assert!(rt; space_len(b"  a b") == 2 && space_len(b"") == 0);

@@ -1,7 +1,6 @@
-//! Tests of scripts: replies, refusals, limits, files, and the program's options, exit statuses and folder. The tests of
-//! study_X are in X.rt and the files that begin with its name. There is nothing here but tests, since a crate with tests
-//! is proved twice; what they expect comes from outside of this program, but for replies of one run that are compared with
-//! those of another. Tests alone call these functions.
+//! Tests of scripts: replies, refusals, limits, files, and the program's options, exit statuses and folder. The tests of study_X are in X.rt and the
+//! files that begin with its name. The crate has only tests, since a crate with tests is proved twice; what they expect comes from outside of this
+//! program, except for replies of one run that are compared with those of another. Only tests call these functions.
 #![tactic(auto)]
 
 #[cfg(test)]

@@ -1,4 +1,4 @@
-//! The program's command line, its exit status, and what it writes where it stops.
+//! The program's command line, its exit status, and its output when it stops.
 
 use linked_list_allocator::LocalHeap;
 use std::alloc::{Allocator, Global};
@@ -6,7 +6,7 @@ use std::test::Fail;
 use study_program::{Options, answer_script, read_words};
 use study_text::{MemoryReader, MemoryWriter, WhenFull};
 
-/// Compares what the words of a command line come to: the options, or the exit code and how its text begins.
+/// Compares the result of the words of a command line: the options, or the exit code and the beginning of its text.
 fn check_words(
     rt: &HostRuntime,
     given: &[&str],
@@ -109,7 +109,7 @@ const REFUSED: &[u8] = b"moves root\npgn\nposition k7/8/1K6/8/8/8/8/7R w - - 0 1
 const ERRORS: &[u8] =
     b"error NoPosition\nerror NoStudy\nposition k7/8/1K6/8/8/8/8/7R w - - 0 1\nsolve plies 1\n";
 
-/// 0 where no line is refused, 1 where some line is, and nothing is reported; 3 where the writer fails, which is reported.
+/// 0 if no line is refused, 1 if some line is, and nothing is reported; 3 if the writer fails, which is reported.
 #[test]
 fn exit_statuses_follow_the_replies(rt: HostRuntime) -> Result<(), Fail> {
     let alloc = rt.alloc();

@@ -1,5 +1,5 @@
-//! Tests over the files of a real folder, a folder of its own for each: tables that one run saves and another loads, whole
-//! and by pages, files that are not the table's, and folders that are not there.
+//! Tests over the files of a real folder, each with a folder of its own: tables that one run saves and another loads, whole and by pages, files that
+//! are not the table's, and folders that do not exist.
 ghost use Rattle.std.specs.Prelude.{◌≤◌, IfSome};
 
 use crate::rows::replies_of;
@@ -11,8 +11,8 @@ use study_program::{FilePages, FolderStore};
 use study_tablefile::PageSource;
 use study_values::SourceFault;
 
-/// A rook mates in one: the commands, and their replies where the table can be read, where it is not held, and where it
-/// is read by pages and the requested one is not there.
+/// A rook mates in one: the commands, and their replies if the table can be read, if it is not loaded, and if it is read by pages and the requested
+/// page is missing.
 const STUDY: &str = "position k7/8/1K6/8/8/8/8/7R w - - 0 1\nstipulate white win\nmark root\n";
 
 const MARKED: &str =
@@ -25,7 +25,7 @@ const SHORT: &str =
 
 const LOADED: &str = "loaded KRK cells 81920\n";
 
-/// Two kings: the commands, and their replies where the table can be read, where its page is not there, and where it is not held.
+/// Two kings: the commands, and their replies if the table can be read, if its page is missing, and if it is not loaded.
 const KINGS: &str = "position k7/8/8/8/8/8/8/K7 w - - 0 1\nstipulate white draw\nmark root\n";
 
 const KINGS_MARKED: &str =
@@ -70,7 +70,7 @@ fn check(
     }
 }
 
-/// Makes a folder with files that a run saves, in place of one that a broken test left.
+/// Makes a folder with files that a run saves, in place of one left by a failed test.
 fn save(rt: &HostRuntime, folder: &str, script: &str, replies: &str) -> Result<(), Fail> {
     let _absent = fs::remove_dir_all(rt, folder);
     fs::create_dir(rt, folder)?;
@@ -87,7 +87,7 @@ fn save_kings(rt: &HostRuntime, folder: &str) -> Result<(), Fail> {
     )
 }
 
-/// What one run saves, others load, whole and by pages.
+/// One run saves files, and others load them, whole and by pages.
 #[test]
 fn what_one_run_saves_others_load(rt: HostRuntime) -> Result<(), Fail> {
     save_kings(&rt, "saved")?;
@@ -138,7 +138,7 @@ fn what_one_run_saves_others_load(rt: HostRuntime) -> Result<(), Fail> {
     Ok(fs::remove_dir_all(&rt, "saved")?)
 }
 
-/// The file of KRK is cut after so many bytes: what a study is answered by pages.
+/// The file of KRK is cut after so many bytes: the replies of a study by pages.
 fn check_cut(rt: &HostRuntime, len: usize, study: &str) -> Result<(), Fail> {
     let mut text = fs::read(rt, "saved/KRK.dtm")?;
     text.truncate(len);
@@ -152,7 +152,7 @@ fn check_cut(rt: &HostRuntime, len: usize, study: &str) -> Result<(), Fail> {
     )
 }
 
-/// The file ends too early, or too late: what `load` answers, whole and by pages, and what a study is answered then.
+/// The file ends too early, or too late: the reply to `load`, whole and by pages, and the replies of a study then.
 #[test]
 fn a_file_of_another_length_is_told(rt: HostRuntime) -> Result<(), Fail> {
     save_kings(&rt, "cut")?;
@@ -182,7 +182,7 @@ fn a_file_of_another_length_is_told(rt: HostRuntime) -> Result<(), Fail> {
     Ok(fs::remove_dir_all(&rt, "cut")?)
 }
 
-/// What `load` answers of KRK, whole and by pages; a study of that class is answered `NoTable` then.
+/// The reply to `load` for KRK, whole and by pages; the reply for a study of that class is `NoTable` then.
 fn check_load(rt: &HostRuntime, whole: &str, paged: &str) -> Result<(), Fail> {
     check(
         rt,
@@ -213,7 +213,7 @@ fn a_file_that_is_not_there_is_told(rt: HostRuntime) -> Result<(), Fail> {
     Ok(fs::remove_dir_all(&rt, "none")?)
 }
 
-/// The folder is not there, or is a file: nothing is loaded or saved, and the session goes on.
+/// The folder does not exist, or is a file: nothing is loaded or saved, and the session continues.
 #[test]
 fn a_folder_that_is_not_there_is_told(rt: HostRuntime) -> Result<(), Fail> {
     let script = ["load KK\nbuild KK\nsave KK\nverify KK\n"];
@@ -226,7 +226,7 @@ fn a_folder_that_is_not_there_is_told(rt: HostRuntime) -> Result<(), Fail> {
     Ok(fs::remove_file(&rt, "plain")?)
 }
 
-/// A file whose first read is interrupted, and which gives bytes from then on, one at a time.
+/// A file whose first read is interrupted, and which then delivers bytes one at a time.
 #[derive(Drop)]
 struct InterruptedOnce {
     reads: u64,

@@ -11,11 +11,11 @@ use study_tablefile::write_table;
 use study_text::{MemoryReader, MemoryWriter};
 use study_values::cells;
 
-/// Lines of a script, each with ` -> ` and its reply after it, or ` ->` where it has none. A row without an arrow is one more
-/// line of the reply above it.
+/// Lines of a script, each followed by ` -> ` and its reply, or by ` ->` if it has none. A row without an arrow is one more line of the reply above
+/// it.
 pub(crate) type Rows<'r> = &'r str;
 
-/// What a run writes, and what it answers.
+/// The text and the result of a run.
 pub(crate) fn replies_of<'a, S: TableStore, A: Allocator>(
     alloc: &'a A,
     store: &mut S,
@@ -38,7 +38,7 @@ pub(crate) fn replies_of<'a, S: TableStore, A: Allocator>(
     (writer.taken, answer)
 }
 
-/// A script beside the replies that it is to have.
+/// A script and the expected replies.
 #[derive(Drop)]
 pub(crate) struct Case<'a, A: Allocator> {
     pub script: Vec<u8, &'a A>,
@@ -86,7 +86,7 @@ impl<'a, A: Allocator> Case<'a, A> {
         }
     }
 
-    /// Whether these are the replies and the answer of a run over the script.
+    /// Whether these are the replies and the result of a run over the script.
     pub(crate) fn is_had(&self, text: &[u8], answer: Result<Summary, RunFault>) -> bool {
         let (lines, refused) = (self.lines, self.refused);
         text == self.replies.as_slice() && answer == Ok(Summary { lines, refused })
@@ -136,12 +136,12 @@ pub(crate) fn check<A: Allocator>(rt: &impl Abort, alloc: &A, rows: Rows<'_>) {
     check_over(rt, alloc, &mut no_files(alloc), None, rows);
 }
 
-/// A store without files, and without writers for those that are saved.
+/// A store without files, and without writers for saved files.
 pub(crate) fn no_files<'f, 'a, A: Allocator>(_alloc: &'a A) -> MemoryStore<'f, 'a, 'a, A> {
     MemoryStore::new(&[])
 }
 
-/// The text of the built table of the last of these classes, each of which needs none but those before it.
+/// The text of the built table of the last of these classes, each of which needs only those before it.
 pub(crate) fn text_of<'a, A: Allocator>(
     rt: &impl Abort,
     alloc: &'a A,

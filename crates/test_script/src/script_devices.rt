@@ -8,7 +8,7 @@ const SCRIPT: &[u8] = b"position k7/8/1K6/8/8/8/8/7R w - - 0 1\nmoves root\nsolv
 const REPLIES: &[u8] = b"position k7/8/1K6/8/8/8/8/7R w - - 0 1\n\
     moves 20 Ra1+ Rb1 Rc1 Rd1 Re1 Rf1 Rg1 Rh2 Rh3 Rh4 Rh5 Rh6 Rh7 Rh8# Ka5 Kb5 Kc5 Ka6 Kc6 Kc7\nsolve plies 1\n";
 
-/// The script without a byte has no line.
+/// The empty script has no line.
 #[test]
 fn an_empty_script_has_no_line(rt: HostRuntime) {
     let alloc = rt.alloc();
@@ -23,7 +23,7 @@ fn an_empty_script_has_no_line(rt: HostRuntime) {
     );
 }
 
-/// A writer that fails, or takes nothing, has a prefix of the replies, and no line after the one that it broke off is read.
+/// A writer that fails, or accepts nothing, has a prefix of the replies, and no line after the interrupted one is read.
 #[test]
 fn a_failing_writer_has_a_prefix_of_the_replies(rt: HostRuntime) {
     let alloc = rt.alloc();

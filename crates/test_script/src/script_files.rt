@@ -21,7 +21,7 @@ verify KQK -> error NoTable KQK
 save KRK -> saved KRK bytes 82624
 save KRK -> error Device";
 
-/// A table is loaded where its needs are held and it is not, and saved as it was built.
+/// A table is loaded if its needs are loaded and it is not, and saved as it was built.
 #[test]
 fn a_table_is_loaded_after_its_needs_and_saved_as_built(rt: HostRuntime) {
     let alloc = rt.alloc();
@@ -66,7 +66,7 @@ fn a_file_that_fails_after_some_bytes_is_told(rt: HostRuntime) {
     }
 }
 
-/// What stands in the place of a file.
+/// The file in a place.
 #[derive(Clone, Copy, Debug, PartialEq, Eq)]
 enum Stored {
     /// The file of two kings, or of king and rook against king.
@@ -84,7 +84,7 @@ enum Stored {
     /// The same table with a slower mate in one cell, and a table whose cells are all the same.
     Lie,
     Constant(Class, u8),
-    /// A file that is not opened.
+    /// A file that cannot be opened.
     Closed,
 }
 
@@ -138,7 +138,7 @@ impl<'a, A: Allocator> Texts<'a, A> {
         text.as_slice().to_vec(alloc).ok().expect(rt, "memory")
     }
 
-    /// The bytes of what is stored; of a file that is not opened, none.
+    /// The bytes of the stored file; empty for a file that cannot be opened.
     fn bytes_of(&self, rt: &impl Abort, alloc: &'a A, stored: Stored) -> Vec<u8, &'a A> {
         let class = match stored {
             Stored::Front(class, _) => class,
@@ -176,8 +176,7 @@ impl<'a, A: Allocator> Texts<'a, A> {
     }
 }
 
-/// A script over files: what stands where, by how many pages they are read, if by pages, which question to a source fails, if
-/// one does, and the rows.
+/// A script over files: the files, by how many pages they are read, if by pages, which request to a source fails, if one does, and the rows.
 type Case = (
     &'static [(Class, Stored)],
     Option<u16>,
@@ -185,7 +184,7 @@ type Case = (
     Rows<'static>,
 );
 
-/// A table is loaded from a file of its own class alone.
+/// A table is loaded only from a file of its own class.
 const OTHERS: Rows<'static> = "build KK -> built KK cells 1280 win -
 load KQK -> error OtherClass KRK
 load KRK -> error Device
@@ -226,7 +225,7 @@ position k7/8/1K6/8/8/8/8/7R w - - 0 1 -> position k7/8/1K6/8/8/8/8/7R w - - 0 1
 stipulate white win -> error TableRead Page 5
 mark root -> error NoStudy";
 
-/// The page of the root is whole, number 20,543, and that of the position after its first move is not: after Ra1+ the number is
+/// The page of the root is whole, number 20,543, and that of the position after its first move is damaged: after Ra1+ the number is
 /// `((10 + 5) * 64 + 0) * 64 + 7`, 61,447, on page 15.
 const LATER_PAGE: Rows<'static> = "load KRK -> loaded KRK cells 81920
 load KK -> loaded KK cells 1280
@@ -234,7 +233,7 @@ position k7/8/1K6/8/8/8/8/7R w - - 0 1 -> position k7/8/1K6/8/8/8/8/7R w - - 0 1
 stipulate white win -> error TableRead Page 15
 mark root -> error NoStudy";
 
-/// A file that ends within the page of the root, as far as which it is read.
+/// A file that ends within the page of the root.
 const SHORT_PAGE: Rows<'static> = "load KRK -> loaded KRK cells 81920
 position k7/8/1K6/8/8/8/8/7R w - - 0 1 -> position k7/8/1K6/8/8/8/8/7R w - - 0 1
 stipulate white win -> error TableRead Short
@@ -252,19 +251,19 @@ mark 0 -> mark 0 loss 0 dual 15 faults 1
 position k7/8/1K6/8/8/8/8/7R w - - 0 1 -> position k7/8/1K6/8/8/8/8/7R w - - 0 1
 mark root -> mark root win 1 - faults 0";
 
-/// A file with a lie in it is read; `verify` finds the lie.
+/// A file with a wrong cell is read; `verify` finds the wrong cell.
 const LIES: Rows<'static> = "build KK -> built KK cells 1280 win -
 load KRK -> loaded KRK cells 81920
 verify KRK -> verified KRK no
 verify KK -> verified KK yes
 verify KQK -> error NoTable KQK";
 
-/// A table is built, and not taken from a file that lies.
+/// A table is built, and not loaded from a wrong file.
 const BUILT: Rows<'static> = "build KK -> built KK cells 1280 win -
 build KRK -> built KRK cells 81920 win 31
 verify KRK -> verified KRK yes";
 
-/// No table has a mate in 255 plies. Over one that lies, by which a new queen is mate in 254, a pawn leads to such a mate.
+/// No table has a mate in 255 plies. Over a wrong one, by which a new queen is mate in 254, a pawn leads to such a mate.
 const FAR: Rows<'static> = "build KK -> built KK cells 1280 win -
 load KQK -> loaded KQK cells 81920
 load KRK -> loaded KRK cells 81920
@@ -287,7 +286,7 @@ build KK -> built KK cells 1280 win -";
 const PADDED: Rows<'static> = "load KK -> error Padding
 build KK -> built KK cells 1280 win -";
 
-/// By pages the header alone is read at first.
+/// By pages only the header is read at first.
 const BY_PAGES: Rows<'static> = "load KK -> loaded KK cells 1280
 build KK -> error PagedMode";
 
@@ -350,7 +349,7 @@ const CASES: [Case; 11] = [
     ),
 ];
 
-/// A file in the place of that of two kings, and the rows where it is read whole and by pages.
+/// A file in the place of that of two kings, and the rows if it is read whole and by pages.
 const FILES: [(Stored, Rows<'static>, Rows<'static>); 8] = [
     (Stored::Changed(0, b'T'), NOT_A_TABLE, NOT_A_TABLE),
     (Stored::Changed(8, 9), VERSION_9, VERSION_9),
@@ -362,7 +361,7 @@ const FILES: [(Stored, Rows<'static>, Rows<'static>); 8] = [
     (Stored::Padded, PADDED, BY_PAGES),
 ];
 
-/// Each fault of a header has its name, whole and by pages; the session goes on.
+/// Each fault of a header has its name, whole and by pages; the session continues.
 const NOT_A_TABLE: Rows<'static> = "load KK -> error NotATable\nload KK -> error NotATable";
 
 const VERSION_9: Rows<'static> = "load KK -> error Version 9\nload KK -> error Version 9";
@@ -372,7 +371,7 @@ const UNKNOWN: Rows<'static> = "load KK -> error ClassUnknown\nload KK -> error 
 const DAMAGED_HEADER: Rows<'static> =
     "load KK -> error HeaderDamaged\nload KK -> error HeaderDamaged";
 
-/// The file with this text, which a file that is closed keeps to itself.
+/// The file with this text; a file that is closed has no bytes to read.
 fn file_of<'t>(stored: &Stored, text: &'t [u8]) -> MemoryFile<'t> {
     match stored {
         Stored::Closed => MemoryFile::Closed,

@@ -1,11 +1,11 @@
-//! Scripts and trees as large as they may be, and by one too large.
+//! Scripts and trees of the largest size, and larger by one.
 use crate::rows::{Case, Rows, no_files, replies_of};
 use std::alloc::Allocator;
 use std::process::Abort;
 use std::test::Fail;
 use study_script::{RunFault, Summary};
 
-/// A line of 1,024 bytes is read, and a script of 100,000 lines; where one byte more comes, the run stops.
+/// A line of 1,024 bytes is read, and a script of 100,000 lines; with one byte more the run stops.
 #[test]
 fn a_line_has_at_most_1024_bytes_and_a_script_100000_lines(rt: HostRuntime) -> Result<(), Fail> {
     let alloc = rt.alloc();
@@ -24,7 +24,7 @@ fn a_line_has_at_most_1024_bytes_and_a_script_100000_lines(rt: HostRuntime) -> R
     Ok(())
 }
 
-/// The reply to the line before one that is too long stays.
+/// The reply to the line before one that is too long is written.
 #[test]
 fn the_reply_before_a_long_line_stays(rt: HostRuntime) -> Result<(), Fail> {
     let alloc = rt.alloc();
@@ -40,7 +40,7 @@ fn the_reply_before_a_long_line_stays(rt: HostRuntime) -> Result<(), Fail> {
     Ok(())
 }
 
-/// The name of the node so far down, by first children from the node at a path.
+/// The path of the node at this depth, by first children from the node at a path.
 fn put_path<A: Allocator>(rt: &impl Abort, text: &mut Vec<u8, &A>, from: &str, depth: usize) {
     let mut is_first = from.is_empty();
     assert!(rt; text.extend_from_slice(from.as_bytes()).is_ok());

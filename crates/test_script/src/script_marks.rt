@@ -1,7 +1,7 @@
-//! Studies typed line by line, with the marks and the text of the game that they have.
+//! Studies typed line by line, with their marks and the text of the game.
 use crate::rows::{Rows, check};
 
-/// A win with a dual and a mistake, its game, and the mistake put first; then a stalemate, which is a draw.
+/// A win with a dual and a mistake, its game, and the mistake moved to the front; then a stalemate, which is a draw.
 const QUEEN: Rows<'static> = r#"build KK -> built KK cells 1280 win -
 build KQK -> built KQK cells 81920 win 19
 build KQK -> error AlreadyHeld KQK
@@ -66,7 +66,7 @@ pgn -> [Event "?"]
 
 "#;
 
-/// A mate beside many wins; a shift, and one that a move does not outlast; edits that are refused.
+/// A mate among many wins; a shift, and one after which a move would be illegal; edits that are refused.
 const ROOK: Rows<'static> = "build KK -> built KK cells 1280 win -
 build KRK -> built KRK cells 81920 win 31
 position k7/8/1K6/8/8/8/8/7R w - - 0 1 -> position k7/8/1K6/8/8/8/8/7R w - - 0 1
@@ -114,7 +114,7 @@ stipulate white win -> stipulate White to win
 mark 0.0 -> mark 0.0 loss 0 dual 18 faults 1
 mark 0 -> mark 0 win 1 reply faults 1"#;
 
-/// A mate in two moves is no mate in three.
+/// A mate in two moves is not a mate in three.
 const MATE_IN_TWO: Rows<'static> = r#"build KK -> built KK cells 1280 win -
 build KRK -> built KRK cells 81920 win 31
 position k7/8/2K5/8/8/8/8/7R w - - 0 1 -> position k7/8/2K5/8/8/8/8/7R w - - 0 1
@@ -150,7 +150,7 @@ dual 1} 1... Kb8 {White mates in 1} 2. Rh8# $1 {mate} 1-0
 
 "#;
 
-/// A pawn, with the tables of all that it leads to, each in its turn; a promotion is named by its piece.
+/// A pawn, with the tables of all classes that it leads to, each in its turn; a promotion is named by its piece.
 const PAWN: Rows<'static> = r#"build KK -> built KK cells 1280 win -
 build KPK -> error MissingTable KQK
 build KQK -> built KQK cells 81920 win 19

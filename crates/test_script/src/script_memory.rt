@@ -1,4 +1,4 @@
-//! Runs whose memory ends: nothing is answered, or a line wants memory and the lines after it are answered as ever.
+//! Runs with little memory: nothing is written, or a line is refused for want of memory and the lines after it are answered as usual.
 use crate::rows::{Case, Rows, no_files, replies_of};
 use crate::script_limits::deep_line;
 use linked_list_allocator::LocalHeap;
@@ -8,7 +8,7 @@ use std::test::Fail;
 use study_script::{RunFault, Settings, Summary, run};
 use study_text::{MemoryReader, MemoryWriter};
 
-/// There is no room for either table. The tables that are needed are looked for after that.
+/// There is no memory for either table. The tables that are needed are looked for after that.
 const NO_ROOM: Rows<'static> = "build KK -> error OutOfMemory
 build KQK -> error OutOfMemory
 position k7/8/1K6/8/8/8/8/6Q1 w - - 0 1 -> position k7/8/1K6/8/8/8/8/6Q1 w - - 0 1
@@ -20,7 +20,7 @@ mark 0 -> error NoStudy
 mark 1 -> error NoStudy
 pgn -> error NoStudy";
 
-/// There is no room for the larger table.
+/// There is no memory for the larger table.
 const NO_QUEEN: Rows<'static> = "build KK -> built KK cells 1280 win -
 build KQK -> error OutOfMemory
 position k7/8/1K6/8/8/8/8/6Q1 w - - 0 1 -> position k7/8/1K6/8/8/8/8/6Q1 w - - 0 1
@@ -62,7 +62,7 @@ fn case_of<'a>(rt: &impl Abort, alloc: &'a Global, rows: Rows<'_>) -> Case<'a, G
     case
 }
 
-/// What a run over a heap of so many bytes writes, and what it answers.
+/// The text and the result of a run over a heap of so many bytes.
 fn replies_over(
     alloc: Global,
     size: usize,
@@ -84,7 +84,7 @@ fn replies_over(
     Ok((text, answer))
 }
 
-/// Which of the ends a run has: 0 where nothing is answered, else its place among these, from 1 on. There is no other.
+/// The kind of a run's end: 0 if nothing is written, else its index among these, from 1 on. There is no other.
 fn end_of(
     rt: &impl Abort,
     ends: &[Case<'_, Global>],
@@ -131,8 +131,8 @@ fn a_study_breaks_off_where_memory_ends(rt: HostRuntime) -> Result<(), Fail> {
     Ok(())
 }
 
-/// Whether a prefix of the replies is followed by want of memory, and each line after it, which goes on from a node that is
-/// not there, finds no node, or no memory for the path to it.
+/// Whether a prefix of the replies is followed by want of memory, and each line after it, which starts at a missing node, is refused as such, or for
+/// want of memory for the path to it.
 fn is_broken_off(text: &str, replies: &[u8]) -> bool {
     let Some((front, rest)) = text.split_once("error OutOfMemory\n") else {
         return false;
@@ -144,7 +144,7 @@ fn is_broken_off(text: &str, replies: &[u8]) -> bool {
     holds
 }
 
-/// A heap that grows until a line of 256 moves is whole: before that, there is no room for one of its moves.
+/// A heap that grows until a line of 256 moves is whole: with less there is no memory for one of its moves.
 #[test]
 fn a_move_of_a_long_line_finds_no_memory(rt: HostRuntime) -> Result<(), Fail> {
     let alloc = rt.alloc();

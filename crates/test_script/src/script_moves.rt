@@ -17,7 +17,7 @@ moves root -> moves 0 stalemate
 position k6R/8/1K6/8/8/8/8/8 b - - 0 1 -> position k6R/8/1K6/8/8/8/8/8 b - - 0 1
 moves root -> moves 0 mate";
 
-/// Promotions, and a passed square that a pawn can take on and one that none can.
+/// Promotions, and a passed square that a pawn can capture on and one that none can.
 const PAWNS: Rows<'static> = "build KPKP -> error MissingTable KPK
 position k7/2P5/1K6/8/8/8/8/8 w - - 0 1 -> position k7/2P5/1K6/8/8/8/8/8 w - - 0 1
 moves root -> moves 9 Ka5 Kb5 Kc5 Ka6 Kc6 c8=Q# c8=R# c8=B c8=N
@@ -30,7 +30,7 @@ fen root -> fen 8/8/8/8/4P3/k7/8/4K3 b - e3 0 1
 position 8/8/8/8/4P3/k7/8/4K3 b - - 0 1 -> position 8/8/8/8/4P3/k7/8/4K3 b - - 0 1
 moves root -> moves 5 Ka2 Kb2 Kb3 Ka4 Kb4";
 
-/// The reply names the first fault of a position's text, and the position stays.
+/// The reply names the first fault of a position's FEN, and the position is unchanged.
 const TEXTS: Rows<'static> =
     "position rnbqkbnr/pppppppp/8/8/8/8/PPPPPPPP/RNBQKBNR w KQkq - 0 1 -> error TooManyMen
 position 4k3/8/8/8/8/8/8/4K2R w K - 0 1 -> error Castling

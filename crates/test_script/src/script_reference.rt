@@ -1,4 +1,4 @@
-//! The script of docs/SCRIPT.md in which each refusal comes once; `tools/script_doc.py` compares the two.
+//! The script of docs/SCRIPT.md with each refusal once; `tools/script_doc.py` compares the two.
 use crate::rows::{Rows, check};
 
 const REFUSALS: Rows<'static> = "tag White Réti -> error BadByte
@@ -44,7 +44,7 @@ shift 7k/8/8/8/8/2N5/4K3/6N1 w - - 0 1 -> error ShiftBroken 0
 tag Event Names of more than sixty characters are refused in every tag, as this -> error TagText
 position 7k/8/8/8/8/2R5/8/4K3 w - - 0 1 -> error NoTable KRK";
 
-/// Each refusal that a script without files can meet, as the reference has it.
+/// Each refusal that can occur in a script without files, as in the reference.
 #[test]
 fn each_refusal_of_the_reference_is_met(rt: HostRuntime) {
     check(&rt, &rt.alloc(), REFUSALS);

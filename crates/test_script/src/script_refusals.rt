@@ -1,7 +1,7 @@
-//! Lines that are refused, each with its name and in its order.
+//! Lines that are refused, each with its name and in order.
 use crate::rows::{Rows, check};
 
-/// Words that are no command, or not of its form; they come before all refusals for the state.
+/// Words that are not a command, or not of its form; these refusals come before all that depend on the state.
 const FORMS: Rows<'static> = "moves\troot -> error BadByte
 dance root -> error UnknownCommand
 moves -> error BadArguments
@@ -32,7 +32,7 @@ mark root -> error NoStudy
 pgn -> error NoStudy
 build KKK -> error NotAClass";
 
-/// The faults of a position's text.
+/// The faults of a position's FEN.
 const POSITIONS: Rows<'static> = "position k7/8/8/8/8/8/8/K7 w - -> error FieldCount
 position k7/8/8/8/8/8/8 w - - 0 1 -> error Placement
 position k7/8/8/8/8/8/8/K6P w - - 0 1 -> error PawnOnEndRank
@@ -43,7 +43,7 @@ position k7/8/8/8/8/8/8/K7 w - - x 1 -> error Clock
 position k7/8/8/8/8/8/8/K7 w - - 0 x -> error MoveNumber
 moves root -> error NoPosition";
 
-/// The refusals of edits, over the table of two kings alone.
+/// The refusals of edits, over only the table of two kings.
 const EDITS: Rows<'static> =
     "position k7/8/8/8/8/8/8/K7 w - - 0 1 -> position k7/8/8/8/8/8/8/K7 w - - 0 1
 moves 0 -> error NoSuchNode
@@ -69,7 +69,7 @@ mark 0 -> mark 0 draw dual 2 faults 1
 delete 0 -> delete 0
 mark root -> mark root draw - faults 0";
 
-/// The room of each class is found where memory is ample, before its first need is missed.
+/// With ample memory, the first refusal for each class is that a table is missing.
 const NEEDS: Rows<'static> = "build KQK -> error MissingTable KK
 build KRK -> error MissingTable KK
 build KBK -> error MissingTable KK

@@ -1,4 +1,4 @@
-//! Scripts of several studies: with `separate`, none edits the study before it.
+//! Scripts of several studies: with `separate`, no line edits the study before its own.
 use crate::rows::{Case, Rows, no_files};
 use std::alloc::Global;
 use std::process::Abort;
@@ -13,7 +13,7 @@ use study_tablefile::MemorySource;
 use study_text::{MemoryReader, MemoryWriter};
 use study_values::cells;
 
-/// Three studies, of which the second needs a table that is missing. A refused `position` leaves nothing to edit, by the rule.
+/// Three studies, the second of which needs a table that is missing. After a refused `position` there is nothing to edit, by the rule.
 const APART: Rows<'static> = "build KK -> built KK cells 1280 win -
 position k7/8/8/8/8/8/8/K7 w - - 0 1 -> position k7/8/8/8/8/8/8/K7 w - - 0 1
 stipulate white draw -> stipulate White to draw
@@ -32,7 +32,7 @@ stipulate black draw -> stipulate Black to draw
 fen root -> fen 7k/8/8/8/8/8/8/7K w - - 0 1
 insert root Kg1 -> insert 0 Kg1";
 
-/// The same where a refused line changes nothing: the lines of the second study edit the first.
+/// The same if a refused line changes nothing: the lines of the second study edit the first.
 const TOGETHER: Rows<'static> = "build KK -> built KK cells 1280 win -
 position k7/8/8/8/8/8/8/K7 w - - 0 1 -> position k7/8/8/8/8/8/8/K7 w - - 0 1
 stipulate white draw -> stipulate White to draw
@@ -50,7 +50,7 @@ stipulate black draw -> stipulate Black to draw
 fen root -> fen 7k/8/8/8/8/8/8/7K w - - 0 1
 insert root Kg1 -> insert 0 Kg1";
 
-/// Each refusal of such a line counts, of its form too; no other line does, and neither does a comment.
+/// Each refusal of such a line counts, also one of its form; no other line does, and neither does a comment.
 const REFUSED: Rows<'static> =
     "position k7/8/8/8/8/8/8/K7 w - - 0 1 -> position k7/8/8/8/8/8/8/K7 w - - 0 1
 positions x -> error UnknownCommand
@@ -106,7 +106,7 @@ fn each_refused_position_leaves_nothing(rt: HostRuntime) {
     check(&rt, &rt.alloc(), true, REFUSED);
 }
 
-/// The lines of `APART` without those of tables, and with a `pgn` line behind each study.
+/// The lines of `APART` without those of tables, and with a `pgn` line after each study.
 const REPORTED: &[u8] = b"position k7/8/8/8/8/8/8/K7 w - - 0 1
 stipulate white draw
 tag Event First
@@ -146,7 +146,7 @@ fn entries_of(rt: &impl Abort, alloc: Global, text: &[u8]) -> Vec<u8> {
     entries
 }
 
-/// What a report over the table of two kings writes, and what it answers.
+/// The text and the result of a report over the table of two kings.
 fn reported<'a>(
     rt: &impl Abort,
     alloc: &'a Global,

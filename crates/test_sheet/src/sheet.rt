@@ -12,7 +12,7 @@ use study_tablefile::MemorySource;
 use study_text::{MemoryReader, MemoryWriter, WhenFull};
 use study_values::cells;
 
-/// Two studies, of which the second begins with a move of Black and has no author, one without a move, and a line that is refused.
+/// Two studies, of which the second begins with a move of Black and has no author, one without a move, and a refused line.
 const SCRIPT: &str = "position k7/8/8/8/8/8/8/K7 w - - 0 1
 stipulate white draw
 tag White R & D
@@ -31,7 +31,7 @@ stipulate white draw
 pgn
 ";
 
-/// What stands between the opening and the closing.
+/// The text between the opening and the closing.
 const PLACES: &str =
     "<figure><svg class=\"board\" role=\"img\" viewBox=\"-14 -3 377 380\"><title>White Ka1; Black Ka8; White to move</title>\
 <use href=\"#board\"/><use href=\"#coordinates\"/><use class=\"w\" href=\"#mK\" x=\"0\" y=\"315\" width=\"45\" height=\"45\"/>\
@@ -47,7 +47,7 @@ const PLACES: &str =
 <use class=\"b\" href=\"#mK\" x=\"0\" y=\"0\" width=\"45\" height=\"45\"/></svg>\
 <figcaption><b>3. White to draw</b>, Black to move<br></figcaption></figure></body></html>\n";
 
-/// What a sheet over the table of two kings writes to this writer, and what it answers.
+/// The text that a sheet over the table of two kings writes to this writer, and the result.
 fn sheet_to<'a>(
     rt: &impl Abort,
     alloc: &'a Global,
@@ -85,7 +85,7 @@ fn each_study_has_its_place(rt: HostRuntime) -> Result<(), Fail> {
     Ok(())
 }
 
-/// A writer that is full in the opening, in a place, and one byte before the end has the front of the sheet.
+/// A writer that is full in the opening, in a place, and one byte before the end has a prefix of the sheet.
 #[test]
 fn a_full_writer_has_the_front_of_the_sheet(rt: HostRuntime) -> Result<(), Fail> {
     let alloc = rt.alloc();

@@ -1,5 +1,5 @@
-//! Calls of a study, each in a function without a contract: a test that goes through them is proved without the clauses of
-//! the calls, which it has no use for, since it asserts what it expects.
+//! Calls of a study, each in a function without a contract: a test that uses them is proved without the clauses of the calls, which it does not need,
+//! since it asserts what it expects.
 use std::alloc::{Allocator, Global};
 use study_marks::{
     Bench, Edit, Mark, MarkedChild, MarkedNode, Refusal, Shown, Stipulation, Stopped,
@@ -126,7 +126,7 @@ pub(crate) fn start_at<'a, A: Allocator>(bench: &Bench<'a, A>, at: &Path<'a, A>)
     bench.start_at(at)
 }
 
-/// A writer that takes all.
+/// A writer that accepts everything.
 pub(crate) fn writer<A: Allocator>(alloc: &A) -> MemoryWriter<'_, A> {
     MemoryWriter::new(alloc)
 }

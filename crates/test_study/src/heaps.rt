@@ -1,8 +1,8 @@
-//! Heaps that have nothing left.
+//! Exhausted heaps.
 use linked_list_allocator::LocalHeap;
 use std::alloc::{AllocError, Global};
 
-/// All that a heap still gives.
+/// All the memory that a heap has left.
 pub(crate) fn rest_of<'a>(
     alloc: Global,
     heap: &'a LocalHeap,

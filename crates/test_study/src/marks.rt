@@ -72,7 +72,7 @@ fn expect_counts<A: Allocator, V: Values>(
     assert_eq!(rt; values.asked(), asked);
 }
 
-/// The stalemate is put before the mate.
+/// The stalemate is moved before the mate.
 fn expect_promotion<'a, A: Allocator>(rt: &impl Abort, alloc: &'a A, bench: &mut Bench<'a, A>) {
     assert!(rt; calls::promote(bench, &path_of(rt, alloc, &[1])).is_ok());
     expect_mark(rt, alloc, bench, &[], ROOT);
@@ -86,7 +86,8 @@ fn expect_deletion<'a, A: Allocator>(rt: &impl Abort, alloc: &'a A, bench: &mut 
     assert!(rt; calls::size(bench) == 2 && calls::relabelled(bench) == 7);
 }
 
-/// Each edit writes the labels of one path, a stipulation those of all nodes; none but an insertion probes a value. The root has 25
+/// Each edit writes the labels of one path, a stipulation those of all nodes; only an insertion probes values. The root has 25 moves, and the mate
+/// and the stalemate have none.
 /// moves, and the mate and the stalemate have none.
 #[test]
 fn edits_write_the_labels_of_one_path(rt: HostRuntime) {
@@ -142,7 +143,7 @@ fn expect_tag<A: Allocator>(rt: &impl Abort, bench: &mut Bench<'_, A>, text: &st
     assert!(rt; bench.tag(TagName::Event) == Some(text) && bench.tag(TagName::Site).is_none());
 }
 
-/// The result of each reader of a study, and that another position leaves the root alone.
+/// The result of each reader of a study; another position leaves only the root.
 #[test]
 fn readers_tell_what_was_put_in(rt: HostRuntime) {
     let alloc = rt.alloc();
@@ -245,7 +246,7 @@ fn refuses_a_tag<'a, V: Values>(
     assert!(rt; untold.done == 0 && matches!(untold.refusal, Refusal::TagText));
 }
 
-/// A list of edits stops at the first that is refused, after those before it.
+/// A list of edits stops at the first that is refused; those before it are made.
 #[test]
 fn a_list_of_edits_stops_at_the_first_refused(rt: HostRuntime) {
     let alloc = rt.alloc();
@@ -304,7 +305,7 @@ impl Values for Draws {
     }
 }
 
-/// A study made over values that are wrong has the game's marks once its values are probed anew.
+/// A study made over wrong values has the game's marks after its values are probed anew.
 #[test]
 fn marks_over_wrong_values_are_made_right(rt: HostRuntime) {
     let alloc = rt.alloc();
@@ -368,8 +369,7 @@ fn expect_trials<'a, V: Values>(
     }
 }
 
-/// Moves that are not in the tree have the marks that they have once they are inserted; one value is probed for each, and
-/// nothing changes.
+/// Moves that are not in the tree have the marks that they have after their insertion; one value is probed for each, and nothing changes.
 #[test]
 fn a_move_not_in_the_tree_has_the_mark_it_would_get(rt: HostRuntime) {
     let alloc = rt.alloc();

@@ -1,4 +1,4 @@
-//! Memory and values that fail in turn: a refused call leaves the study as it was, and is accepted when it is made again.
+//! Memory and values that fail in turn: a refused call leaves the study unchanged, and is accepted when it is made again.
 use crate::calls;
 use crate::heaps::rest_of;
 use crate::studies::{Case, Snapshot, insert_text, move_of, path_of, start_of, tables_of};
@@ -41,7 +41,7 @@ const MATE: Case = Case {
     ..CORNERS
 };
 
-/// The calls that probe values and that leave the study as it was where they are refused.
+/// The calls that probe values and leave the study unchanged if they are refused.
 #[derive(Clone, Copy, Debug, PartialEq, Eq)]
 pub(crate) enum Call {
     New,
@@ -103,7 +103,7 @@ impl Subject {
         }
     }
 
-    /// What the study shows after a call over values that do not fail.
+    /// The study after a call over values that do not fail.
     pub(crate) fn after<V: Values>(
         &self,
         rt: &impl Abort,
@@ -116,8 +116,8 @@ impl Subject {
         Snapshot::of(rt, alloc, &bench)
     }
 
-    /// Whether a call is refused over values of which one fails, none of which was probed yet. Where it is, the study is as it
-    /// was, and the call is made again; in the end the study shows what is wanted.
+    /// Whether a call is refused over values of which one fails, none of which was probed yet. If it is, the study is unchanged, and the call is made
+    /// again; in the end the study is as expected.
     pub(crate) fn is_refused<V: Values, W: Values>(
         &self,
         rt: &impl Abort,
@@ -173,8 +173,8 @@ impl Subject {
         edits
     }
 
-    /// Makes edits over values or memory that may fail. Where they stop, the study is the one after as many of the same edits
-    /// over sound values and ample memory.
+    /// Makes edits over values or memory that may fail. If they stop, the study is the one after as many of the same edits over sound values and
+    /// ample memory.
     pub(crate) fn edited<'a, 'g, A: Allocator, V: Values, W: Values>(
         &self,
         rt: &impl Abort,
@@ -192,7 +192,7 @@ impl Subject {
         answer
     }
 
-    /// What the study shows after edits over sound values and ample memory.
+    /// The study after edits over sound values and ample memory.
     fn after_edits<'g, W: Values>(
         &self,
         rt: &impl Abort,
@@ -206,7 +206,7 @@ impl Subject {
     }
 }
 
-/// How many of so many edits were made.
+/// The number of edits made.
 fn done_of<A: Allocator>(answer: &Result<(), Stopped<'_, A>>, count: usize) -> usize {
     match answer {
         Ok(()) => count,
@@ -227,7 +227,7 @@ pub(crate) fn is_device<A: Allocator>(refusal: &Refusal<'_, A>) -> bool {
     matches!(refusal, Refusal::TableRead(ProbeFault::TableRead(_)))
 }
 
-/// How many values an insertion probes, counted by hand: one for the position after the move and one for each of Black's three moves there.
+/// The number of values that an insertion probes, counted by hand: one for the position after the move and one for each of Black's three moves there.
 const ASKED: u64 = 4;
 
 type Failing<'a> = FailingValues<WholeTables<'a, Global>>;
@@ -237,7 +237,7 @@ fn failing<'a>(rt: &impl Abort, alloc: &'a Global) -> Failing<'a> {
     FailingValues::new(tables_of(rt, alloc, &[Class::KK, Class::KRK]), 0)
 }
 
-/// From here on the k-th value fails, counted from 0.
+/// The k-th value from here on fails, counted from 0.
 fn fail_at(values: &mut Failing<'_>, k: u64) {
     values.asked = 0;
     values.failures = 0;
@@ -265,7 +265,7 @@ fn each_value_of_an_insertion_fails_in_turn(rt: HostRuntime) {
     }
 }
 
-/// Whether a call was accepted; where it was refused for want of memory, the study has to be as it was.
+/// Whether a call was accepted; if it was refused for want of memory, the study has to be unchanged.
 fn is_accepted<'a, A: Allocator>(
     rt: &impl Abort,
     alloc: Global,
@@ -280,8 +280,8 @@ fn is_accepted<'a, A: Allocator>(
     true
 }
 
-/// After how many edits a list stops on a heap of this size for want of memory, if it does; the study is then the one after
-/// as many of the same edits on an ample heap.
+/// The number of edits after which a list stops on a heap of this size for want of memory, if it does; the study is then the one after as many of the
+/// same edits on an ample heap.
 fn stop_of<'g, V: Values, W: Values>(
     rt: &impl Abort,
     (alloc, same): (&'g Global, &[Edit<'g, Global>]),
@@ -301,7 +301,7 @@ fn stop_of<'g, V: Values, W: Values>(
     }
 }
 
-/// Each growth of a list of edits is refused in turn, on heaps from too small to ample: it stops there, after the edits before.
+/// Each growth of a list of edits is refused in turn, on heaps from too small to ample: the list stops there, after the edits before.
 #[test]
 fn each_growth_of_a_list_is_refused_in_turn(rt: HostRuntime) -> Result<(), Fail> {
     let alloc = rt.alloc();
@@ -342,7 +342,7 @@ fn check_call<V: Values>(
     Ok(())
 }
 
-/// The memory of single calls is refused in turn, each on a heap where the moves of the study found room.
+/// The memory of single calls is refused in turn, each on a heap with room for the moves of the study.
 #[test]
 fn each_growth_of_a_call_is_refused_in_turn(rt: HostRuntime) -> Result<(), Fail> {
     let alloc = rt.alloc();
@@ -383,7 +383,7 @@ fn expect_broken<A: Allocator>(rt: &impl Abort, answer: Result<(), Refusal<'_, A
     }
 }
 
-/// A shift that breaks a deep move finds no memory for the path to it, and then finds some.
+/// A shift that breaks a deep move fails for want of memory for the path to it, and then succeeds.
 #[test]
 fn the_path_to_a_broken_move_takes_memory(rt: HostRuntime) -> Result<(), Fail> {
     let alloc = rt.alloc();

@@ -1,5 +1,4 @@
-//! Studies over a table that is read by one page, where one page is not read: the call is refused, and accepted when it is
-//! made again.
+//! Studies over a table that is read by one page, if one page cannot be read: the call is refused, and accepted when it is made again.
 use crate::calls;
 use crate::marks_faults::{Call, Subject, is_device};
 use crate::studies::{Snapshot, start_of, tables_of};
@@ -21,7 +20,7 @@ fn file_of<'a>(rt: &impl Abort, alloc: &'a Global) -> Vec<u8, &'a Global> {
 
 type OnePage<'a> = PagedTables<'a, MemorySource<'a>, Global>;
 
-/// The values of a file by one page. Reads of pages are counted from 1, and one of them fails; with none named, none does.
+/// The values of a file by one page. Reads of pages are counted from 1, and the given one fails, if any.
 fn one_page<'a>(
     rt: &impl Abort,
     alloc: &'a Global,
@@ -83,7 +82,7 @@ fn each_read_of_a_page_in_an_insertion_fails_in_turn(rt: HostRuntime) {
     assert!(rt; 1 < reads && reads < 299, "{reads}");
 }
 
-/// Whether there is no study over these values, since a device fails.
+/// Whether there is no study over these values, because a device fails.
 fn is_without_study<V: Values>(rt: &impl Abort, alloc: &Global, values: &mut V) -> bool {
     let case = Subject::Mate.case();
     let refusal = calls::new_bench(alloc, start_of(rt, case.fen), case.stipulation(), values).err();

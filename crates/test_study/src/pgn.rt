@@ -1,4 +1,4 @@
-//! Games that are written of studies.
+//! Games written for studies.
 use crate::calls;
 use crate::studies::{Case, QUEEN, game_of, insert_text, path_of, tables_of};
 use linked_list_allocator::LocalHeap;
@@ -65,7 +65,7 @@ fn expect_text(rt: &impl Abort, alloc: Global, case: &Case, text: &str) {
     assert_eq!(rt; std::str::from_utf8(game.as_slice()), Ok(text));
 }
 
-/// A variation stands before the main line goes on, each move has its number, and numbers go past 9999.
+/// A variation precedes the rest of the main line, each move has its number, and numbers exceed 9999.
 #[test]
 fn the_main_line_goes_on_after_its_variations(rt: HostRuntime) {
     expect_text(&rt, rt.alloc(), &QUEEN, QUEEN_TEXT);
@@ -77,7 +77,7 @@ fn queen_study<'a>(rt: &impl Abort, alloc: &'a Global) -> Bench<'a, Global> {
     QUEEN.study(rt, alloc, &mut values)
 }
 
-/// A writer that is full after so many bytes has this front of the game.
+/// A writer that is full after so many bytes has this prefix of the game.
 fn expect_front<A: Allocator>(
     rt: &impl Abort,
     alloc: Global,
@@ -93,7 +93,7 @@ fn expect_front<A: Allocator>(
     assert_eq!(rt; out.taken.as_slice(), front);
 }
 
-/// A writer that is full after each number of bytes in turn, and then answers so, has that front of this text.
+/// A writer that is full after each number of bytes in turn, with this result, has that prefix of this text.
 fn expect_fronts<A: Allocator>(
     rt: &impl Abort,
     alloc: Global,
@@ -107,7 +107,7 @@ fn expect_fronts<A: Allocator>(
     }
 }
 
-/// A writer that is full after so many bytes, whatever it answers then, has that front of the game.
+/// A writer that is full after so many bytes, whatever it returns then, has that prefix of the game.
 #[test]
 fn a_full_writer_has_a_front_of_the_game(rt: HostRuntime) {
     let alloc = rt.alloc();
@@ -117,7 +117,7 @@ fn a_full_writer_has_a_front_of_the_game(rt: HostRuntime) {
     }
 }
 
-/// Whether there is memory for the game on a heap of this size: where there is, it is this text, and else nothing is written.
+/// Whether there is memory for the game on a heap of this size: if there is, the game is this text, and else nothing is written.
 fn is_written<A: Allocator>(
     rt: &impl Abort,
     alloc: Global,

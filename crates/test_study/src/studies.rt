@@ -1,4 +1,4 @@
-//! Studies over built tables, and what they show.
+//! Studies over built tables, and their observable state.
 use crate::calls;
 use std::alloc::{Allocator, Global};
 use std::process::Abort;
@@ -29,7 +29,7 @@ fn add<'a, A: Allocator>(rt: &impl Abort, set: &mut TableSet<'a, A>, table: Tabl
     assert!(rt; set.add(table).is_ok());
 }
 
-/// The values of the tables of these classes, each of which needs none but those before it.
+/// The values of the tables of these classes, each of which needs only those before it.
 pub(crate) fn tables_of<'a, A: Allocator>(
     rt: &impl Abort,
     alloc: &'a A,
@@ -70,7 +70,7 @@ pub(crate) fn move_of<'a, A: Allocator>(
     read_san(&start.position, san).ok().expect(rt, "a move")
 }
 
-/// Puts the move with this text last below a node.
+/// Inserts the move with this text last below a node.
 pub(crate) fn insert_text<'a, A: Allocator, V: Values>(
     rt: &impl Abort,
     bench: &mut Bench<'a, A>,
@@ -82,7 +82,7 @@ pub(crate) fn insert_text<'a, A: Allocator, V: Values>(
     assert!(rt; calls::insert(bench, at, m, values).is_ok(), "{san}");
 }
 
-/// A study: its start, what is wanted of whom, and its moves, each put last below the node at a path.
+/// A study: its start, its stipulation, and its moves, each inserted last below the node at a path.
 #[derive(Clone, Copy)]
 pub(crate) struct Case {
     pub(crate) fen: &'static str,
@@ -128,7 +128,7 @@ impl Case {
     }
 }
 
-/// A mate in one beside 21 other winning moves, and a stalemate.
+/// A mate in one among 21 other winning moves, and a stalemate.
 pub(crate) const QUEEN: Case = Case {
     fen: "k7/8/1K6/8/8/8/8/6Q1 w - - 0 1",
     hero: Side::White,
@@ -151,7 +151,7 @@ fn copied(rt: &impl Abort, alloc: Global, bytes: &[u8]) -> Vec<u8> {
     bytes.to_vec(alloc).ok().expect(rt, "memory")
 }
 
-/// What a study shows: its game, with all its marks, how many nodes it has, and how many labels were written.
+/// The observable state of a study: its game, with all its marks, the number of its nodes, and the number of labels written.
 #[derive(Drop)]
 pub(crate) struct Snapshot {
     game: Vec<u8>,
@@ -168,7 +168,7 @@ impl Snapshot {
         }
     }
 
-    /// Whether a study shows the same.
+    /// Whether a study has the same observable state.
     pub(crate) fn is_of<A: Allocator>(
         &self,
         rt: &impl Abort,

@@ -23,7 +23,7 @@ fn king_move(turn: usize) -> Move {
     }
 }
 
-// The calls of a tree, each in a function without a contract: a test that goes through them is proved without their clauses.
+// The calls of a tree, each in a function without a contract: a test that uses them is proved without their clauses.
 
 fn new_tree<'a, A: Allocator>(alloc: &'a A, label: u32) -> Tree<'a, u32, A> {
     Tree::new(alloc, label)
@@ -67,10 +67,10 @@ fn relabelled<A: Allocator>(tree: &Tree<'_, u32, A>) -> u64 {
     tree.relabelled()
 }
 
-/// A node as it is to be shown: the way to it, the turn of its move, its label and how many children it has.
+/// An expected node: its path, the turn of its move, its label and the number of its children.
 type Row = (&'static [u16], Option<usize>, u32, u16);
 
-/// What the node at the path shows: its move, its label and how many children it has.
+/// The node at the path: its move, its label and the number of its children.
 fn shown<A: Allocator>(tree: &Tree<'_, u32, A>, steps: &[u16]) -> Option<(Option<Move>, u32, u16)> {
     match tree.node(steps) {
         Some(node) => Some((node.played, *node.label, node.children)),
@@ -78,7 +78,7 @@ fn shown<A: Allocator>(tree: &Tree<'_, u32, A>, steps: &[u16]) -> Option<(Option
     }
 }
 
-/// The tree has these nodes; the counts of children leave no room for another.
+/// The tree has these nodes; the numbers of children exclude any other.
 fn expect_rows<A: Allocator>(rt: &impl Abort, tree: &Tree<'_, u32, A>, rows: &[Row]) {
     for (steps, turn, label, children) in rows {
         let played = match turn {
@@ -131,7 +131,7 @@ const REMOVED: &[Row] = &[
     (&[1, 0], Some(3), 14, 0),
 ];
 
-/// The nodes as they are built, after some were moved up and relabelled, and after one was removed with all below it.
+/// The nodes as they are built, after some were promoted and relabelled, and after one was removed with its subtree.
 #[test]
 fn edits_move_whole_branches(rt: HostRuntime) {
     let alloc = rt.alloc();
@@ -155,7 +155,7 @@ enum Growth {
     Push,
 }
 
-/// Makes room for the move of this turn, and adds it though no memory is left; whether there was room.
+/// Reserves memory for the move of this turn, and adds it though no memory is left; whether there was memory.
 fn adds_in_room<'a>(
     rt: &impl Abort,
     alloc: Global,
@@ -174,7 +174,7 @@ fn adds_in_room<'a>(
     Ok(true)
 }
 
-/// Adds the move of this turn, for which no room was made; whether there was memory.
+/// Adds the move of this turn without reserved memory; whether there was memory.
 fn adds<'a>(
     rt: &impl Abort,
     tree: &mut Tree<'a, u32, LocalHeap>,
@@ -191,7 +191,7 @@ fn adds<'a>(
     true
 }
 
-/// Grows a line by the move of this turn, with room made for it at every second one; the growth that was refused, if one was.
+/// Grows a line by the move of this turn, with memory reserved for it at every second one; the refused growth, if one was.
 fn refused_at<'a>(
     rt: &impl Abort,
     alloc: Global,
@@ -214,8 +214,8 @@ fn refused_at<'a>(
     Ok(None)
 }
 
-/// Grows a line of 24 moves on a heap, with room made for every second one, up to the first refused growth, if there is one.
-/// Where room was made, the move is added though no memory is left.
+/// Grows a line of 24 moves on a heap, with memory reserved for every second one, up to the first refused growth, if there is one. If memory was
+/// reserved, the move is added though none is left.
 fn first_refused(
     rt: &impl Abort,
     alloc: Global,

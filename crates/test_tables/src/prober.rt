@@ -38,10 +38,10 @@ fn patterned<'a, A: Allocator>(
 struct File {
     text: Vec<u8>,
     asked: u64,
-    /// Which question fails, counted from 0.
+    /// The request that fails, counted from 0.
     fails_at: Option<u64>,
     failures: u64,
-    /// Which byte is turned, once a page was given.
+    /// The byte that is changed, once a page was delivered.
     turns: Option<usize>,
 }
 
@@ -118,7 +118,7 @@ fn file_of<A: Allocator>(rt: &impl Abort, alloc: Global, table: &Table<'_, A>) -
     }
 }
 
-/// The first position of a class whose number stands on a page, if there is one.
+/// The first position of a class whose number is on a page, if there is one.
 fn first_on(class: Class, page: u32) -> Option<Position> {
     for offset in 0..4096u32 {
         let found = decode(class, page.saturating_mul(4096).saturating_add(offset));
@@ -133,7 +133,7 @@ fn position_on(rt: &impl Abort, class: Class, page: u32) -> Position {
     first_on(class, page).expect(rt, "a position")
 }
 
-/// A held table whose file is in memory.
+/// A loaded table whose file is in memory.
 fn paged<'a, A: Allocator>(
     rt: &impl Abort,
     alloc: &'a A,
@@ -147,7 +147,7 @@ fn paged<'a, A: Allocator>(
     tables
 }
 
-/// What is answered to one more source.
+/// The result for one more source.
 fn added<A: Allocator>(
     tables: &mut PagedTables<'_, File, A>,
     class: Class,
@@ -162,7 +162,7 @@ fn agree<V: Values, W: Values>(values: &mut V, others: &mut W, p: &Position) -> 
     value.is_ok() && values.value(p) == value
 }
 
-/// That each position of king and rook against king has one value by both, and how often they were probed.
+/// Each position of king and rook against king has one value by both; also, how often they were probed.
 fn expect_alike<V: Values, W: Values>(rt: &impl Abort, values: &mut V, others: &mut W) {
     let mut count = 0u64;
     for number in 0..81_920u32 {
@@ -192,12 +192,12 @@ fn has_counts<V: Values>(values: &V, asked: u64, failures: u64) -> bool {
     values.asked() == asked && values.failures() == failures
 }
 
-/// Whether the question is refused for this fault.
+/// Whether the request is refused for this fault.
 fn is_refused<V: Values>(values: &mut V, p: &Position, fault: ProbeFault) -> bool {
     values.value(p) == Err(fault)
 }
 
-/// How many pages of a class have a position.
+/// The number of pages of a class that have a position.
 fn pages_with_positions(class: Class) -> u32 {
     let mut count = 0u32;
     for page in 0..cells(class).div_ceil(4096) {
@@ -208,7 +208,7 @@ fn pages_with_positions(class: Class) -> u32 {
     count
 }
 
-/// How many probes fail if a position of each page is probed twice, and the source fails once, after it gave each page.
+/// The number of probes that fail if a position of each page is probed twice, and the source fails once, after it delivered each page.
 fn failures_at_the_second_turn(rt: &impl Abort, alloc: Global, class: Class, room: u16) -> u64 {
     let table = patterned(rt, &alloc, class, 0);
     let asked = u64::from(pages_with_positions(class));
@@ -229,7 +229,7 @@ fn failures_at_the_second_turn(rt: &impl Abort, alloc: Global, class: Class, roo
     refused
 }
 
-/// With room for all 20 pages none is read again, however much more room there is; with less, one is.
+/// With room for all 20 pages no page is read again, however much more room there is; with less, one is.
 #[test]
 fn kept_pages_are_not_read_again(rt: HostRuntime) {
     let alloc = rt.alloc();
@@ -239,7 +239,7 @@ fn kept_pages_are_not_read_again(rt: HostRuntime) {
     }
 }
 
-/// A whole table that is held.
+/// A whole table that is loaded.
 fn whole_of<'a, A: Allocator>(
     rt: &impl Abort,
     alloc: &'a A,
@@ -250,14 +250,14 @@ fn whole_of<'a, A: Allocator>(
     whole
 }
 
-/// Whether KQK is refused since there is no table of it, and KK is held.
+/// Whether KQK is refused because it has no table, and KK is loaded.
 fn has_only_kings<V: Values>(values: &mut V, p: &Position) -> bool {
     is_refused(values, p, ProbeFault::NoTable(Class::KQK))
         && values.holds(Class::KK)
         && !values.holds(Class::KQK)
 }
 
-/// A class that is not held has no table, with pages and without.
+/// A class that is not loaded has no table, with pages and without.
 #[test]
 fn a_class_that_is_not_held_has_no_table(rt: HostRuntime) {
     let alloc = rt.alloc();
@@ -333,7 +333,7 @@ fn are_values<'a, 'h, A: Allocator, H: Allocator>(
     are_right && has_counts(tables, 10, 0)
 }
 
-/// Whether a cache takes the file of the table, whose values are right then; where it does not, there is no memory.
+/// Whether a cache accepts the file of the table, and then has the right values; if not, there is no memory.
 fn takes<A: Allocator, H: Allocator>(
     rt: &impl Abort,
     tables: &mut PagedTables<'_, File, H>,
@@ -354,7 +354,7 @@ fn takes<A: Allocator, H: Allocator>(
     }
 }
 
-/// Where memory is refused, it is the cache, then the source that finds no room; each value is right all the same.
+/// If memory is refused, it is first for the cache, then for the source; each value is right all the same.
 #[test]
 fn each_growth_is_refused_and_values_stay_right(rt: HostRuntime) {
     let alloc = rt.alloc();
@@ -377,7 +377,7 @@ fn each_growth_is_refused_and_values_stay_right(rt: HostRuntime) {
     );
 }
 
-/// That the first question for this page fails, and every other one is answered, the next one for this page too.
+/// The first request for this page fails, and every other one succeeds, the next one for this page too.
 fn fails_once<V: Values, A: Allocator>(
     rt: &impl Abort,
     values: &mut V,
@@ -396,7 +396,7 @@ fn fails_once<V: Values, A: Allocator>(
     assert!(rt; has_counts(values, 21, 1), "{bad}");
 }
 
-/// A source that fails at one page: the fault is reported and counted, and the same probe is answered next.
+/// A source that fails at one page: the fault is reported and counted, and the same probe succeeds next.
 #[test]
 fn a_page_that_is_not_read_is_told_once(rt: HostRuntime) {
     let alloc = rt.alloc();
@@ -441,7 +441,7 @@ fn a_damaged_page_is_told_each_time(rt: HostRuntime) {
     assert!(rt; has_counts(&tables, 40, 4));
 }
 
-/// That page 0 of KK is reported as damaged once, and its values are read from then on.
+/// Page 0 of KK is reported as damaged once, and its values are read from then on.
 fn expect_read_again<V: Values, A: Allocator>(
     rt: &impl Abort,
     values: &mut V,
@@ -454,7 +454,7 @@ fn expect_read_again<V: Values, A: Allocator>(
     assert!(rt; has_counts(values, 3, 1));
 }
 
-/// A damaged page is not kept: once its source gives it whole, its values are read.
+/// A damaged page is not kept: once its source delivers it whole, its values are read.
 #[test]
 fn a_damaged_page_is_read_again(rt: HostRuntime) {
     let alloc = rt.alloc();
@@ -471,7 +471,7 @@ fn has_only_rook<V: Values>(values: &V) -> bool {
     values.holds(Class::KRK) && !values.holds(Class::KQK) && has_counts(values, 0, 0)
 }
 
-/// That a source is refused for this fault, and the tables are as they were.
+/// A source is refused for this fault, and the tables are unchanged.
 fn expect_refused<A: Allocator>(
     rt: &impl Abort,
     tables: &mut PagedTables<'_, File, A>,
@@ -542,7 +542,7 @@ fn the_first_fault_of_a_header_is_told(rt: HostRuntime) {
     }
 }
 
-/// That the first question is answered, the second fails, and the third, which is the same again, is answered.
+/// The first request succeeds, the second fails, and the third, which repeats it, succeeds.
 fn expect_answered_next<V: Values, A: Allocator>(
     rt: &impl Abort,
     values: &mut V,
@@ -557,7 +557,7 @@ fn expect_answered_next<V: Values, A: Allocator>(
     assert!(rt; has_counts(values, 3, 1));
 }
 
-/// Values that fail at their second question, and answer it when it is put again.
+/// Values whose second probe fails, and succeeds when it is repeated.
 #[test]
 fn a_question_that_failed_is_answered_next(rt: HostRuntime) {
     let alloc = rt.alloc();

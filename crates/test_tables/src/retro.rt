@@ -34,9 +34,8 @@ fn hex(digit: u8) -> u8 {
     }
 }
 
-/// Classes, cells, deepest distances of a win and of a loss, how many numbers are examined, and digests of the cells. The
-/// examined are those of a plain program that goes back as `build` does; the rest is from a builder of another kind that was
-/// compared with Gaviota's tables.
+/// Classes, cells, deepest distances of a win and of a loss, the number of examined numbers, and digests of the cells. The examined numbers are those
+/// of a plain program that works backwards as `build` does; the rest is from a builder of another kind that was compared with Gaviota's tables.
 const ROWS: &str = "\
 KK,1280,-,-,1280,bfe492baf731a0dbf6e1e050f5bc3fe8c1b049383194dcdf82f023bfa409f462
 KQK,81920,19,20,757847,9e23e4707fb87fc86cd619e4f11e27584156c99755bf56bd75beb08a2529a694
@@ -88,7 +87,7 @@ fn fault_of<'a, A: Allocator>(
     build(class, tables, room).err()
 }
 
-/// Whether the set refuses a table for this fault, and hands it back.
+/// Whether the set refuses a table for this fault, and returns it.
 fn is_refused<'a, A: Allocator>(
     tables: &mut TableSet<'a, A>,
     table: Table<'a, A>,
@@ -101,7 +100,7 @@ fn is_refused<'a, A: Allocator>(
     }
 }
 
-/// A table is refused where its needs are not held, or where it is held already; it is handed back, and the set is as it was.
+/// A table is refused if its needs are not loaded, or if it is loaded already; it is returned, and the set is unchanged.
 #[test]
 fn a_table_is_refused_without_its_needs_or_twice(rt: HostRuntime) {
     let alloc = rt.alloc();
@@ -121,7 +120,7 @@ fn a_table_is_refused_without_its_needs_or_twice(rt: HostRuntime) {
     }
 }
 
-/// The cell of a number in the held table of a class.
+/// The cell of a number in the loaded table of a class.
 fn cell_of<A: Allocator>(
     rt: &impl Abort,
     tables: &TableSet<'_, A>,
@@ -132,14 +131,14 @@ fn cell_of<A: Allocator>(
     *table.cells().get(number).expect(rt, "a cell")
 }
 
-/// Classes, numbers, cells as they are, and cells in their places that lie.
+/// Classes, numbers, right cells, and wrong cells in their places.
 const LIES: &str = "\
 KRK,20543,2,4
 KRK,20543,2,0
 KQK,41421,0,1
 KQK,44585,0,1";
 
-/// The table that is held but for the lie of a row.
+/// The loaded table with the wrong cell of a row.
 fn liar<'a, A: Allocator>(
     rt: &impl Abort,
     alloc: &'a A,
@@ -154,8 +153,7 @@ fn liar<'a, A: Allocator>(
     changed(rt, alloc, tables, class, number, lie)
 }
 
-/// A built table is verified; one with a slower mate, a false draw, a stalemate as a mate, or a byte where no position
-/// is, is not.
+/// A built table is verified; one with a slower mate, a false draw, a stalemate as a mate, or a byte for a number without a position, is not.
 #[test]
 fn verify_tells_right_tables_from_wrong_ones(rt: HostRuntime) {
     let alloc = rt.alloc();

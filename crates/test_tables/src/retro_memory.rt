@@ -1,11 +1,11 @@
-//! Room for a table and for a set of tables, where memory is refused.
+//! Memory for a table and for a set of tables, if it is refused.
 use linked_list_allocator::LocalHeap;
 use std::test::Fail;
 use study_material::Class;
 use study_retro::{BuildRoom, build};
 use study_table::TableSet;
 
-/// On heaps from too small to ample: a set and a room are refused, then the set is made, then both, and then a table is built.
+/// On heaps from too small to ample: both a set and a room are refused, then only the room, then neither, and then a table is built.
 #[test]
 fn a_set_and_a_room_are_refused_in_turn(rt: HostRuntime) -> Result<(), Fail> {
     let mut sets = 0u32;

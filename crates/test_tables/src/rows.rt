@@ -3,12 +3,12 @@
 use std::process::Abort;
 use study_material::Class;
 
-/// The field of a row with this number, from 0; empty where there is none.
+/// The field of a row with this number, from 0; empty if there is none.
 pub fn field(row: &str, number: usize) -> &str {
     row.split(',').nth(number).unwrap_or("")
 }
 
-/// The number that a text is.
+/// The number that a text spells.
 pub fn number(rt: &impl Abort, text: &str) -> u32 {
     match text.parse::<u32>() {
         Ok(number) => number,
@@ -16,7 +16,7 @@ pub fn number(rt: &impl Abort, text: &str) -> u32 {
     }
 }
 
-/// The byte that a text is; any other text is for none.
+/// The byte that a text spells; `None` for any other text.
 pub fn byte(text: &str) -> Option<u8> {
     text.parse::<u8>().ok()
 }

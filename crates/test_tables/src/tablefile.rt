@@ -27,7 +27,7 @@ const KRK: &[u8] =
 const KPKP: &[u8] =
     b"STUDYDTM\x02\x00\x00\x10\x00\x00\x00\x02KPKP\x00\x00\x00\x00\x00\x00\x00\x00\x00\x00\x00\x00";
 
-/// The first 32 bytes that are written of the table of zero cells of a class.
+/// The first 32 bytes of the file of a table of zero cells of a class.
 fn first_bytes<'a, A: Allocator>(rt: &impl Abort, alloc: &'a A, class: Class) -> Vec<u8, &'a A> {
     let table = zero_table(rt, alloc, class);
     let mut writer = MemoryWriter::with_room(alloc, 32, WhenFull::Fail);
@@ -58,11 +58,11 @@ fn header_of<'a, A: Allocator>(rt: &impl Abort, alloc: &'a A, fields: &[u8]) -> 
     writer.taken
 }
 
-/// The fields of KPKP in version 1, which does not know it.
+/// The fields of KPKP in version 1, which does not have that class.
 const KPKP_BEFORE: &[u8] =
     b"STUDYDTM\x01\x00\x00\x10\x00\x00\x00\x02KPKP\x00\x00\x00\x00\x00\x00\x00\x00\x00\x00\x00\x00";
 
-/// The fields of KPKP in a version to come.
+/// The fields of KPKP in a future version.
 const KPKP_AFTER: &[u8] =
     b"STUDYDTM\x03\x00\x00\x10\x00\x00\x00\x02KPKP\x00\x00\x00\x00\x00\x00\x00\x00\x00\x00\x00\x00";
 
@@ -70,7 +70,7 @@ const KPKP_AFTER: &[u8] =
 const KQKP_BEFORE: &[u8] =
     b"STUDYDTM\x01\x00\x00\x10\x00\x00\x00\x01KQKP\x00\x00\x00\x00\x00\x00\x00\x00\x00\x00\x00\x00";
 
-/// The fields of KRK in a version that never was.
+/// The fields of KRK in a version that never existed.
 const KRK_NEVER: &[u8] =
     b"STUDYDTM\x00\x00\x00\x10\x00\x40\x01\x00KRK\x00\x00\x00\x00\x00\x00\x00\x00\x00\x00\x00\x00\x00";
 
@@ -80,7 +80,7 @@ fn header_has<A: Allocator>(rt: &impl Abort, alloc: &A, fields: &[u8], want: Fil
     has_fault(alloc, text.as_slice(), want)
 }
 
-/// A pawn against a pawn is known from version 2 on; of the other classes both versions are read.
+/// A pawn against a pawn exists from version 2 on; the other classes are read in both versions.
 #[test]
 fn versions_that_are_not_known_are_refused(rt: HostRuntime) {
     let alloc = rt.alloc();
@@ -91,7 +91,7 @@ fn versions_that_are_not_known_are_refused(rt: HostRuntime) {
     assert!(rt; header_has(&rt, &alloc, KRK_NEVER, FileFault::Version(0)));
 }
 
-/// A text of version 1 is read, and what is read is written in version 2. Its pages do not pass under a header of version 2.
+/// A text of version 1 is read, and what is read is written in version 2. Its pages are refused under a header of version 2.
 #[test]
 fn version_1_is_read_and_version_2_written(rt: HostRuntime) {
     let alloc = rt.alloc();
@@ -118,14 +118,14 @@ fn each_size_of_file_has_its_bytes(rt: HostRuntime) {
     }
 }
 
-/// A text with one bit turned.
+/// A text with one bit flipped.
 fn turn(text: &mut [u8], place: usize, bit: u8) {
     if let Some(byte) = text.get_mut(place) {
         *byte ^= bit;
     }
 }
 
-/// What a turned bit is, by its place and the version that is read then.
+/// The fault of a flipped bit, by its place and the version that is read.
 fn fault_of_place(place: usize, version: u16) -> FileFault {
     match place {
         0..=7 => FileFault::NotATable,
@@ -148,7 +148,7 @@ fn each_prefix_is_told_as_cut_off(rt: HostRuntime) {
     }
 }
 
-/// Whether a bit that is turned at a place is found and named by it. It is turned back.
+/// Whether a bit that is flipped at a place is found and named by it. It is flipped back.
 fn is_named<A: Allocator>(alloc: &A, text: &mut [u8], place: usize, bit: u8) -> bool {
     let version = match place {
         8 => 2 ^ bit as u16,
@@ -165,7 +165,7 @@ fn is_tried(place: usize) -> bool {
     place < 64 || 4160 <= place || place % 101 == 0
 }
 
-/// Each bit that is turned, of the header, of the digest and of some cells, is found and named by its place.
+/// Each flipped bit of the header, of the digest and of some cells is found and named by its place.
 #[test]
 fn each_turned_bit_is_found_and_named(rt: HostRuntime) -> Result<(), Fail> {
     let alloc = rt.alloc();
@@ -192,7 +192,7 @@ fn is_cut_short<A: Allocator>(table: &Table<'_, A>, writer: &mut MemoryWriter<'_
     write_table(table, writer) == Err(FileFault::Device)
 }
 
-/// The table is not written; the writer took a prefix of the text, and was not called again.
+/// The table is not written; the writer has a prefix of the text, and was not called again.
 fn stops<A: Allocator>(
     rt: &impl Abort,
     table: &Table<'_, A>,
@@ -209,7 +209,7 @@ fn stops<A: Allocator>(
     assert!(rt; writer.errors == 1, "{}", writer.room);
 }
 
-/// A writer that is full before the end has taken a prefix of the text, whatever it answers then, and whether or not it
+/// A writer that is full before the end has a prefix of the text, whatever it returns then, and whether or not it would continue.
 /// would go on.
 #[test]
 fn a_full_writer_has_a_prefix(rt: HostRuntime) {
@@ -229,7 +229,7 @@ fn a_full_writer_has_a_prefix(rt: HostRuntime) {
     }
 }
 
-/// That the source gives the header of KK, and its page after it failed once, and no other page.
+/// The source delivers the header of KK, and its page after it failed once, and no other page.
 fn expect_pages<S: PageSource>(rt: &impl Abort, source: &mut S) {
     let mut bytes = [0u8; 64];
     assert!(rt; source.header(&mut bytes).is_ok());
@@ -244,7 +244,7 @@ fn expect_pages<S: PageSource>(rt: &impl Abort, source: &mut S) {
     assert!(rt; source.failures() == 2);
 }
 
-/// The pages of a text, one by one, from a source that fails where its plan says.
+/// The pages of a text, one by one, from a source that fails as planned.
 #[test]
 fn pages_are_read_one_by_one(rt: HostRuntime) {
     let alloc = rt.alloc();
@@ -311,7 +311,7 @@ fn faults_have_texts(rt: HostRuntime) -> Result<(), Fail> {
     Ok(())
 }
 
-/// Of two pages that have changed places the first is reported, and nothing after it is read.
+/// Of two exchanged pages the first is reported, and nothing after it is read.
 #[test]
 fn exchanged_pages_are_told(rt: HostRuntime) {
     let alloc = rt.alloc();

@@ -7,7 +7,7 @@ use std::test::Fail;
 use study_material::Class;
 use study_values::FileFault;
 
-/// That texts that come of this one, which is whole, have their faults.
+/// Texts derived from this one, which is whole, have their faults.
 fn expect_faults<A: Allocator>(rt: &impl Abort, alloc: &A, text: &[u8]) {
     let wrong = exchanged(rt, alloc, text);
     assert!(rt; has_fault(alloc, wrong.as_slice(), FileFault::PageDamaged(3)));
@@ -38,7 +38,7 @@ fn the_table_of_krk_is_read_as_it_was_written(rt: HostRuntime) -> Result<(), Fai
     Ok(())
 }
 
-/// A table that lies in one cell has a file of its own, which is read: only `verify` finds the lie.
+/// A table with one wrong cell has a file of its own, which is read: only `verify` finds the wrong cell.
 #[test]
 fn a_lying_table_is_read_and_not_verified(rt: HostRuntime) {
     let alloc = rt.alloc();

@@ -86,7 +86,7 @@ fn ask_all<S: PageSource>(rt: &impl Abort, source: &mut S, fails_at: u32) {
     assert!(rt; source.failures() == (fails_at <= 20) as u64 + 1);
 }
 
-/// Each question in turn fails.
+/// Each request in turn fails.
 #[test]
 fn each_question_to_a_source_fails_in_turn(rt: HostRuntime) {
     let alloc = rt.alloc();
@@ -102,7 +102,7 @@ fn each_question_to_a_source_fails_in_turn(rt: HostRuntime) {
     }
 }
 
-/// Whether the text is read as the table of zero cells of its class; where it is not, there is no memory.
+/// Whether the text is read as the table of zero cells of its class; if not, there is no memory.
 fn is_read<A: Allocator>(rt: &impl Abort, heap: &A, class: Class, text: &[u8]) -> bool {
     match read_table(heap, &mut MemoryReader::new(text)) {
         Ok(table) => {
@@ -117,7 +117,7 @@ fn is_read<A: Allocator>(rt: &impl Abort, heap: &A, class: Class, text: &[u8]) -
     }
 }
 
-/// Heaps that grow step by step: there is no memory for the table, until there is.
+/// Heaps that grow step by step: there is no memory for the table, until there is enough.
 #[test]
 fn each_growth_of_a_table_is_refused_in_turn(rt: HostRuntime) -> Result<(), Fail> {
     let alloc = rt.alloc();

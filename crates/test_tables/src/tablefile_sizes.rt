@@ -2,7 +2,7 @@
 use crate::texts::{are_same, read, written, zero_table};
 use study_material::Class;
 
-/// Tables of one page, of some, and of a class with a pawn are written as so many bytes, which are read as these tables.
+/// Tables of one page, of some, and of a class with a pawn are written as this many bytes, which are read as these tables.
 #[test]
 fn tables_come_back(rt: HostRuntime) {
     let alloc = rt.alloc();

@@ -1,4 +1,4 @@
-//! Tables as the tests build and change them.
+//! Tables that the tests build and change.
 use std::alloc::Allocator;
 use std::process::Abort;
 use study_material::Class;
@@ -17,7 +17,7 @@ pub fn table_of<'a, A: Allocator>(
     build(class, tables, room).ok().expect(rt, "a table")
 }
 
-/// Builds a table and adds it to the set; answers the report.
+/// Builds a table and adds it to the set; returns the report.
 pub fn built<'a, A: Allocator>(
     rt: &impl Abort,
     alloc: &'a A,
@@ -42,7 +42,7 @@ pub fn set_of<'a, A: Allocator>(
     tables
 }
 
-/// A copy of the held table with one cell changed.
+/// A copy of the loaded table with one cell changed.
 pub fn changed<'a, A: Allocator>(
     rt: &impl Abort,
     alloc: &'a A,
@@ -59,7 +59,7 @@ pub fn changed<'a, A: Allocator>(
     Table::from_cells(class, cells)
 }
 
-/// Whether the table, whose needs the set holds, is verified.
+/// Whether the table, whose needs are in the set, is verified.
 pub fn is_verified<'a, A: Allocator>(
     rt: &impl Abort,
     table: &Table<'a, A>,

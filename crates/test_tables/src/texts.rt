@@ -1,4 +1,4 @@
-//! Texts of tables as the tests make them, and their faults.
+//! Texts of tables that the tests make, and their faults.
 use sha2::{Digest, Sha256};
 use std::alloc::Allocator;
 use std::process::Abort;
@@ -8,7 +8,7 @@ use study_tablefile::{read_table, write_table};
 use study_text::{MemoryReader, MemoryWriter, write_text};
 use study_values::{FileFault, cells};
 
-/// The fields of KK in version 2, which is written.
+/// The fields of KK in version 2, the version that is written.
 pub const KK: &[u8] =
     b"STUDYDTM\x02\x00\x00\x10\x00\x05\x00\x00KK\x00\x00\x00\x00\x00\x00\x00\x00\x00\x00\x00\x00\x00\x00";
 
@@ -48,7 +48,7 @@ pub fn written<'a, A: Allocator>(
     writer.taken
 }
 
-/// The table that a text is read as.
+/// The table that a text reads as.
 pub fn read<'a, A: Allocator>(rt: &impl Abort, alloc: &'a A, text: &[u8]) -> Table<'a, A> {
     match read_table(alloc, &mut MemoryReader::new(text)) {
         Ok(table) => table,
@@ -100,7 +100,7 @@ pub fn text_of<'a, A: Allocator>(rt: &impl Abort, alloc: &'a A, class: Class) ->
     written(rt, alloc, &zero_table(rt, alloc, class))
 }
 
-/// The text of the table of KK with zero cells, as the description of the format has it.
+/// The text of the table of KK with zero cells, by the description of the format.
 pub fn text_of_kk<'a, A: Allocator>(rt: &impl Abort, alloc: &'a A) -> Vec<u8, &'a A> {
     let page = [0u8; 4096];
     let text = one_page(rt, alloc, KK, KK, page.as_slice());
@@ -108,7 +108,7 @@ pub fn text_of_kk<'a, A: Allocator>(rt: &impl Abort, alloc: &'a A) -> Vec<u8, &'
     text
 }
 
-/// A text of 20 pages whose pages 3 and 4 have changed places.
+/// A text of 20 pages with pages 3 and 4 exchanged.
 pub fn exchanged<'a, A: Allocator>(rt: &impl Abort, alloc: &'a A, text: &[u8]) -> Vec<u8, &'a A> {
     assert!(rt; text.len() == 82_624);
     let (head, pages) = text.split_at(64 + 3 * 4128);

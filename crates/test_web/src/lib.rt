@@ -1,4 +1,4 @@
-//! Tests of what is answered to a page: files that are made, scripts over files that are handed in, files that are saved.
+//! Tests of the answers to a page: files that are made, scripts over the files of a request, files that are saved.
 #![tactic(auto)]
 
 #[cfg(test)]

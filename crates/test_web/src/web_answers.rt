@@ -1,4 +1,4 @@
-//! What a page is answered: each request once. The view, the review and the survey are an independent program's.
+//! The answers to a page: each request once. The view, the review and the survey are an independent program's.
 
 use crate::web_scripts::two_files;
 use linked_list_allocator::LocalHeap;
@@ -209,7 +209,7 @@ fn without_tables(rt: HostRuntime) -> Result<(), Fail> {
     Ok(())
 }
 
-/// Whether the words stand in the text.
+/// Whether the text contains the words.
 fn has(text: &[u8], words: &str) -> bool {
     for start in 0..text.len() {
         if text[start..].starts_with(words.as_bytes()) {
@@ -329,8 +329,8 @@ fn refused_by_name(rt: HostRuntime) -> Result<(), Fail> {
     Ok(())
 }
 
-/// Spans that lie outside the bytes are no files; one that cuts a file short, or has another class's file, refuses what needs the file,
-/// and nothing else.
+/// Spans that lie outside the bytes are not files; one that cuts a file short, or has another class's file, refuses only the requests that need the
+/// file.
 #[test]
 fn files_that_are_none(rt: HostRuntime) -> Result<(), Fail> {
     let alloc = rt.alloc();
@@ -362,7 +362,7 @@ fn files_that_are_none(rt: HostRuntime) -> Result<(), Fail> {
 const KINGS: &str =
     "position k7/8/8/8/8/8/8/K7 w - - 0 1\nstipulate white draw\ninsert root Ka2\npgn\n";
 
-/// A file that no position of the script needs is not looked at, though it is damaged.
+/// A file that no position of the script needs is not opened, though it is damaged.
 #[test]
 fn files_that_are_not_needed(rt: HostRuntime) -> Result<(), Fail> {
     let alloc = rt.alloc();
@@ -420,7 +420,7 @@ fn memory_for_an_answer(rt: HostRuntime) -> Result<(), Fail> {
 /// a king on f6.
 const FOUND: &str = "6kR/8/5K2/8/8/8/8/8 b - - 0 1 draw Kxh8\nto 81920 of 81920\n";
 
-/// Positions are found over the files that they need; another file is not looked at.
+/// Positions are found over the files that they need; other files are not opened.
 #[test]
 fn found_over_tables(rt: HostRuntime) -> Result<(), Fail> {
     let alloc = rt.alloc();
@@ -476,7 +476,7 @@ pgn
 # games 1, studies 1
 ";
 
-/// Games come in as PGN; one that says no stipulation wants one.
+/// Games are imported from PGN; one that states no stipulation needs one from the request.
 #[test]
 fn games_come_in(rt: HostRuntime) -> Result<(), Fail> {
     let alloc = rt.alloc();

@@ -51,7 +51,7 @@ fn tables_are_made_from_files(rt: HostRuntime) -> Result<(), Fail> {
     Ok(())
 }
 
-/// A file that is needed is not there, is damaged, or has another table.
+/// A needed file is missing, is damaged, or has another table.
 #[test]
 fn files_are_refused(rt: HostRuntime) -> Result<(), Fail> {
     let alloc = rt.alloc();
@@ -70,7 +70,7 @@ fn files_are_refused(rt: HostRuntime) -> Result<(), Fail> {
     Ok(())
 }
 
-/// The first span of the class that lies within the bytes; spans may overlap.
+/// The first span of the class that lies within the bytes is used; spans may overlap.
 #[test]
 fn spans_that_fit(rt: HostRuntime) -> Result<(), Fail> {
     let bytes = [1u8, 2, 3, 4];

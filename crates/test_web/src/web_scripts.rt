@@ -1,4 +1,4 @@
-//! Scripts over files that are handed in.
+//! Scripts over the files of a request.
 
 use crate::web_files::span;
 use linked_list_allocator::LocalHeap;
@@ -17,7 +17,7 @@ insert root Rh8
 mark 0
 ";
 
-/// By hand: Rh8 mates, and nothing else does.
+/// By hand: Rh8 mates, and no other move does.
 const REPLIES: &[u8] = b"loaded KK cells 1280
 loaded KRK cells 81920
 position k7/8/1K6/8/8/8/8/7R w - - 0 1
@@ -56,7 +56,7 @@ fn whole_and_by_pages(rt: HostRuntime) -> Result<(), Fail> {
     Ok(())
 }
 
-/// A file that is saved is given back, and is the one that is made.
+/// A saved file is returned, and equals the file that is made.
 #[test]
 fn saves_are_given_back(rt: HostRuntime) -> Result<(), Fail> {
     let alloc = rt.alloc();
@@ -101,7 +101,7 @@ fn memory_is_refused(rt: HostRuntime) -> Result<(), Fail> {
 /// The answer to a request of one line that is refused.
 const HANDED_BACK: &[u8] = b"ran 1 1\nerror NoPosition\n";
 
-/// The ending and the text are handed back, as much of both as there is room for; the length is that of both, and what lies behind is as it was.
+/// The ending and the text are returned, as much of both as fits; the length is that of both, and the bytes after them are unchanged.
 #[test]
 fn the_answer_is_handed_back(rt: HostRuntime) {
     let alloc = rt.alloc();

@@ -261,7 +261,7 @@ loop-n-preserved g c =
           (ap (λ i. c.loop-n.refused + i) counted) (ap (λ i. c.loop-n.studies + i) numbered),
     )
 
--- ---- what is written, whatever is held
+-- ---- what is written, whatever the tables say
 
 pub returns-in-Err-TooLong-clause-fits : goal.returns-in-Err-TooLong-clause-fits
 returns-in-Err-TooLong-clause-fits g c =

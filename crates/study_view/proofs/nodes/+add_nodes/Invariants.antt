@@ -12,7 +12,7 @@ use Rattle.study_view.proofs.nodes.+add_nodes.Given as goal
 abbrev pub decreases-add_nodes : goal.decreases-add_nodes
 decreases-add_nodes g l = nodes_in (below_at (marked l.bench.now).tree.below l.steps.now.items)
 
--- what is written, and any lines of the nodes that are left, are lines of all
+-- the text so far, followed by the lines of the nodes that are left, is the lines of all
 abbrev pub invariant-loop-place : goal.invariant-loop-place
 invariant-loop-place g l = record {
   nodes : GoesOn (IsNodeLine (marked l.bench)) l.fn.steps.items
