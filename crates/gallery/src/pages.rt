@@ -101,6 +101,8 @@ fn write_all<'a, A: Allocator, W: Write>(alloc: &'a A, out: &mut W) -> Option<()
 }
 
 /// Writes the pages as one file.
+///
+/// No contract: the output is compared with the stored one.
 pub fn write_pages<W: Write>(alloc: Global, out: &mut W) -> io::Result<()> {
     match write_all(&alloc, out) {
         Some(()) => Ok(()),

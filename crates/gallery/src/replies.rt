@@ -12,6 +12,8 @@ use study_script::{
 use study_table::TableSet;
 
 /// Answers and reports the scripts of these names, one after the other.
+///
+/// No contract: the output is compared with the stored one.
 pub fn answer_scripts<W: Write>(rt: &HostRuntime, names: &[String], out: &mut W) -> io::Result<()> {
     let alloc = rt.alloc();
     for name in names {

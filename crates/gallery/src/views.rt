@@ -25,6 +25,8 @@ struct Files<'a, A: Allocator> {
 }
 
 /// Answers each request, after the line of the request.
+///
+/// No contract: the output is compared with the stored one.
 pub fn answer_requests<W: Write>(rt: &HostRuntime, out: &mut W) -> io::Result<()> {
     let alloc = rt.alloc();
     let mut files = Files {
