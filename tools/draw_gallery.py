@@ -94,8 +94,8 @@ def pages():
         table.append(line)
     head = """# The gallery
 
-Published studies and endings with two to four men, each with its script, its replies and the facts of its report. The verdicts are strict: a move
-that only loses time is a dual, so some well known studies are unsound by the letter. [The notes](../../crates/gallery/data/README.md) say how the
+Published studies and endings with two to four men, each with its script, its replies and the facts of its report. The verdicts are strict: a waste
+of time counts as a dual, so some well-known studies are unsound by the letter. [The notes](../../crates/gallery/data/README.md) explain how the
 gallery is run and where its expected replies come from.
 
 | | |
