@@ -419,18 +419,29 @@ def faults(study):
     return inside("ul", items, 'class="faults"') if items else ""
 
 
+def stamp_of(study):
+    """The words of the stamp."""
+    waste = study.of("waste")
+    if study.verdict == "sound" and ["empty"] in study.facts:
+        return "holds"
+    return " ".join(waste[0]) if waste else study.verdict
+
+
 def verdict(study):
     empty = ["empty"] in study.facts
     stamp = study.verdict.split()[0]
+    frame = "sound" if stamp_of(study).startswith("sound") else stamp
     if stamp == "wrong":
         words = "The stipulation does not hold."
     elif stamp == "sound":
         words = "The stipulation holds." if empty else "The stipulation holds, and each move of the solution is the only one."
     else:
         n = int(study.verdict.split()[1])
-        words = "The stipulation holds; the solution has " + ("one fault." if n == 1 else f"{n} faults.")
+        time = time_faults([" ".join(fact) for fact in study.facts])
+        lose = "" if not time else (", which" if time == n else f", of which {time}") + (" loses" if time == 1 else " lose") + " time alone"
+        words = "The stipulation holds; the solution has " + ("one fault" if n == 1 else f"{n} faults") + lose + "."
     words += " No move of the solution was given." if empty else ""
-    return inside("section", inside("h2", inside("span", say(study.verdict), f'class="stamp {stamp}"')) + inside("p", say(words))
+    return inside("section", inside("h2", inside("span", say(stamp_of(study)), f'class="stamp {frame}"')) + inside("p", say(words))
                   + inside("p", say(f"At the start: {study.start_value}.")) + faults(study), 'class="verdict"')
 
 
@@ -519,6 +530,17 @@ def tries(study):
     return table("Tries and their refutations", ("After", "Left", "Refuted by"), rows)
 
 
+def zugzwang_rows(study):
+    rows = ""
+    for path, facts in told_of(study, "zugzwang"):
+        kind = facts[0][1:]
+        white = "draw" if kind == ["half", "white"] else "Black wins"
+        black = "draw" if kind == ["half", "black"] else "White wins"
+        label = inside("span", "full point" if kind == ["full"] else "half a point", 'class="tag"')
+        rows += inside("tr", inside("td", say(study.label(path)) + " " + label) + inside("td", white) + inside("td", black))
+    return table("Mutual zugzwangs", ("After", "White to move", "Black to move"), rows)
+
+
 def defences(study):
     rows = ""
     for path, missing in told_of(study, "missing"):
@@ -567,7 +589,7 @@ FOOT = ("Values are distances to mate from complete tables of two to four men, w
 def page(study, number):
     return inside("article", head(study) + inside("div", figure(study) + verdict(study), 'class="top"')
                   + inside("section", inside("h2", "Solution") + inside("div", following(study, (), True), 'class="tree"'))
-                  + cards(study) + tries(study) + defences(study) + ends(study) + inside("footer", FOOT), f'id="e{number}"')
+                  + cards(study) + tries(study) + zugzwang_rows(study) + defences(study) + ends(study) + inside("footer", FOOT), f'id="e{number}"')
 
 
 def summary(studies):
@@ -576,7 +598,7 @@ def summary(studies):
         event = study.tags["Event"] if study.tags["Event"] != "?" else "Untitled"
         white = study.tags["White"] if study.tags["White"] != "?" else ""
         rows += inside("tr", inside("td", str(number)) + inside("td", inside("a", say(event), f'href="#e{number}"')) + inside("td", say(white))
-                       + inside("td", say(study.asked)) + inside("td", say(study.verdict)))
+                       + inside("td", say(study.asked)) + inside("td", say(stamp_of(study))))
     heads = "".join(inside("th", h) for h in ("No.", "Title", "Author", "Stipulation", "Verdict"))
     return inside("article", inside("header", inside("h1", "Entries and verdicts"))
                   + inside("table", inside("thead", inside("tr", heads)) + inside("tbody", rows)), 'class="sum"')

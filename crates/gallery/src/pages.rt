@@ -7,7 +7,7 @@ use study_html::{Html, write_closing, write_opening};
 use study_marks::{Bench, Goal, MateMoves, Stipulation, TagName};
 use study_material::Class;
 use study_notation::{read_fen, read_san};
-use study_page::{add_entry, write_page, write_refusal, write_summary};
+use study_page::{Listed, write_page, write_refusal, write_summary};
 use study_prober::WholeTables;
 use study_retro::{BuildRoom, build};
 use study_table::TableSet;
@@ -91,8 +91,12 @@ fn write_all<'a, A: Allocator, W: Write>(alloc: &'a A, out: &mut W) -> Option<()
     write_opening(out).ok()?;
     for (number, moves) in [(1, 3), (2, 4)] {
         let bench = study(alloc, &mut values, moves)?;
-        write_page(alloc, &bench, &mut values, number, out).ok()?;
-        add_entry(alloc, &mut entries, &bench, number).ok()?;
+        let list = Listed {
+            alloc,
+            rows: &entries,
+        };
+        let more = write_page(alloc, &bench, &mut values, number, list, out).ok()?;
+        entries = more;
     }
     let reason = b"a letter outside plain ASCII & 'so'";
     write_refusal(alloc, 7, b"insert root <b>\xE9", b"BadByte", reason, out).ok()?;

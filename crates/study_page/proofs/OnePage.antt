@@ -18,14 +18,13 @@ use Rattle.study_marks.specs.Study.{Study, position_at}
 use Rattle.study_marks.specs.Goals.{aim_of, holds}
 use Rattle.study_review.specs.Line.{line_to, moves_of}
 use Rattle.study_review.specs.Nodes.{front_of, mark_at, value_at, is_try, is_defended, is_open_end, is_solution_move}
-use Rattle.study_review.proofs.OneReview.{One, one-chosen, one-alternatives, one-defences, one-play, one-where, one-match, one-each}
-use Rattle.study_page.specs.declared.walk.Part.{Part}
-use Rattle.study_page.specs.declared.walk.Part.TheVariants as part
+use Rattle.study_review.proofs.OneReview.{One, one-chosen, one-alternatives, one-defences, one-play, one-where, one-match, one-each, one-time-count}
 use Rattle.study_page.specs.Words.{where_words}
 use Rattle.study_page.specs.Rows.{IsFaultOf, FaultItems, IsCardOf, Cards, TryRows, DefenceRows, IsPlay, IsEnd, EndRows}
 use Rattle.study_page.specs.Rows.{dual_item, card, try_row, defence_row, end_row, play_words, keep_words}
-use Rattle.study_page.specs.Made.{RowsOf}
-use Rattle.study_page.specs.Page.{AreRows, page_text, PagesAreUnique}
+use Rattle.study_page.specs.Rows.{zugzwang_rows, ZugzwangRows}
+use Rattle.study_review.proofs.ZugzwangTold.{one-kind}
+use Rattle.study_page.specs.Page.{page_text, PagesAreUnique}
 use Rattle.study_review.specs.Review.{written_order}
 
 module _ (law : EachHasAtMostOneValue) (start : Start) (a : Aim) (d : ℕ) (line : List Position) (p : Position) (m : Move) (v : Value) where
@@ -78,23 +77,19 @@ module _ (law : EachHasAtMostOneValue) (s : Study Mark) (path : List ℕ) where
   ends-once = one-where (is_open_end s path) _
       (one-end law s.start (length path) (where_words s path) (position_at s path) (value_at s path))
 
-  rows-once : (p : Part) → One (RowsOf p s path)
-  rows-once part.Faults = faults-once
-  rows-once part.Duals = cards-once
-  rows-once part.Tries = tries-once
-  rows-once part.Defences = defences-once
-  rows-once part.Ends = ends-once
-
-one-rows : EachHasAtMostOneValue → (p : Part) (s : Study Mark) → One (AreRows p s)
-one-rows law p s = one-each (RowsOf p s) (λ path. rows-once law s path p) (written_order s)
+  zugzwangs-once : One (ZugzwangRows s path)
+  zugzwangs-once t u h j = h.2 ∙ ap (zugzwang_rows (where_words s path)) (one-kind law (position_at s path) h.0 j.0 h.1 j.1) ∙ sym j.2
 
 pub one-page : EachHasAtMostOneValue → PagesAreUnique
 one-page law s n t u h j =
-    let one = one-rows law part.Faults s h.0 j.0 h.5 j.5 in
-    let two = one-rows law part.Duals s h.1 j.1 h.6 j.6 in
-    let three = one-rows law part.Tries s h.2 j.2 h.7 j.7 in
-    let four = one-rows law part.Defences s h.3 j.3 h.8 j.8 in
-    let five = one-rows law part.Ends s h.4 j.4 h.9 j.9 in
-    h.10 ∙ ap (λ (x : List ℕ). page_text s n x h.1 h.2 h.3 h.4) one ∙ ap (λ (x : List ℕ). page_text s n j.0 x h.2 h.3 h.4) two
-    ∙ ap (λ (x : List ℕ). page_text s n j.0 j.1 x h.3 h.4) three ∙ ap (λ (x : List ℕ). page_text s n j.0 j.1 j.2 x h.4) four
-    ∙ ap (λ (x : List ℕ). page_text s n j.0 j.1 j.2 j.3 x) five ∙ sym j.10
+    let one = one-each (FaultItems s) (faults-once law s) (written_order s) h.0 j.0 h.7 j.7 in
+    let time = one-time-count law s h.6 j.6 h.8 j.8 in
+    let two = one-each (Cards s) (cards-once law s) (written_order s) h.1 j.1 h.9 j.9 in
+    let three = one-each (TryRows s) (tries-once law s) (written_order s) h.2 j.2 h.10 j.10 in
+    let four = one-each (ZugzwangRows s) (zugzwangs-once law s) (written_order s) h.3 j.3 h.11 j.11 in
+    let five = one-each (DefenceRows s) (defences-once law s) (written_order s) h.4 j.4 h.12 j.12 in
+    let six = one-each (EndRows s) (ends-once law s) (written_order s) h.5 j.5 h.13 j.13 in
+    h.14 ∙ ap (λ k. page_text s n k h.0 h.1 h.2 h.3 h.4 h.5) time
+    ∙ ap (λ (x : List ℕ). page_text s n j.6 x h.1 h.2 h.3 h.4 h.5) one ∙ ap (λ (x : List ℕ). page_text s n j.6 j.0 x h.2 h.3 h.4 h.5) two
+    ∙ ap (λ (x : List ℕ). page_text s n j.6 j.0 j.1 x h.3 h.4 h.5) three ∙ ap (λ (x : List ℕ). page_text s n j.6 j.0 j.1 j.2 x h.4 h.5) four
+    ∙ ap (λ (x : List ℕ). page_text s n j.6 j.0 j.1 j.2 j.3 x h.5) five ∙ ap (λ (x : List ℕ). page_text s n j.6 j.0 j.1 j.2 j.3 j.4 x) six ∙ sym j.14

@@ -7,6 +7,6 @@ pub mod Verdict
 pub mod Rows
 pub mod Tree
 pub mod Made
-pub mod Page
 pub mod Lists
 pub mod Sheet
+pub mod Page

@@ -17,12 +17,13 @@ refusal_part line text name reason =
     inside Warning (said (codes "Line " ++ (decimal line ++ codes " was refused: ")) ++ (inside Code (said text) ++ (said (codes " ")
     ++ (inside Strong (said name) ++ (said (codes ": ") ++ said reason)))))
 
--- an entry: its number, its title, which leads to its page, its author, what is asked for, and the verdict
-unfoldable pub summary_row : Study Mark → ℕ → List ℕ
-summary_row s number =
+-- an entry: its number, its title, which leads to its page, its author, what is asked for, and the verdict on a study of whose faults so many
+-- lose time alone
+unfoldable pub summary_row : Study Mark → ℕ → ℕ → List ℕ
+summary_row s time number =
     inside Row (inside Cell (said (decimal number)) ++ (inside Cell (inside (Link number) (said (title_words (known (tag_of s.tags Event)))))
     ++ (inside Cell (said (known (tag_of s.tags White)))
-    ++ (inside Cell (said (stipulation_text s.stipulation)) ++ inside Cell (said (stamp_words (judged s).stamp))))))
+    ++ (inside Cell (said (stipulation_text s.stipulation)) ++ inside Cell (said (stamp_words (judged s time).stamp))))))
 
 unfoldable pub two_heads : List ℕ → List ℕ → List ℕ
 two_heads a b = inside Head (said a) ++ inside Head (said b)

@@ -3,20 +3,19 @@ use Rattle.std.specs.Prelude.{◌≡◌, ◌==◌, ℕ, List, [], ◌++◌, leng
 use Rattle.study_marks.specs.declared.mark.Mark.{Mark}
 use Rattle.study_marks.specs.Study.{Study, plain_study}
 use Rattle.study_marks.specs.Annotated.{IsAnnotated}
-use Rattle.study_review.specs.Review.{LinesOfEach, written_order}
+use Rattle.study_review.specs.Review.{LinesOfEach, AreTimeFaults, written_order}
 use Rattle.study_html.specs.declared.element.Element.TheVariants as element
 use Rattle.study_html.specs.Escape.{said}
 use Rattle.study_html.specs.Elements.{inside}
-use Rattle.study_page.specs.declared.walk.Part.{Part}
-use Rattle.study_page.specs.declared.walk.Part.TheVariants as part
 use Rattle.study_page.specs.Head.{head, figure}
 use Rattle.study_page.specs.Verdict.{verdict_part, judged}
 use Rattle.study_page.specs.Tree.{solution_words}
-use Rattle.study_page.specs.Made.{RowsOf}
+use Rattle.study_page.specs.Lists.{summary_row}
+use Rattle.study_page.specs.Rows.{FaultItems, Cards, TryRows, ZugzwangRows, DefenceRows, EndRows}
 
--- what the part has of the root and of all nodes, in written order
-abbrev pub AreRows : Part → Study Mark → List ℕ → Type 0
-AreRows p s rows = LinesOfEach (RowsOf p s) (written_order s) rows
+-- what a part has of the root and of all nodes, in written order, by what it has of each
+abbrev pub AreRows : (Study Mark → List ℕ → List ℕ → Type 0) → Study Mark → List ℕ → Type 0
+AreRows Rows s rows = LinesOfEach (Rows s) (written_order s) rows
 
 -- ---- how it is laid out
 
@@ -58,40 +57,55 @@ foot_words =
 unfoldable pub tries_title : List ℕ
 tries_title = codes "Tries and their refutations"
 
+unfoldable pub zugzwangs_title : List ℕ
+zugzwangs_title = codes "Mutual zugzwangs"
+
 unfoldable pub missing_title : List ℕ
 missing_title = codes "Defences that are not in the tree"
 
 unfoldable pub ends_title : List ℕ
 ends_title = codes "Best play from the open ends"
 
-unfoldable pub tables : List ℕ → List ℕ → List ℕ → List ℕ
-tables tries defences ends =
+-- of the positions that are left
+unfoldable pub last_tables : List ℕ → List ℕ → List ℕ
+last_tables defences ends =
+    table_part missing_title (heads (codes "After") (codes "One answer") (codes "Several")) defences
+    ++ table_part ends_title (heads (codes "After") (codes "Value") (codes "Goes on")) ends
+
+unfoldable pub tables : List ℕ → List ℕ → List ℕ → List ℕ → List ℕ
+tables tries zugzwangs defences ends =
     table_part tries_title (heads (codes "After") (codes "Left") (codes "Refuted by")) tries
-    ++ (table_part missing_title (heads (codes "After") (codes "One answer") (codes "Several")) defences
-    ++ table_part ends_title (heads (codes "After") (codes "Value") (codes "Goes on")) ends)
+    ++ (table_part zugzwangs_title (heads (codes "After") (codes "White to move") (codes "Black to move")) zugzwangs
+    ++ last_tables defences ends)
 
 -- the diagram and the verdict, side by side
-unfoldable pub top : Study Mark → List ℕ → List ℕ
-top s faults = inside element.Top (figure s.stipulation s.start ++ verdict_part (judged s) faults)
+unfoldable pub top : Study Mark → ℕ → List ℕ → List ℕ
+top s time faults = inside element.Top (figure s.stipulation s.start ++ verdict_part (judged s time) faults)
 
-unfoldable pub page_text : Study Mark → ℕ → List ℕ → List ℕ → List ℕ → List ℕ → List ℕ → List ℕ
-page_text s number faults duals tries defences ends =
-    inside (element.Entry number) (head s.tags ++ (top s faults ++ (solution_part (solution_words s) ++ (cards_part duals
-    ++ (tables tries defences ends ++ inside element.Foot (said foot_words))))))
+unfoldable pub page_text : Study Mark → ℕ → ℕ → List ℕ → List ℕ → List ℕ → List ℕ → List ℕ → List ℕ → List ℕ
+page_text s number time faults duals tries zugzwangs defences ends =
+    inside (element.Entry number) (head s.tags ++ (top s time faults ++ (solution_part (solution_words s) ++ (cards_part duals
+    ++ (tables tries zugzwangs defences ends ++ inside element.Foot (said foot_words))))))
 
 -- ---- what it says
 
--- The page of an annotated study, its entry of this number: head, diagram and verdict, the tree of the solution, and then part by part
--- what each has of the nodes.
+-- The page of an annotated study, its entry of this number: head, diagram and verdict, of whose faults so many lose time alone, the tree of
+-- the solution, and then part by part what each has of the nodes.
 abbrev pub IsPage : Study Mark → ℕ → List ℕ → Type 0
 IsPage s number text =
-    (faults duals tries defences ends : List ℕ)
-    × AreRows part.Faults s faults
-    × AreRows part.Duals s duals
-    × AreRows part.Tries s tries
-    × AreRows part.Defences s defences
-    × AreRows part.Ends s ends
-    × (text ≡ page_text s number faults duals tries defences ends)
+    (faults duals tries zugzwangs defences ends : List ℕ) × (time : ℕ)
+    × AreRows FaultItems s faults
+    × AreTimeFaults s time
+    × AreRows Cards s duals
+    × AreRows TryRows s tries
+    × AreRows ZugzwangRows s zugzwangs
+    × AreRows DefenceRows s defences
+    × AreRows EndRows s ends
+    × (text ≡ page_text s number time faults duals tries zugzwangs defences ends)
+
+-- the row of an annotated study in the list of all
+abbrev pub IsRow : Study Mark → ℕ → List ℕ → Type 0
+IsRow s number row = (time : ℕ) × AreTimeFaults s time × (row ≡ summary_row s time number)
 
 -- each page is one element, the entry of its number, whatever the values are
 abbrev pub IsEntry : ℕ → List ℕ → Type 0

@@ -33,6 +33,9 @@ use Rattle.study_review.specs.Defences.{AreDefences}
 use Rattle.study_review.specs.Best.{IsBestPlay}
 use Rattle.study_review.specs.Line.{line_to, moves_of}
 use Rattle.study_review.specs.Words.{move_words}
+use Rattle.study_review.specs.declared.zugzwang.Zugzwang.{Zugzwang}
+use Rattle.study_review.specs.declared.zugzwang.Zugzwang.TheVariants.{Full, Half}
+use Rattle.study_review.specs.Zugzwang.{IsZugzwangOf}
 use Rattle.study_review.specs.Nodes.{front_of, OnlyWhere, mark_at, value_at, is_stalemate, is_try, is_defended, is_open_end, is_solution_move}
 use Rattle.study_html.specs.declared.element.Element.TheVariants.{Strong, Small, Below, Item, Card, Beside, CardTitle, Label, Also}
 use Rattle.study_html.specs.declared.element.Element.TheVariants.{Paragraph, Row, Cell, Whole, Group, Answer}
@@ -204,6 +207,34 @@ TryRows s path text =
     OnlyWhere (is_try s path) (λ t. (list : List Continuation)
     × AreRefutations (aim_of s) (length path) (position_at s path) list
     × (t ≡ try_row (where_words s path) (position_at s path) (value_at s path) list)) text
+
+-- ---- mutual zugzwangs
+
+abbrev pub points_words : Zugzwang → List ℕ
+points_words Full = codes "full point"
+points_words (Half side) = codes "half a point"
+
+-- what comes of it with this side to move
+abbrev pub to_move_words : Zugzwang → Side → List ℕ
+to_move_words Full White = codes "Black wins"
+to_move_words Full Black = codes "White wins"
+to_move_words (Half White) White = codes "draw"
+to_move_words (Half White) Black = codes "White wins"
+to_move_words (Half Black) White = codes "Black wins"
+to_move_words (Half Black) Black = codes "draw"
+
+unfoldable pub zugzwang_row : List ℕ → Zugzwang → List ℕ
+zugzwang_row node z =
+    inside Row (inside Cell (said node ++ (said (codes " ") ++ inside Label (said (points_words z))))
+    ++ (inside Cell (said (to_move_words z White)) ++ inside Cell (said (to_move_words z Black))))
+
+abbrev pub zugzwang_rows : List ℕ → Option Zugzwang → List ℕ
+zugzwang_rows node None = []
+zugzwang_rows node (Some z) = zugzwang_row node z
+
+-- a row where the position of the node is a mutual zugzwang
+abbrev pub ZugzwangRows : Study Mark → List ℕ → List ℕ → Type 0
+ZugzwangRows s path text = (z : Option Zugzwang) × IsZugzwangOf (position_at s path) z × (text ≡ zugzwang_rows (where_words s path) z)
 
 -- ---- defences
 

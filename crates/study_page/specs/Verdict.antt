@@ -8,53 +8,69 @@ use Rattle.study_marks.specs.Goals.{aim_of}
 use Rattle.study_marks.specs.Verdict.{Verdict, wrong, sound, unsound, verdict}
 use Rattle.study_pgn.specs.Values.{value_text}
 use Rattle.study_review.specs.Review.{is_empty}
+use Rattle.study_review.specs.Words.{alone_words, time_verdict}
 use Rattle.study_html.specs.declared.element.Element.{Element}
 use Rattle.study_html.specs.declared.element.Element.TheVariants as element
 use Rattle.study_html.specs.Escape.{said}
 use Rattle.study_html.specs.Elements.{inside}
 use Rattle.study_page.specs.declared.verdict.Stamp.{Stamp}
-use Rattle.study_page.specs.declared.verdict.Stamp.TheVariants.{Wrong, Sound, Unsound}
+use Rattle.study_page.specs.declared.verdict.Stamp.TheVariants.{Wrong, Sound, Holds, Unsound}
 use Rattle.study_page.specs.declared.verdict.Judged.{Judged}
 
-abbrev pub stamp_of : Verdict → Stamp
-stamp_of wrong = Wrong
-stamp_of sound = Sound
-stamp_of (unsound n) = Unsound n
+-- by whether the solution has no move of the hero, and how many of its faults lose time alone
+abbrev pub stamp_of : Verdict → Bool → ℕ → Stamp
+stamp_of wrong e time = Wrong
+stamp_of sound e time = if e then Holds else Sound
+stamp_of (unsound faults) e time = Unsound faults time
 
+-- a study that is sound but for loss of time is framed as a sound one
 abbrev pub stamp_element : Stamp → Element
 stamp_element Wrong = element.Wrong
 stamp_element Sound = element.Sound
-stamp_element (Unsound n) = element.Unsound
+stamp_element Holds = element.Sound
+stamp_element (Unsound faults time) = if time == faults then element.Sound else element.Unsound
 
--- `sound`, `unsound 3`, `wrong`
+-- `sound`, `holds`, `unsound 3`, `unsound 5, 4 lose time alone`, `sound but for loss of time`, `wrong`
 abbrev pub stamp_words : Stamp → List ℕ
 stamp_words Wrong = codes "wrong"
 stamp_words Sound = codes "sound"
-stamp_words (Unsound n) = codes "unsound " ++ decimal n
+stamp_words Holds = codes "holds"
+stamp_words (Unsound faults time) = if time == 0 then codes "unsound " ++ decimal faults else time_verdict faults time
 
 unfoldable pub stamp_part : Stamp → List ℕ
 stamp_part v = inside element.Heading (inside (stamp_element v) (said (stamp_words v)))
 
-abbrev pub holds_words : Bool → Stamp → List ℕ
-holds_words e Wrong = codes "The stipulation does not hold."
-holds_words e Sound =
-    if e then codes "The stipulation holds." else codes "The stipulation holds, and each move of the solution is the only one."
-holds_words e (Unsound n) = codes "The stipulation holds; the solution has "
+abbrev pub holds_words : Stamp → List ℕ
+holds_words Wrong = codes "The stipulation does not hold."
+holds_words Sound = codes "The stipulation holds, and each move of the solution is the only one."
+holds_words Holds = codes "The stipulation holds."
+holds_words (Unsound faults time) = codes "The stipulation holds; the solution has "
 
-abbrev pub faults_words : ℕ → List ℕ
-faults_words n = if n == 1 then codes "one fault." else (decimal n ++ codes " faults.")
+abbrev pub number_words : ℕ → List ℕ
+number_words n = if n == 1 then codes "one fault" else (decimal n ++ codes " faults")
+
+-- `, which lose time alone`, `, of which 4 lose time alone`
+abbrev pub which_words : ℕ → ℕ → List ℕ
+which_words faults time = if time == faults then codes ", which" else (codes ", of which " ++ decimal time)
+
+abbrev pub lost_words : ℕ → ℕ → List ℕ
+lost_words faults time = if time == 0 then [] else (which_words faults time ++ alone_words time)
+
+abbrev pub faults_words : ℕ → ℕ → List ℕ
+faults_words faults time = number_words faults ++ (lost_words faults time ++ codes ".")
 
 abbrev pub count_words : Stamp → List ℕ
 count_words Wrong = []
 count_words Sound = []
-count_words (Unsound n) = faults_words n
+count_words Holds = []
+count_words (Unsound faults time) = faults_words faults time
 
 -- where the solution has no move of the hero
 abbrev pub none_given : Bool → List ℕ
 none_given e = if e then codes " No move of the solution was given." else []
 
 unfoldable pub sentence : Bool → Stamp → List ℕ
-sentence e v = holds_words e v ++ (count_words v ++ none_given e)
+sentence e v = holds_words v ++ (count_words v ++ none_given e)
 
 unfoldable pub at_start : List ℕ
 at_start = codes "At the start: "
@@ -71,10 +87,10 @@ verdict_part j faults =
     inside element.Verdict (stamp_part j.stamp ++ (inside element.Paragraph (said (sentence j.empty j.stamp))
     ++ (inside element.Paragraph (said (start_words j.first j.value)) ++ fault_list faults)))
 
--- what a judge reads of a study
-abbrev pub judged : Study Mark → Judged
-judged s = record {
-  stamp = stamp_of (verdict s);
+-- what a judge reads of a study of whose faults so many lose time alone
+abbrev pub judged : Study Mark → ℕ → Judged
+judged s time = record {
+  stamp = stamp_of (verdict s) (is_empty (aim_of s).hero_first s.tree.below) time;
   empty = is_empty (aim_of s).hero_first s.tree.below;
   first = s.start.position.to_move;
   value = s.tree.label.value;

@@ -6,12 +6,11 @@ ghost use Rattle.study_page.specs.Rows.{lost_words, bracket_words, named_words, 
 ghost use Rattle.study_page.specs.Rows.{lets_go, mistake_item};
 
 use crate::items::{add_difference, loses_time};
-use crate::words::add_label;
+use crate::words::{Ply, add_label};
 use std::alloc::{AllocError, Allocator};
 use study_board::Position;
 use study_html::{Element, Html, put_words};
 use study_moves::Move;
-use study_notation::Start;
 use study_pgn::{add_san, add_value};
 use study_review::{Alternative, Continuation};
 use study_text::Text;
@@ -162,20 +161,19 @@ fn add_others<'a, A: Allocator>(
 pub fn put_dual<'a, A: Allocator>(
     alloc: &'a A,
     html: &mut Html<'_, A>,
-    start: &Start,
-    depth: usize,
-    p: &Position,
+    ply: &Ply<'_>,
     x: &Continuation,
     list: &[Alternative],
 ) -> Result<(), AllocError>
     requires few { length list.now < 2 ^ 32 }
-    requires legal { is_legal p.now x.now.played ≡ true }
-    requires others { All (λ y. is_legal p.now y.played ≡ true) list.now }
-    ensures { OnOk result (html.new ≡ html.old ++ dual_item start.now depth p.now x.now.played x.now.value list.now) }
+    requires legal { is_legal ply.now.position.now x.now.played ≡ true }
+    requires others { All (λ y. is_legal ply.now.position.now y.played ≡ true) list.now }
+    ensures { OnOk result (html.new ≡ html.old
+        ++ dual_item ply.now.start.now ply.now.depth ply.now.position.now x.now.played x.now.value list.now) }
 {
     let mut text = Text::new(alloc);
-    add_label(&mut text, start, depth, p, x.played)?;
-    add_others(alloc, &mut text, p, x.value, list)?;
+    add_label(&mut text, ply.start, ply.depth, ply.position, x.played)?;
+    add_others(alloc, &mut text, ply.position, x.value, list)?;
     put_words(alloc, html, Element::Item, text.as_slice())
 }
 
@@ -191,18 +189,16 @@ fn lets_go() -> &'static [u8]
 pub fn put_mistake<'a, A: Allocator>(
     alloc: &'a A,
     html: &mut Html<'_, A>,
-    start: &Start,
-    depth: usize,
-    p: &Position,
+    ply: &Ply<'_>,
     m: Move,
     value: Value,
 ) -> Result<(), AllocError>
-    requires { is_legal p.now m ≡ true }
-    ensures { OnOk result (html.new ≡ html.old ++ mistake_item start.now depth p.now m value) }
+    requires { is_legal ply.now.position.now m ≡ true }
+    ensures { OnOk result (html.new ≡ html.old ++ mistake_item ply.now.start.now ply.now.depth ply.now.position.now m value) }
 {
     let mut text = Text::new(alloc);
-    add_label(&mut text, start, depth, p, m)?;
+    add_label(&mut text, ply.start, ply.depth, ply.position, m)?;
     text.add(lets_go())?;
-    add_value(&mut text, p.to_move().other(), value)?;
+    add_value(&mut text, ply.position.to_move().other(), value)?;
     put_words(alloc, html, Element::Item, text.as_slice())
 }

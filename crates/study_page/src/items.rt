@@ -9,17 +9,18 @@ ghost use Rattle.study_html.specs.Escape.{said};
 ghost use Rattle.study_html.specs.Elements.{inside};
 ghost use Rattle.study_page.specs.Rows.{loses_time, forced_words, time_words, move_word, by_words, later_words, difference, also_words, also_item};
 ghost use Rattle.study_page.specs.Rows.{card_title, card_words, card, front_cells, told_move, refuted_item, refuted_items, of_all, refuted_count, try_row};
+ghost use Rattle.study_page.specs.Rows.{points_words, to_move_words, zugzwang_row};
 
 use crate::diagram::draw_mini;
 use crate::signs::is_stalemate;
-use crate::words::{add_label, add_short};
+use crate::words::{Ply, add_label, add_short};
 use std::alloc::{AllocError, Allocator};
 use study_board::{Position, Side};
 use study_html::{Element, Html, put_words};
 use study_moves::{Move, legal_moves};
 use study_notation::Start;
 use study_pgn::{add_san, add_value};
-use study_review::{Alternative, Continuation};
+use study_review::{Alternative, Continuation, Zugzwang};
 use study_text::Text;
 use study_values::Value;
 
@@ -162,19 +163,17 @@ fn put_each_also<'a, A: Allocator>(
 fn put_card_title<'a, A: Allocator>(
     alloc: &'a A,
     html: &mut Html<'_, A>,
-    start: &Start,
-    depth: usize,
-    p: &Position,
+    ply: &Ply<'_>,
     m: Move,
     count: u8,
 ) -> Result<(), AllocError>
-    requires { is_legal p.now m ≡ true }
-    ensures { OnOk result (html.new ≡ html.old ++ card_title start.now depth p.now m count) }
+    requires { is_legal ply.now.position.now m ≡ true }
+    ensures { OnOk result (html.new ≡ html.old ++ card_title ply.now.start.now ply.now.depth ply.now.position.now m count) }
 {
     let mut title = Html::new(alloc);
     let mut text = Text::new(alloc);
     let mut dual = Text::new(alloc);
-    add_label(&mut text, start, depth, p, m)?;
+    add_label(&mut text, ply.start, ply.depth, ply.position, m)?;
     text.add(b" ")?;
     title.say(text.as_slice())?;
     dual.add(b"dual ")?;
@@ -219,18 +218,18 @@ fn put_others<'a, A: Allocator>(
 fn put_card_words<'a, A: Allocator>(
     alloc: &'a A,
     html: &mut Html<'_, A>,
-    start: &Start,
-    depth: usize,
-    p: &Position,
+    ply: &Ply<'_>,
     x: &Continuation,
     count: u8,
     list: &[Alternative],
 ) -> Result<(), AllocError>
-    requires legal { is_legal p.now x.now.played ≡ true }
-    requires others { All (λ y. is_legal p.now y.played ≡ true) list.now }
-    ensures { OnOk result (html.new ≡ html.old ++ card_words start.now depth p.now x.now.played count x.now.value list.now) }
+    requires legal { is_legal ply.now.position.now x.now.played ≡ true }
+    requires others { All (λ y. is_legal ply.now.position.now y.played ≡ true) list.now }
+    ensures { OnOk result (html.new ≡ html.old
+        ++ card_words ply.now.start.now ply.now.depth ply.now.position.now x.now.played count x.now.value list.now) }
 {
-    put_card_title(alloc, html, start, depth, p, x.played, count)?;
+    let p = ply.position;
+    put_card_title(alloc, html, ply, x.played, count)?;
     put_after(alloc, html, p.to_move().other(), x.value)?;
     put_others(alloc, html, p, x.value, list)
 }
@@ -240,21 +239,20 @@ fn put_card_words<'a, A: Allocator>(
 pub fn put_card<'a, A: Allocator>(
     alloc: &'a A,
     html: &mut Html<'_, A>,
-    start: &Start,
-    depth: usize,
-    p: &Position,
+    ply: &Ply<'_>,
     x: &Continuation,
     count: u8,
     list: &[Alternative],
 ) -> Result<(), AllocError>
-    requires legal { is_legal p.now x.now.played ≡ true }
-    requires others { All (λ y. is_legal p.now y.played ≡ true) list.now }
-    ensures { OnOk result (html.new ≡ html.old ++ card start.now depth p.now x.now.played count x.now.value list.now) }
+    requires legal { is_legal ply.now.position.now x.now.played ≡ true }
+    requires others { All (λ y. is_legal ply.now.position.now y.played ≡ true) list.now }
+    ensures { OnOk result (html.new ≡ html.old
+        ++ card ply.now.start.now ply.now.depth ply.now.position.now x.now.played count x.now.value list.now) }
 {
     let mut card = Html::new(alloc);
     let mut beside = Html::new(alloc);
-    draw_mini(alloc, &mut card, p)?;
-    put_card_words(alloc, &mut beside, start, depth, p, x, count, list)?;
+    draw_mini(alloc, &mut card, ply.position)?;
+    put_card_words(alloc, &mut beside, ply, x, count, list)?;
     card.put(Element::Beside, &beside)?;
     html.put(Element::Card, &card)
 }
@@ -392,5 +390,72 @@ pub fn put_try<'a, A: Allocator>(
     put_refutations(alloc, &mut cell, p, list)?;
     put_refuted_count(alloc, &mut cell, p, list.len() as u32)?;
     row.put(Element::Cell, &cell)?;
+    html.put(Element::Row, &row)
+}
+
+fn points_words(zugzwang: Zugzwang) -> &'static [u8]
+    ensures { result.now ≡ points_words zugzwang }
+{
+    match zugzwang {
+        Zugzwang::Full => b"full point",
+        Zugzwang::Half(_) => b"half a point",
+    }
+}
+
+/// What comes of it with this side to move.
+fn to_move_words(zugzwang: Zugzwang, side: Side) -> &'static [u8]
+    ensures { result.now ≡ to_move_words zugzwang side }
+{
+    match (zugzwang, side) {
+        (Zugzwang::Full, Side::White) => b"Black wins",
+        (Zugzwang::Full, Side::Black) => b"White wins",
+        (Zugzwang::Half(Side::White), Side::White) => b"draw",
+        (Zugzwang::Half(Side::White), Side::Black) => b"White wins",
+        (Zugzwang::Half(Side::Black), Side::White) => b"Black wins",
+        (Zugzwang::Half(Side::Black), Side::Black) => b"draw",
+    }
+}
+
+/// The node, and of how much of a point it is.
+fn put_node<'a, A: Allocator>(
+    alloc: &'a A,
+    html: &mut Html<'_, A>,
+    node: &[u8],
+    zugzwang: Zugzwang,
+) -> Result<(), AllocError>
+    ensures { OnOk result (html.new ≡ html.old ++ inside Element.Cell (said node.now ++ (said (codes " ")
+        ++ inside Element.Label (said (points_words zugzwang))))) }
+{
+    let mut cell = Html::new(alloc);
+    cell.say(node)?;
+    cell.say(b" ")?;
+    put_words(alloc, &mut cell, Element::Label, points_words(zugzwang))?;
+    html.put(Element::Cell, &cell)
+}
+
+/// The row of a mutual zugzwang.
+#[tactic(auto, unfolding(crate::specs::Rows::zugzwang_row))]
+pub fn put_zugzwang<'a, A: Allocator>(
+    alloc: &'a A,
+    html: &mut Html<'_, A>,
+    node: &[u8],
+    zugzwang: Zugzwang,
+) -> Result<(), AllocError>
+    ensures { OnOk result (html.new ≡ html.old ++ zugzwang_row node.now zugzwang) }
+{
+    let mut row = Html::new(alloc);
+    put_node(alloc, &mut row, node, zugzwang)?;
+    put_words(
+        alloc,
+        &mut row,
+        Element::Cell,
+        to_move_words(zugzwang, Side::White),
+    )?;
+    put_words(
+        alloc,
+        &mut row,
+        Element::Cell,
+        to_move_words(zugzwang, Side::Black),
+    )?;
     html.put(Element::Row, &row)
 }

@@ -6,6 +6,7 @@
 
 mod counts;
 mod diagram;
+mod draft;
 mod fault;
 mod faults;
 mod groups;
@@ -26,6 +27,6 @@ mod words;
 
 pub use fault::PageFault;
 pub use laws::{pages_are_unique, plain_studies_have_one_page};
-pub use lists::{add_entry, write_refusal, write_summary};
-pub use page::write_page;
+pub use lists::{write_refusal, write_summary};
+pub use page::{Listed, write_page};
 pub use sheet::write_place;

@@ -116,27 +116,30 @@ fn put_judged<'a, 'b, A: Allocator, B: Allocator>(
     alloc: &'a A,
     html: &mut Html<'_, A>,
     bench: &Bench<'b, B>,
+    time: u32,
 ) -> Result<(), AllocError>
     ensures { OnOk result (html.new ≡ html.old ++ (inside Element.Cell (said (stipulation_text (marked bench.now).stipulation))
-        ++ inside Element.Cell (said (stamp_words (judged (marked bench.now)).stamp)))) }
+        ++ inside Element.Cell (said (stamp_words (judged (marked bench.now) time).stamp)))) }
 {
     let mut stipulation = Text::new(alloc);
     let mut verdict = Text::new(alloc);
     add_stipulation(&mut stipulation, bench.stipulation())?;
     put_words(alloc, html, Element::Cell, stipulation.as_slice())?;
-    add_stamp_words(&mut verdict, judge(bench).stamp)?;
+    add_stamp_words(&mut verdict, judge(bench, time).stamp)?;
     put_words(alloc, html, Element::Cell, verdict.as_slice())
 }
 
-/// Adds a row for the entry of this number: its number, its title, its author, what is asked for and the verdict.
+/// Adds a row for the entry of this number: its number, its title, its author, what is asked for and the verdict, by how many of its
+/// faults lose time alone.
 #[tactic(auto, unfolding(crate::specs::Lists::summary_row))]
 pub fn add_entry<'a, 'b, A: Allocator, B: Allocator>(
     alloc: &'a A,
     rows: &mut Html<'_, A>,
     bench: &Bench<'b, B>,
+    time: u32,
     number: u32,
 ) -> Result<(), AllocError>
-    ensures { OnOk result (rows.new ≡ rows.old ++ summary_row (marked bench.now) number) }
+    ensures { OnOk result (rows.new ≡ rows.old ++ summary_row (marked bench.now) time number) }
 {
     let mut row = Html::new(alloc);
     put_number(alloc, &mut row, Element::Cell, number)?;
@@ -147,7 +150,7 @@ pub fn add_entry<'a, 'b, A: Allocator, B: Allocator>(
         Element::Cell,
         known_tag(bench, TagName::White),
     )?;
-    put_judged(alloc, &mut row, bench)?;
+    put_judged(alloc, &mut row, bench, time)?;
     rows.put(Element::Row, &row)
 }
 

@@ -6,19 +6,24 @@ ghost use Rattle.study_marks.specs.BenchState.{marked, IsKeptRight};
 ghost use Rattle.study_marks.specs.Study.{plain_study};
 ghost use Rattle.study_values.specs.declared.values.ProbeFault.{ProbeFault as AProbeFault};
 ghost use Rattle.study_review.specs.Asked.{within};
-ghost use Rattle.study_review.specs.Review.{HasReviewed};
+ghost use Rattle.study_review.specs.Review.{HasReviewed, AreTimeFaults};
 ghost use Rattle.study_html.specs.Markup.{IsWellNested};
 ghost use Rattle.study_page.specs.Made.{HasAsked};
 ghost use Rattle.study_page.specs.Page.{AreRows, heads, table_part, full_table, cards_part, full_cards};
-ghost use Rattle.study_page.specs.Page.{tries_title, missing_title, ends_title};
+ghost use Rattle.study_page.specs.Lists.{summary_row};
+ghost use Rattle.study_page.specs.Page.{tries_title, zugzwangs_title, missing_title, ends_title, last_tables};
+ghost use Rattle.study_page.specs.Rows.{FaultItems, Cards, TryRows, ZugzwangRows, DefenceRows, EndRows};
 ghost use Rattle.study_page.specs.Tree.{solution_words};
-ghost use Rattle.study_page.specs.Page.{solution_part, duals_title, duals_note, foot_words, tables, top, page_text, IsPage, IsPageOf, IsEntry};
+ghost use Rattle.study_page.specs.Page.{solution_part, duals_title, duals_note, foot_words, tables, top, page_text};
+ghost use Rattle.study_page.specs.Page.{IsPage, IsPageOf, IsEntry, IsRow};
 
+use crate::draft::Parts;
 use crate::fault::NotMade;
 use crate::head::{put_figure, put_head};
+use crate::lists::add_entry;
 use crate::tree::put_following;
 use crate::verdict::{judge, put_verdict};
-use crate::walk::{Part, add_each};
+use crate::walk::add_each;
 use std::alloc::{AllocError, Allocator};
 use std::io::Write;
 use study_html::{Element, Html, put_words};
@@ -27,55 +32,24 @@ use study_review::ReviewFault;
 use study_text::write_text;
 use study_values::Values;
 
-/// What is made of the nodes, part by part.
-#[derive(Drop)]
-struct Parts<'a, A: Allocator> {
-    faults: Html<'a, A>,
-    duals: Html<'a, A>,
-    tries: Html<'a, A>,
-    defences: Html<'a, A>,
-    ends: Html<'a, A>,
-}
-
-/// What the part has of all nodes.
-fn part_of<'a, 'b, A: Allocator, B: Allocator, V: Values>(
-    alloc: &'a A,
-    part: Part,
-    bench: &Bench<'b, B>,
-    values: &mut V,
-) -> Result<Html<'a, A>, NotMade>
-    ensures text { V.is_honest values.old → IfOk result (AreRows part (marked bench.now)) }
-    ensures asked { HasAsked V.held (within (marked bench.now).start.position V.gives) V.may_fail V.asked_of V.failed_of V.is_honest values.old result values.new }
-{
-    let mut html = Html::new(alloc);
-    let mut steps = Vec::new(alloc);
-    add_each(alloc, part, &mut html, bench, &mut steps, values)?;
-    Ok(html)
-}
-
-/// All parts that ask values.
+/// All parts that evaluate positions.
 fn parts_of<'a, 'b, A: Allocator, B: Allocator, V: Values>(
     alloc: &'a A,
     bench: &Bench<'b, B>,
     values: &mut V,
 ) -> Result<Parts<'a, A>, NotMade>
-    ensures text { V.is_honest values.old → IfOk result (λ p. AreRows Part.Faults (marked bench.now) p.faults
-        × AreRows Part.Duals (marked bench.now) p.duals × AreRows Part.Tries (marked bench.now) p.tries
-        × AreRows Part.Defences (marked bench.now) p.defences × AreRows Part.Ends (marked bench.now) p.ends) }
+    ensures text { V.is_honest values.old → IfOk result (λ p. AreRows FaultItems (marked bench.now) p.faults
+        × AreTimeFaults (marked bench.now) p.time_faults × AreRows Cards (marked bench.now) p.duals
+        × AreRows TryRows (marked bench.now) p.tries × AreRows ZugzwangRows (marked bench.now) p.zugzwangs
+        × AreRows DefenceRows (marked bench.now) p.defences × AreRows EndRows (marked bench.now) p.ends) }
     ensures asked { HasAsked V.held (within (marked bench.now).start.position V.gives) V.may_fail V.asked_of V.failed_of V.is_honest values.old result values.new }
 {
-    let faults = part_of(alloc, Part::Faults, bench, values)?;
-    let duals = part_of(alloc, Part::Duals, bench, values)?;
-    let tries = part_of(alloc, Part::Tries, bench, values)?;
-    let defences = part_of(alloc, Part::Defences, bench, values)?;
-    let ends = part_of(alloc, Part::Ends, bench, values)?;
-    Ok(Parts {
-        faults,
-        duals,
-        tries,
-        defences,
-        ends,
-    })
+    // (the study has at most 4,096 nodes)
+    let _size = bench.size();
+    let mut parts = Parts::new(alloc);
+    let mut steps = Vec::new(alloc);
+    add_each(alloc, &mut parts, bench, &mut steps, values)?;
+    Ok(parts)
 }
 
 /// The tree of the solution.
@@ -222,6 +196,13 @@ fn tries_title() -> &'static [u8]
     b"Tries and their refutations"
 }
 
+#[tactic(auto, unfolding(crate::specs::Page::zugzwangs_title))]
+fn zugzwangs_title() -> &'static [u8]
+    ensures { result.now ≡ zugzwangs_title }
+{
+    b"Mutual zugzwangs"
+}
+
 #[tactic(auto, unfolding(crate::specs::Page::missing_title))]
 fn missing_title() -> &'static [u8]
     ensures { result.now ≡ missing_title }
@@ -236,6 +217,23 @@ fn ends_title() -> &'static [u8]
     b"Best play from the open ends"
 }
 
+/// The tables of what the tree lacks and of how it goes on.
+#[tactic(auto, unfolding(crate::specs::Page::last_tables))]
+fn put_last_tables<'a, A: Allocator>(
+    alloc: &'a A,
+    html: &mut Html<'_, A>,
+    parts: &Parts<'_, A>,
+) -> Result<(), AllocError>
+    ensures { OnOk result (html.new ≡ html.old ++ last_tables parts.now.defences parts.now.ends) }
+{
+    let mut defences = Html::new(alloc);
+    let mut ends = Html::new(alloc);
+    put_heads(alloc, &mut defences, b"After", b"One answer", b"Several")?;
+    put_heads(alloc, &mut ends, b"After", b"Value", b"Goes on")?;
+    put_table(alloc, html, missing_title(), &defences, &parts.defences)?;
+    put_table(alloc, html, ends_title(), &ends, &parts.ends)
+}
+
 /// The tables below the solution.
 #[tactic(auto, unfolding(crate::specs::Page::tables))]
 fn put_tables<'a, A: Allocator>(
@@ -243,17 +241,21 @@ fn put_tables<'a, A: Allocator>(
     html: &mut Html<'_, A>,
     parts: &Parts<'_, A>,
 ) -> Result<(), AllocError>
-    ensures { OnOk result (html.new ≡ html.old ++ tables parts.now.tries parts.now.defences parts.now.ends) }
+    ensures { OnOk result (html.new ≡ html.old ++ tables parts.now.tries parts.now.zugzwangs parts.now.defences parts.now.ends) }
 {
     let mut tries = Html::new(alloc);
-    let mut defences = Html::new(alloc);
-    let mut ends = Html::new(alloc);
+    let mut zugzwangs = Html::new(alloc);
     put_heads(alloc, &mut tries, b"After", b"Left", b"Refuted by")?;
-    put_heads(alloc, &mut defences, b"After", b"One answer", b"Several")?;
-    put_heads(alloc, &mut ends, b"After", b"Value", b"Goes on")?;
+    put_heads(
+        alloc,
+        &mut zugzwangs,
+        b"After",
+        b"White to move",
+        b"Black to move",
+    )?;
     put_table(alloc, html, tries_title(), &tries, &parts.tries)?;
-    put_table(alloc, html, missing_title(), &defences, &parts.defences)?;
-    put_table(alloc, html, ends_title(), &ends, &parts.ends)
+    put_table(alloc, html, zugzwangs_title(), &zugzwangs, &parts.zugzwangs)?;
+    put_last_tables(alloc, html, parts)
 }
 
 /// The diagram and the verdict, side by side.
@@ -262,13 +264,18 @@ fn put_top<'a, 'b, A: Allocator, B: Allocator>(
     alloc: &'a A,
     html: &mut Html<'_, A>,
     bench: &Bench<'b, B>,
-    faults: &Html<'_, A>,
+    parts: &Parts<'_, A>,
 ) -> Result<(), AllocError>
-    ensures { OnOk result (html.new ≡ html.old ++ top (marked bench.now) faults.now) }
+    ensures { OnOk result (html.new ≡ html.old ++ top (marked bench.now) parts.now.time_faults parts.now.faults) }
 {
     let mut within = Html::new(alloc);
     put_figure(alloc, &mut within, bench)?;
-    put_verdict(alloc, &mut within, &judge(bench), faults)?;
+    put_verdict(
+        alloc,
+        &mut within,
+        &judge(bench, parts.time_faults),
+        &parts.faults,
+    )?;
     html.put(Element::Top, &within)
 }
 
@@ -281,12 +288,12 @@ fn put_page<'a, 'b, A: Allocator, B: Allocator>(
     number: u32,
     parts: &Parts<'_, A>,
 ) -> Result<(), AllocError>
-    ensures { OnOk result (html.new ≡ html.old ++ page_text (marked bench.now) number
-        parts.now.faults parts.now.duals parts.now.tries parts.now.defences parts.now.ends) }
+    ensures { OnOk result (html.new ≡ html.old ++ page_text (marked bench.now) number parts.now.time_faults
+        parts.now.faults parts.now.duals parts.now.tries parts.now.zugzwangs parts.now.defences parts.now.ends) }
 {
     let mut page = Html::new(alloc);
     put_head(alloc, &mut page, bench)?;
-    put_top(alloc, &mut page, bench, &parts.faults)?;
+    put_top(alloc, &mut page, bench, parts)?;
     put_solution(alloc, &mut page, bench)?;
     put_cards(alloc, &mut page, &parts.duals)?;
     put_tables(alloc, &mut page, parts)?;
@@ -294,39 +301,75 @@ fn put_page<'a, 'b, A: Allocator, B: Allocator>(
     html.put(Element::Entry(number), &page)
 }
 
-/// The whole page.
-fn page_of<'a, 'b, A: Allocator, B: Allocator, V: Values>(
+/// The rows of the list of entries before a page, and their allocator.
+#[derive(Drop)]
+pub struct Listed<'l, 's, S: Allocator> {
+    pub alloc: &'s S,
+    pub rows: &'l Html<'s, S>,
+}
+
+/// The rows with one more, of the study of whose faults so many lose time alone.
+fn with_row<'s, 'b, S: Allocator, B: Allocator>(
+    list: &Listed<'_, 's, S>,
+    bench: &Bench<'b, B>,
+    time: u32,
+    number: u32,
+) -> Result<Html<'s, S>, AllocError>
+    ensures { IfOk result (λ more. more ≡ list.now.rows.now ++ summary_row (marked bench.now) time number) }
+{
+    let mut more = Html::new(list.alloc);
+    more.append(list.rows)?;
+    add_entry(list.alloc, &mut more, bench, time, number)?;
+    Ok(more)
+}
+
+/// A page, and the rows of the list with its own behind them.
+#[derive(Drop)]
+struct Entry<'a, 's, A: Allocator, S: Allocator> {
+    page: Html<'a, A>,
+    rows: Html<'s, S>,
+}
+
+/// The whole page, and the rows with its own.
+fn entry_of<'a, 's, 'b, A: Allocator, S: Allocator, B: Allocator, V: Values>(
     alloc: &'a A,
     bench: &Bench<'b, B>,
     values: &mut V,
     number: u32,
-) -> Result<Html<'a, A>, NotMade>
-    ensures text { V.is_honest values.old → IfOk result (IsPage (marked bench.now) number) }
-    ensures entry { IfOk result (IsEntry number) }
+    list: &Listed<'_, 's, S>,
+) -> Result<Entry<'a, 's, A, S>, NotMade>
+    ensures text { V.is_honest values.old → IfOk result (λ entry. IsPage (marked bench.now) number entry.page) }
+    ensures rows { V.is_honest values.old → IfOk result (λ entry. (row : List ℕ) × IsRow (marked bench.now) number row
+        × (entry.rows ≡ list.now.rows.now ++ row)) }
+    ensures entry { IfOk result (λ entry. IsEntry number entry.page) }
     ensures asked { HasAsked V.held (within (marked bench.now).start.position V.gives) V.may_fail V.asked_of V.failed_of V.is_honest values.old result values.new }
 {
-    let mut html = Html::new(alloc);
+    let mut page = Html::new(alloc);
     let parts = parts_of(alloc, bench, values)?;
-    put_page(alloc, &mut html, bench, number, &parts)?;
-    Ok(html)
+    put_page(alloc, &mut page, bench, number, &parts)?;
+    let rows = with_row(list, bench, parts.time_faults, number)?;
+    Ok(Entry { page, rows })
 }
 
-/// Writes the page of a study, the entry of this number.
+/// Writes the page of a study, the entry of this number, and hands back the rows of the list of all entries with its own behind them.
 ///
 /// The page is made whole first, so want of memory, and a value that cannot be read, are reported before the first byte. A writer
 /// that fails or takes nothing ends the call; it has taken a prefix of the page then. A study has one page of a number, to the byte
 /// (`pages_are_unique`).
-pub fn write_page<'a, 'b, A: Allocator, B: Allocator, V: Values, W: Write>(
+pub fn write_page<'a, 's, 'b, A: Allocator, S: Allocator, B: Allocator, V: Values, W: Write>(
     alloc: &'a A,
     bench: &Bench<'b, B>,
     values: &mut V,
     number: u32,
+    list: Listed<'_, 's, S>,
     out: &mut W,
-) -> Result<(), ReviewFault>
+) -> Result<Html<'s, S>, ReviewFault>
     ensures ok { V.is_honest values.old → OnOk result ((text : List ℕ) × IsPage (marked bench.now) number text
         × Appends (W.contents out.old) (W.contents out.new) text) }
     ensures plain { V.is_honest values.old → IsKeptRight bench.now → OnOk result ((text : List ℕ)
         × IsPageOf (plain_study (marked bench.now)) number text × Appends (W.contents out.old) (W.contents out.new) text) }
+    ensures rows { V.is_honest values.old → IfOk result (λ rows. (row : List ℕ) × IsRow (marked bench.now) number row
+        × (rows ≡ list.entry.rows.now ++ row)) }
     ensures entry { OnOk result ((text : List ℕ) × IsEntry number text × Appends (W.contents out.old) (W.contents out.new) text) }
     ensures nested { OnOk result ((text : List ℕ) × IsWellNested text × Appends (W.contents out.old) (W.contents out.new) text) }
     ensures device { V.is_honest values.old → result ≡ Err ReviewFault.Device → (text : List ℕ) × IsPage (marked bench.now) number text
@@ -335,7 +378,7 @@ pub fn write_page<'a, 'b, A: Allocator, B: Allocator, V: Values, W: Write>(
     ensures untold { (fault : AProbeFault) → result ≡ Err (ReviewFault.Values fault) → out.new ≡ out.old }
     ensures asked { HasReviewed V.held (within (marked bench.now).start.position V.gives) V.may_fail V.asked_of V.failed_of V.is_honest values.old result values.new }
 {
-    let page = page_of(alloc, bench, values, number)?;
-    write_text(out, page.as_slice())?;
-    Ok(())
+    let entry = entry_of(alloc, bench, values, number, &list)?;
+    write_text(out, entry.page.as_slice())?;
+    Ok(entry.rows)
 }

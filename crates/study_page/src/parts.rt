@@ -1,172 +1,219 @@
 //! What the parts of a page have of one node.
-ghost use Rattle.std.specs.Prelude.{◌≡◌, ◌++◌, ◌+◌, ◌^◌, ◌<◌, true, Some, length, IsTrue, OnOk};
+ghost use Rattle.std.specs.Prelude.{◌≡◌, ◌++◌, ◌+◌, ◌^◌, ◌<◌, ◌&&◌, [], true, Some, length, IsTrue, OnOk, if◌then◌else◌};
 ghost use Rattle.std.specs.List.{All};
 ghost use Rattle.study_moves.specs.Rules.{is_legal};
 ghost use Rattle.study_tree.specs.Tree.{has_spot};
 ghost use Rattle.study_marks.specs.BenchState.{marked};
 ghost use Rattle.study_review.specs.Asked.{within};
-ghost use Rattle.study_review.specs.Made.{Grew};
+ghost use Rattle.study_review.specs.Made.{Grew, Rose};
+ghost use Rattle.study_review.specs.TimeFaults.{CountWhere, IsTimeDual, IsTimeFault, all_lose_time};
 ghost use Rattle.study_review.specs.Line.{IsPlaceOf};
 ghost use Rattle.study_page.specs.Made.{HasAsked};
 ghost use Rattle.study_page.specs.Rows.{IsFaultOf, FaultItems, IsCardOf, Cards, try_row, TryRows, defence_row, DefenceRows};
+ghost use Rattle.study_page.specs.Rows.{dual_item, mistake_item, card, zugzwang_rows, ZugzwangRows};
 ghost use Rattle.study_page.specs.Rows.{play_words, keep_words, end_row, IsEnd, EndRows};
 ghost use Rattle.study_page.specs.Words.{where_words};
 ghost use Rattle.study_review.specs.Play.{IsPlayed, ArePlayed};
-ghost use Rattle.study_review.specs.Nodes.{value_at};
+ghost use Rattle.study_review.specs.Nodes.{OnlyWhere, value_at};
 
+use crate::draft::Parts;
 use crate::fault::NotMade;
 use crate::faults::{put_dual, put_mistake};
 use crate::groups::put_defences;
-use crate::items::{put_card, put_try};
+use crate::items::{put_card, put_try, put_zugzwang};
 use crate::rows::{add_keep, add_moves, put_end};
 use crate::signs::{is_defended, is_open_end, is_solution_move, is_try, mark_at};
-use crate::words::add_where;
+use crate::words::{Ply, add_where};
 use std::alloc::{AllocError, Allocator};
 use study_board::Position;
 use study_html::Html;
 use study_marks::{Bench, MoveMark};
+use study_moves::Move;
 use study_notation::Start;
 use study_review::{
-    Alternative, Continuation, Defence, Made, Node, Place, best_play, children_in, defences,
-    drawing_moves, made_in, place_in, refutations, timed_alternatives, value_at,
+    Alternative, Continuation, Defence, Made, Node, Place, Zugzwang, all_lose_time, best_play,
+    children_in, count_where, defences, drawing_moves, made_in, refutations, timed_alternatives,
+    value_at, zugzwang_at,
 };
 use study_text::Text;
 use study_values::{Value, Values};
 
-/// The item of a dual.
-fn add_dual<'a, A: Allocator, V: Values>(
+/// The item of a dual, where it is of the solution.
+fn put_listed_dual<'a, A: Allocator>(
     alloc: &'a A,
     html: &mut Html<'_, A>,
-    start: &Start,
-    made: &Made,
-    told: (Value, u8),
-    values: &mut V,
-) -> Result<(), NotMade>
-    requires depth { made.now.before.depth + 1 < 2 ^ 64 }
-    requires legal { is_legal made.now.before.position made.now.played ≡ true }
-    ensures text { V.is_honest values.old → OnOk result (Grew (IsFaultOf start.now made.now.before.aim made.now.before.depth
-        made.now.before.line.items made.now.before.position made.now.played told.0 (Some (MoveMark.Dual told.1))) html.old html.new) }
-    ensures asked { HasAsked V.held (within made.now.before.position V.gives) V.may_fail V.asked_of V.failed_of V.is_honest values.old result values.new }
+    ply: &Ply<'_>,
+    x: &Continuation,
+    list: &[Alternative],
+    listed: bool,
+) -> Result<(), AllocError>
+    requires few { length list.now < 2 ^ 32 }
+    requires legal { is_legal ply.now.position.now x.now.played ≡ true }
+    requires others { All (λ y. is_legal ply.now.position.now y.played ≡ true) list.now }
+    ensures { OnOk result (html.new ≡ html.old ++ (if listed then dual_item ply.now.start.now ply.now.depth ply.now.position.now
+        x.now.played x.now.value list.now else [])) }
 {
-    match timed_alternatives(&made.before, made.played, values) {
-        Err(fault) => Err(NotMade::Untold(fault)),
-        Ok(list) => {
-            let x = Continuation {
-                played: made.played,
-                value: told.0,
-            };
-            let before = &made.before;
-            put_dual(
-                alloc,
-                html,
-                start,
-                before.depth,
-                &before.position,
-                &x,
-                list.as_slice(),
-            )?;
-            Ok(())
-        }
-    }
-}
-
-/// The item of a fault of the solution.
-pub fn add_fault<'a, 'b, A: Allocator, B: Allocator, V: Values>(
-    alloc: &'a A,
-    html: &mut Html<'_, A>,
-    bench: &Bench<'b, B>,
-    steps: &[u16],
-    values: &mut V,
-) -> Result<(), NotMade>
-    ensures text { V.is_honest values.old → OnOk result (Grew (FaultItems (marked bench.now) steps.now) html.old html.new) }
-    ensures asked { HasAsked V.held (within (marked bench.now).start.position V.gives) V.may_fail V.asked_of V.failed_of V.is_honest values.old result values.new }
-{
-    if !is_solution_move(bench, steps) {
+    if !listed {
         return Ok(());
     }
-    let first = bench.start();
-    let value = value_at(bench, steps);
-    match made_in(bench, steps) {
-        None => Ok(()),
-        Some(made) => match mark_at(bench, steps) {
-            Some(MoveMark::Dual(k)) => add_dual(alloc, html, first, &made, (value, k), values),
-            Some(MoveMark::Mistake) => {
-                let before = &made.before;
-                put_mistake(
-                    alloc,
-                    html,
-                    first,
-                    before.depth,
-                    &before.position,
-                    made.played,
-                    value,
-                )?;
-                Ok(())
-            }
-            _ => Ok(()),
-        },
-    }
+    put_dual(alloc, html, ply, x, list)
 }
 
-/// The card of a dual.
-fn add_dual_card<'a, A: Allocator, V: Values>(
+/// What is known of a dual: the value after it, how many others hold, and whether it is of the solution.
+#[derive(Clone, Copy)]
+struct DualFacts {
+    value: Value,
+    others: u8,
+    listed: bool,
+}
+
+/// Whether a dual with these others is listed and loses time alone.
+fn loses_alone(listed: bool, list: &[Alternative]) -> bool
+    ensures { result ≡ (listed && all_lose_time list.now) }
+{
+    listed && all_lose_time(list)
+}
+
+/// The item and the card of a dual of which these are the others, and one more that loses time alone, where it does.
+fn put_dual_parts<'a, A: Allocator>(
     alloc: &'a A,
-    html: &mut Html<'_, A>,
+    parts: &mut Parts<'_, A>,
+    ply: &Ply<'_>,
+    played: Move,
+    dual: DualFacts,
+    list: &[Alternative],
+) -> Result<(), AllocError>
+    requires few { length list.now < 2 ^ 32 }
+    requires legal { is_legal ply.now.position.now played ≡ true }
+    requires others { All (λ y. is_legal ply.now.position.now y.played ≡ true) list.now }
+    ensures faults { OnOk result (parts.new.faults ≡ parts.old.faults ++ (if dual.listed then dual_item ply.now.start.now ply.now.depth
+        ply.now.position.now played dual.value list.now else [])) }
+    ensures duals { OnOk result (parts.new.duals ≡ parts.old.duals
+        ++ card ply.now.start.now ply.now.depth ply.now.position.now played dual.others dual.value list.now) }
+    ensures time { OnOk result (parts.old.time_faults + (if dual.listed && all_lose_time list.now then 1 else 0) < 2 ^ 32
+        → parts.new.time_faults ≡ parts.old.time_faults + (if dual.listed && all_lose_time list.now then 1 else 0)) }
+    ensures tries { parts.new.tries ≡ parts.old.tries }
+    ensures zugzwangs { parts.new.zugzwangs ≡ parts.old.zugzwangs }
+    ensures defences { parts.new.defences ≡ parts.old.defences }
+    ensures ends { parts.new.ends ≡ parts.old.ends }
+{
+    let x = Continuation {
+        played,
+        value: dual.value,
+    };
+    put_listed_dual(alloc, &mut parts.faults, ply, &x, list, dual.listed)?;
+    put_card(alloc, &mut parts.duals, ply, &x, dual.others, list)?;
+    let alone = loses_alone(dual.listed, list);
+    parts.time_faults = count_where(parts.time_faults, alone);
+    Ok(())
+}
+
+/// What the parts have of a dual.
+fn add_dual<'a, A: Allocator, V: Values>(
+    alloc: &'a A,
+    parts: &mut Parts<'_, A>,
     start: &Start,
     made: &Made,
-    told: (Value, u8),
+    dual: DualFacts,
     values: &mut V,
 ) -> Result<(), NotMade>
     requires depth { made.now.before.depth + 1 < 2 ^ 64 }
     requires legal { is_legal made.now.before.position made.now.played ≡ true }
-    ensures text { V.is_honest values.old → OnOk result (Grew (IsCardOf start.now made.now.before.aim made.now.before.depth
-        made.now.before.line.items made.now.before.position made.now.played told.0 (Some (MoveMark.Dual told.1))) html.old html.new) }
+    ensures faults { V.is_honest values.old → OnOk result (Grew (OnlyWhere dual.listed (IsFaultOf start.now made.now.before.aim
+        made.now.before.depth made.now.before.line.items made.now.before.position made.now.played dual.value (Some (MoveMark.Dual dual.others))))
+        parts.old.faults parts.new.faults) }
+    ensures time { V.is_honest values.old → OnOk result (Rose (CountWhere dual.listed (IsTimeDual made.now.before.aim made.now.before.depth
+        made.now.before.line.items made.now.before.position made.now.played)) parts.old.time_faults parts.new.time_faults) }
+    ensures duals { V.is_honest values.old → OnOk result (Grew (IsCardOf start.now made.now.before.aim made.now.before.depth
+        made.now.before.line.items made.now.before.position made.now.played dual.value (Some (MoveMark.Dual dual.others)))
+        parts.old.duals parts.new.duals) }
+    ensures tries { parts.new.tries ≡ parts.old.tries }
+    ensures zugzwangs { parts.new.zugzwangs ≡ parts.old.zugzwangs }
+    ensures defences { parts.new.defences ≡ parts.old.defences }
+    ensures ends { parts.new.ends ≡ parts.old.ends }
     ensures asked { HasAsked V.held (within made.now.before.position V.gives) V.may_fail V.asked_of V.failed_of V.is_honest values.old result values.new }
 {
     match timed_alternatives(&made.before, made.played, values) {
         Err(fault) => Err(NotMade::Untold(fault)),
         Ok(list) => {
-            let x = Continuation {
-                played: made.played,
-                value: told.0,
-            };
             let before = &made.before;
-            put_card(
-                alloc,
-                html,
+            let ply = Ply {
                 start,
-                before.depth,
-                &before.position,
-                &x,
-                told.1,
-                list.as_slice(),
-            )?;
+                depth: before.depth,
+                position: &before.position,
+            };
+            put_dual_parts(alloc, parts, &ply, made.played, dual, list.as_slice())?;
             Ok(())
         }
     }
 }
 
-/// The card of the node's move, where it is a dual.
-pub fn add_card<'a, 'b, A: Allocator, B: Allocator, V: Values>(
+/// The item of a mistake with this value after it, where it is of the solution.
+fn put_listed_mistake<'a, A: Allocator>(
     alloc: &'a A,
     html: &mut Html<'_, A>,
+    start: &Start,
+    made: &Made,
+    value: Value,
+    listed: bool,
+) -> Result<(), AllocError>
+    requires { is_legal made.now.before.position made.now.played ≡ true }
+    ensures { OnOk result (html.new ≡ html.old ++ (if listed then mistake_item start.now made.now.before.depth made.now.before.position
+        made.now.played value else [])) }
+{
+    if !listed {
+        return Ok(());
+    }
+    let before = &made.before;
+    let ply = Ply {
+        start,
+        depth: before.depth,
+        position: &before.position,
+    };
+    put_mistake(alloc, html, &ply, made.played, value)
+}
+
+/// What the parts have of the move to the node at the path: the item of a fault of the solution, and the card of a dual.
+pub fn add_move<'a, 'b, A: Allocator, B: Allocator, V: Values>(
+    alloc: &'a A,
+    parts: &mut Parts<'_, A>,
     bench: &Bench<'b, B>,
     steps: &[u16],
     values: &mut V,
 ) -> Result<(), NotMade>
-    ensures text { V.is_honest values.old → OnOk result (Grew (Cards (marked bench.now) steps.now) html.old html.new) }
+    ensures faults { V.is_honest values.old → OnOk result (Grew (FaultItems (marked bench.now) steps.now) parts.old.faults parts.new.faults) }
+    ensures time { V.is_honest values.old → OnOk result (Rose (IsTimeFault (marked bench.now) steps.now) parts.old.time_faults parts.new.time_faults) }
+    ensures duals { V.is_honest values.old → OnOk result (Grew (Cards (marked bench.now) steps.now) parts.old.duals parts.new.duals) }
+    ensures tries { parts.new.tries ≡ parts.old.tries }
+    ensures zugzwangs { parts.new.zugzwangs ≡ parts.old.zugzwangs }
+    ensures defences { parts.new.defences ≡ parts.old.defences }
+    ensures ends { parts.new.ends ≡ parts.old.ends }
     ensures asked { HasAsked V.held (within (marked bench.now).start.position V.gives) V.may_fail V.asked_of V.failed_of V.is_honest values.old result values.new }
 {
     let first = bench.start();
     let value = value_at(bench, steps);
-    match made_in(bench, steps) {
+    let listed = is_solution_move(bench, steps);
+    let mark = mark_at(bench, steps);
+    let Some(made) = made_in(bench, steps) else {
+        return Ok(());
+    };
+    match mark {
+        Some(MoveMark::Dual(k)) => {
+            let dual = DualFacts {
+                value,
+                others: k,
+                listed,
+            };
+            add_dual(alloc, parts, first, &made, dual, values)
+        }
+        Some(MoveMark::Mistake) => {
+            put_listed_mistake(alloc, &mut parts.faults, first, &made, value, listed)?;
+            Ok(())
+        }
+        Some(MoveMark::Only) => Ok(()),
+        Some(MoveMark::Idle) => Ok(()),
+        Some(MoveMark::Reply) => Ok(()),
         None => Ok(()),
-        Some(made) => match mark_at(bench, steps) {
-            Some(MoveMark::Dual(k)) => {
-                add_dual_card(alloc, html, first, &made, (value, k), values)
-            }
-            _ => Ok(()),
-        },
     }
 }
 
@@ -196,7 +243,7 @@ fn put_try_at<'a, 'b, A: Allocator, B: Allocator>(
 }
 
 /// The row of a try.
-pub fn add_try<'a, 'b, A: Allocator, B: Allocator, V: Values>(
+fn add_try<'a, 'b, A: Allocator, B: Allocator, V: Values>(
     alloc: &'a A,
     html: &mut Html<'_, A>,
     bench: &Bench<'b, B>,
@@ -243,7 +290,7 @@ fn put_defences_at<'a, 'b, A: Allocator, B: Allocator>(
 }
 
 /// The row of the defences that are missing.
-pub fn add_defences<'a, 'b, A: Allocator, B: Allocator, V: Values>(
+fn add_defences<'a, 'b, A: Allocator, B: Allocator, V: Values>(
     alloc: &'a A,
     html: &mut Html<'_, A>,
     bench: &Bench<'b, B>,
@@ -352,7 +399,7 @@ fn add_continued<'a, A: Allocator, V: Values>(
 }
 
 /// How it goes on where the tree ends.
-pub fn add_end<'a, 'b, A: Allocator, B: Allocator, V: Values>(
+fn add_end<'a, 'b, A: Allocator, B: Allocator, V: Values>(
     alloc: &'a A,
     html: &mut Html<'_, A>,
     bench: &Bench<'b, B>,
@@ -379,4 +426,72 @@ pub fn add_end<'a, 'b, A: Allocator, B: Allocator, V: Values>(
         value,
         values,
     )
+}
+
+fn put_zugzwang_at<'a, 'b, A: Allocator, B: Allocator>(
+    alloc: &'a A,
+    html: &mut Html<'_, A>,
+    bench: &Bench<'b, B>,
+    steps: &[u16],
+    zugzwang: Option<Zugzwang>,
+) -> Result<(), AllocError>
+    ensures { OnOk result (html.new ≡ html.old ++ zugzwang_rows (where_words (marked bench.now) steps.now) zugzwang) }
+{
+    match zugzwang {
+        None => Ok(()),
+        Some(zugzwang) => {
+            let mut node = Text::new(alloc);
+            add_where(&mut node, bench, steps)?;
+            put_zugzwang(alloc, html, node.as_slice(), zugzwang)
+        }
+    }
+}
+
+/// The row of a mutual zugzwang.
+fn add_zugzwang<'a, 'b, A: Allocator, B: Allocator, V: Values>(
+    alloc: &'a A,
+    html: &mut Html<'_, A>,
+    bench: &Bench<'b, B>,
+    steps: &[u16],
+    place: &Place,
+    values: &mut V,
+) -> Result<(), NotMade>
+    requires { IsPlaceOf (marked bench.now) steps.now place.now }
+    ensures text { V.is_honest values.old → OnOk result (Grew (ZugzwangRows (marked bench.now) steps.now) html.old html.new) }
+    ensures asked { HasAsked V.held (within place.now.position V.gives) V.may_fail V.asked_of V.failed_of V.is_honest values.old result values.new }
+{
+    match zugzwang_at(&place.position, values) {
+        Err(fault) => Err(NotMade::Untold(fault)),
+        Ok(zugzwang) => {
+            put_zugzwang_at(alloc, html, bench, steps, zugzwang)?;
+            Ok(())
+        }
+    }
+}
+
+/// What the parts have of the position of the node at the path.
+pub fn add_position<'a, 'b, A: Allocator, B: Allocator, V: Values>(
+    alloc: &'a A,
+    parts: &mut Parts<'_, A>,
+    bench: &Bench<'b, B>,
+    steps: &[u16],
+    place: &Place,
+    values: &mut V,
+) -> Result<(), NotMade>
+    requires found { IsTrue (has_spot (marked bench.now).tree steps.now) }
+    requires place { IsPlaceOf (marked bench.now) steps.now place.now }
+    ensures faults { parts.new.faults ≡ parts.old.faults }
+    ensures time { parts.new.time_faults ≡ parts.old.time_faults }
+    ensures duals { parts.new.duals ≡ parts.old.duals }
+    ensures tries { V.is_honest values.old → OnOk result (Grew (TryRows (marked bench.now) steps.now) parts.old.tries parts.new.tries) }
+    ensures zugzwangs { V.is_honest values.old
+        → OnOk result (Grew (ZugzwangRows (marked bench.now) steps.now) parts.old.zugzwangs parts.new.zugzwangs) }
+    ensures defences { V.is_honest values.old → OnOk result (Grew (DefenceRows (marked bench.now) steps.now) parts.old.defences parts.new.defences) }
+    ensures ends { V.is_honest values.old → OnOk result (Grew (EndRows (marked bench.now) steps.now) parts.old.ends parts.new.ends) }
+    ensures asked { HasAsked V.held (within place.now.position V.gives) V.may_fail V.asked_of V.failed_of V.is_honest values.old result values.new }
+{
+    add_try(alloc, &mut parts.tries, bench, steps, place, values)?;
+    add_zugzwang(alloc, &mut parts.zugzwangs, bench, steps, place, values)?;
+    add_defences(alloc, &mut parts.defences, bench, steps, place, values)?;
+    add_end(alloc, &mut parts.ends, bench, steps, place, values)
 }

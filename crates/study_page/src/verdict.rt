@@ -4,7 +4,9 @@ ghost use Rattle.study_marks.specs.BenchState.{marked};
 ghost use Rattle.study_marks.specs.Verdict.{verdict};
 ghost use Rattle.study_marks.specs.Study.{Study};
 ghost use Rattle.study_marks.specs.declared.mark.Mark.{Mark as AMark};
-ghost use Rattle.study_page.specs.Verdict.{stamp_of, stamp_element, stamp_words, stamp_part, none_given, faults_words};
+ghost use Rattle.study_marks.specs.Goals.{aim_of};
+ghost use Rattle.study_review.specs.Review.{is_empty};
+ghost use Rattle.study_page.specs.Verdict.{stamp_of, stamp_element, stamp_words, stamp_part, none_given, number_words, which_words, lost_words, faults_words};
 ghost use Rattle.study_page.specs.Verdict.{holds_words, count_words, sentence, at_start, start_words, fault_list, verdict_part, judged};
 
 use std::alloc::{AllocError, Allocator};
@@ -12,29 +14,39 @@ use study_board::Side;
 use study_html::{Element, Html, put_words};
 use study_marks::{Bench, Mark, Stipulation};
 use study_pgn::{add_value, is_right, root_mark};
-use study_review::is_empty;
+use study_review::{add_alone, add_time_verdict, is_empty};
 use study_text::Text;
 use study_values::Value;
 
-/// The verdict on a study: wrong, sound, or unsound with so many faults.
+/// The verdict on a study: wrong, sound, that it holds, where no move of the hero was given, or unsound with so many faults, of
+/// which so many lose time alone.
 #[derive(Clone, Copy)]
 pub enum Stamp {
     Wrong,
     Sound,
-    Unsound(u32),
+    Holds,
+    Unsound(u32, u32),
 }
 
-/// The verdict on a study in which this side moves first.
-pub fn stamp_of(stipulation: &Stipulation, first: Side, root: &Mark) -> Stamp
+/// The verdict on a study in which this side moves first, by whether no move of the hero was given, and how many faults lose time alone.
+pub fn stamp_of(
+    stipulation: &Stipulation,
+    first: Side,
+    root: &Mark,
+    empty: bool,
+    time: u32,
+) -> Stamp
     ensures { (s : Study AMark) → s.stipulation ≡ stipulation.now → s.start.position.to_move ≡ first → s.tree.label ≡ root.now
-        → result ≡ stamp_of (verdict s) }
+        → result ≡ stamp_of (verdict s) empty time }
 {
     if !is_right(stipulation.goal, stipulation.hero == first, root.value) {
         Stamp::Wrong
-    } else if root.faults == 0 {
-        Stamp::Sound
+    } else if root.faults != 0 {
+        Stamp::Unsound(root.faults, time)
+    } else if empty {
+        Stamp::Holds
     } else {
-        Stamp::Unsound(root.faults)
+        Stamp::Sound
     }
 }
 
@@ -43,19 +55,29 @@ fn stamp_element(stamp: Stamp) -> Element
 {
     match stamp {
         Stamp::Wrong => Element::Wrong,
-        Stamp::Sound => Element::Sound,
-        Stamp::Unsound(_) => Element::Unsound,
+        Stamp::Sound | Stamp::Holds => Element::Sound,
+        Stamp::Unsound(faults, time) => {
+            if time == faults {
+                Element::Sound
+            } else {
+                Element::Unsound
+            }
+        }
     }
 }
 
-/// `sound`, `unsound 3`, `wrong`.
+/// `sound`, `holds`, `unsound 3`, `unsound 5, 4 lose time alone`, `sound but for loss of time`, `wrong`.
 pub fn add_stamp_words<A: Allocator>(text: &mut Text<'_, A>, stamp: Stamp) -> Result<(), AllocError>
     ensures { OnOk result (text.new ≡ text.old ++ stamp_words stamp) }
 {
     match stamp {
         Stamp::Wrong => text.add(b"wrong"),
         Stamp::Sound => text.add(b"sound"),
-        Stamp::Unsound(faults) => {
+        Stamp::Holds => text.add(b"holds"),
+        Stamp::Unsound(faults, time) => {
+            if time != 0 {
+                return add_time_verdict(text, faults, time);
+            }
             text.add(b"unsound ")?;
             text.add_number(faults)
         }
@@ -87,30 +109,58 @@ fn none_given(empty: bool) -> &'static [u8]
     }
 }
 
-fn add_faults<A: Allocator>(text: &mut Text<'_, A>, faults: u32) -> Result<(), AllocError>
-    ensures { OnOk result (text.new ≡ text.old ++ faults_words faults) }
+fn add_number<A: Allocator>(text: &mut Text<'_, A>, faults: u32) -> Result<(), AllocError>
+    ensures { OnOk result (text.new ≡ text.old ++ number_words faults) }
 {
     if faults == 1 {
-        return text.add(b"one fault.");
+        return text.add(b"one fault");
     }
     text.add_number(faults)?;
-    text.add(b" faults.")
+    text.add(b" faults")
+}
+
+fn add_which<A: Allocator>(text: &mut Text<'_, A>, faults: u32, time: u32) -> Result<(), AllocError>
+    ensures { OnOk result (text.new ≡ text.old ++ which_words faults time) }
+{
+    if time == faults {
+        return text.add(b", which");
+    }
+    text.add(b", of which ")?;
+    text.add_number(time)
+}
+
+/// How many of so many faults lose time alone.
+fn add_lost<A: Allocator>(text: &mut Text<'_, A>, faults: u32, time: u32) -> Result<(), AllocError>
+    ensures { OnOk result (text.new ≡ text.old ++ lost_words faults time) }
+{
+    if time == 0 {
+        return Ok(());
+    }
+    add_which(text, faults, time)?;
+    add_alone(text, time)
+}
+
+fn add_faults<A: Allocator>(
+    text: &mut Text<'_, A>,
+    faults: u32,
+    time: u32,
+) -> Result<(), AllocError>
+    ensures { OnOk result (text.new ≡ text.old ++ faults_words faults time) }
+{
+    add_number(text, faults)?;
+    add_lost(text, faults, time)?;
+    text.add(b".")
 }
 
 /// How the sentence begins.
-fn holds_words(empty: bool, stamp: Stamp) -> &'static [u8]
-    ensures { result.now ≡ holds_words empty stamp }
+fn holds_words(stamp: Stamp) -> &'static [u8]
+    ensures { result.now ≡ holds_words stamp }
 {
     match stamp {
         Stamp::Wrong => b"The stipulation does not hold.",
-        Stamp::Sound => {
-            if empty {
-                b"The stipulation holds."
-            } else {
-                b"The stipulation holds, and each move of the solution is the only one."
-            }
-        }
-        Stamp::Unsound(_) => b"The stipulation holds; the solution has ",
+        Stamp::Sound => b"The stipulation holds, and each move of the solution is the only one.",
+        Stamp::Holds => b"The stipulation holds.",
+        Stamp::Unsound(_, _) => b"The stipulation holds; the solution has ",
     }
 }
 
@@ -118,7 +168,7 @@ fn add_count<A: Allocator>(text: &mut Text<'_, A>, stamp: Stamp) -> Result<(), A
     ensures { OnOk result (text.new ≡ text.old ++ count_words stamp) }
 {
     match stamp {
-        Stamp::Unsound(faults) => add_faults(text, faults),
+        Stamp::Unsound(faults, time) => add_faults(text, faults, time),
         _ => Ok(()),
     }
 }
@@ -132,7 +182,7 @@ fn add_sentence<A: Allocator>(
 ) -> Result<(), AllocError>
     ensures { OnOk result (text.new ≡ text.old ++ sentence empty stamp) }
 {
-    text.add(holds_words(empty, stamp))?;
+    text.add(holds_words(stamp))?;
     add_count(text, stamp)?;
     text.add(none_given(empty))
 }
@@ -198,29 +248,36 @@ pub fn put_verdict<'a, A: Allocator>(
     html.put(Element::Verdict, &part)
 }
 
-fn stamp_in<'b, B: Allocator>(bench: &Bench<'b, B>, root: &Mark) -> Stamp
+fn stamp_in<'b, B: Allocator>(bench: &Bench<'b, B>, root: &Mark, empty: bool, time: u32) -> Stamp
     requires { root.now ≡ (marked bench.now).tree.label }
-    ensures { result ≡ stamp_of (verdict (marked bench.now)) }
+    ensures { result ≡ stamp_of (verdict (marked bench.now)) empty time }
 {
-    stamp_of(&bench.stipulation(), bench.start().position.to_move(), root)
+    stamp_of(
+        &bench.stipulation(),
+        bench.start().position.to_move(),
+        root,
+        empty,
+        time,
+    )
 }
 
-fn judged_at<'b, B: Allocator>(bench: &Bench<'b, B>, root: &Mark) -> Judged
+fn judged_at<'b, B: Allocator>(bench: &Bench<'b, B>, root: &Mark, time: u32) -> Judged
     requires { root.now ≡ (marked bench.now).tree.label }
-    ensures { result ≡ judged (marked bench.now) }
+    ensures { result ≡ judged (marked bench.now) time }
 {
     let first = bench.start().position.to_move();
+    let empty = is_empty(bench);
     Judged {
-        stamp: stamp_in(bench, root),
-        empty: is_empty(bench),
+        stamp: stamp_in(bench, root, empty, time),
+        empty,
         first,
         value: root.value,
     }
 }
 
-/// What a judge reads of the study.
-pub fn judge<'b, B: Allocator>(bench: &Bench<'b, B>) -> Judged
-    ensures { result ≡ judged (marked bench.now) }
+/// What a judge reads of the study, of whose faults so many lose time alone.
+pub fn judge<'b, B: Allocator>(bench: &Bench<'b, B>, time: u32) -> Judged
+    ensures { result ≡ judged (marked bench.now) time }
 {
-    judged_at(bench, &root_mark(bench))
+    judged_at(bench, &root_mark(bench), time)
 }

@@ -14,6 +14,14 @@ use study_review::made_in;
 use study_text::Text;
 use study_values::Value;
 
+/// Where a move of a study is made: the study's start, by which moves are numbered, how many plies are before it, and the position.
+#[derive(Clone, Copy)]
+pub struct Ply<'n> {
+    pub start: &'n Start,
+    pub depth: usize,
+    pub position: &'n Position,
+}
+
 fn add_minus<A: Allocator>(text: &mut Text<'_, A>, minus: bool) -> Result<(), AllocError>
     ensures { OnOk result (text.new ≡ text.old ++ minus_where minus) }
 {

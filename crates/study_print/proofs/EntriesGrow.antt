@@ -1,24 +1,26 @@
 -- The list of entries with one more.
-use Rattle.std.proofs.Common.{◌≡◌, ℕ, List, [], ◌∷◌, ◌++◌, refl, sym, ap, ◌∙◌, append_assoc, append-nil}
+use Rattle.std.proofs.Common.{◌≡◌, ℕ, List, [], ◌∷◌, ◌++◌, refl, sym, ap, subst, ◌∙◌, append_assoc, append-nil}
 use Rattle.study_marks.specs.declared.mark.Mark.{Mark}
 use Rattle.study_marks.specs.Edits.{Plainly}
 use Rattle.study_marks.specs.Study.{Study, plain_study}
 use Rattle.study_marks.specs.Annotated.{IsAnnotated}
-use Rattle.study_page.specs.Lists.{summary_row}
+use Rattle.study_page.specs.Page.{IsRow}
 use Rattle.study_print.specs.declared.pages.Count.{Count}
 use Rattle.study_print.specs.declared.pages.Count.TheVariants.{Nothing, One, Several}
 use Rattle.study_print.specs.Entries.{count_of, AreRows, AreEntries}
 
-rows_after : (told : List (Plainly × ℕ)) (rows : List ℕ) (s : Study Mark) (n : ℕ) → IsAnnotated s → AreRows told rows
-    → AreRows (told ++ (plain_study s, n) ∷ []) (rows ++ summary_row s n)
-rows_after [] rows s n a e = (s, refl, a, [], refl, ap (λ (t : List ℕ). t ++ summary_row s n) e ∙ sym (append-nil (summary_row s n)))
-rows_after ((plain, k) ∷ more) rows s n a (t, same, is, rest, tail, e) = (
+rows_after : (told : List (Plainly × ℕ)) (rows : List ℕ) (s : Study Mark) (n : ℕ) (row : List ℕ) → IsAnnotated s → IsRow s n row
+    → AreRows told rows → AreRows (told ++ (plain_study s, n) ∷ []) (rows ++ row)
+rows_after [] rows s n row a i e = (s, refl, a, row, [], i, refl, ap (λ (t : List ℕ). t ++ row) e ∙ sym (append-nil row))
+rows_after ((plain, k) ∷ more) rows s n row a i (t, same, is, one, rest, its, tail, e) = (
   t,
   same,
   is,
-  rest ++ summary_row s n,
-  rows_after more rest s n a tail,
-  ap (λ (u : List ℕ). u ++ summary_row s n) e ∙ append_assoc (summary_row t k) rest (summary_row s n),
+  one,
+  rest ++ row,
+  its,
+  rows_after more rest s n row a i tail,
+  ap (λ (u : List ℕ). u ++ row) e ∙ append_assoc one rest row,
 )
 
 count_after : (told : List (Plainly × ℕ)) (x : Plainly × ℕ) (count next : Count) → count ≡ count_of told
@@ -28,8 +30,11 @@ count_after [] x count next same f g h = f same
 count_after (a ∷ []) x count next same f g h = g same
 count_after (a ∷ b ∷ more) x count next same f g h = h same
 
-pub entries_after : (told : List (Plainly × ℕ)) (count next : Count) (rows : List ℕ) (s : Study Mark) (n : ℕ) → AreEntries count rows told
-    → IsAnnotated s → (count ≡ Nothing → next ≡ One) → (count ≡ One → next ≡ Several) → (count ≡ Several → next ≡ Several)
-    → AreEntries next (rows ++ summary_row s n) (told ++ (plain_study s, n) ∷ [])
-entries_after told count next rows s n (same, are) a f g h =
-    (count_after told (plain_study s, n) count next same f g h, rows_after told rows s n a are)
+pub entries_after : (told : List (Plainly × ℕ)) (count next : Count) (rows new : List ℕ) (s : Study Mark) (n : ℕ) → AreEntries count rows told
+    → IsAnnotated s → (row : List ℕ) × IsRow s n row × (new ≡ rows ++ row)
+    → (count ≡ Nothing → next ≡ One) → (count ≡ One → next ≡ Several) → (count ≡ Several → next ≡ Several)
+    → AreEntries next new (told ++ (plain_study s, n) ∷ [])
+entries_after told count next rows new s n (same, are) a (row, is, e) f g h = (
+  count_after told (plain_study s, n) count next same f g h,
+  subst (λ (t : List ℕ). AreRows (told ++ (plain_study s, n) ∷ []) t) (sym e) (rows_after told rows s n row a is are),
+)

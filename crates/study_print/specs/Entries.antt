@@ -4,7 +4,7 @@ use Rattle.study_marks.specs.declared.mark.Mark.{Mark}
 use Rattle.study_marks.specs.Edits.{Plainly}
 use Rattle.study_marks.specs.Study.{Study, plain_study}
 use Rattle.study_marks.specs.Annotated.{IsAnnotated}
-use Rattle.study_page.specs.Lists.{summary_row}
+use Rattle.study_page.specs.Page.{IsRow}
 use Rattle.study_print.specs.declared.pages.Count.{Count}
 use Rattle.study_print.specs.declared.pages.Count.TheVariants.{Nothing, One, Several}
 
@@ -18,7 +18,8 @@ count_of (x ∷ y ∷ more) = Several
 abbrev pub AreRows : List (Plainly × ℕ) → List ℕ → Type 0
 AreRows [] rows = rows ≡ []
 AreRows ((plain, number) ∷ more) rows =
-    (s : Study Mark) × (plain_study s ≡ plain) × IsAnnotated s × (rest : List ℕ) × AreRows more rest × (rows ≡ summary_row s number ++ rest)
+    (s : Study Mark) × (plain_study s ≡ plain) × IsAnnotated s
+    × (row rest : List ℕ) × IsRow s number row × AreRows more rest × (rows ≡ row ++ rest)
 
 -- the entries of exactly these studies
 abbrev pub AreEntries : Count → List ℕ → List (Plainly × ℕ) → Type 0

@@ -1,15 +1,13 @@
 //! A report in printed pages.
-ghost use Rattle.std.specs.Prelude.{◌≡◌, ◌++◌, [], IfOk};
-ghost use Rattle.study_marks.specs.BenchState.{marked};
-ghost use Rattle.study_page.specs.Lists.{summary_row};
+ghost use Rattle.std.specs.Prelude.{◌≡◌, []};
 
 use crate::reasons::{reason_of, refusal_in};
 use crate::watch::Watch;
-use std::alloc::{AllocError, Allocator};
+use std::alloc::Allocator;
 use std::io::Write;
 use study_html::Html;
 use study_marks::Bench;
-use study_page::{PageFault, add_entry, write_page, write_refusal};
+use study_page::{Listed, PageFault, write_page, write_refusal};
 use study_report::{NotTold, Report, ReviewFault};
 use study_values::Values;
 
@@ -60,21 +58,6 @@ impl<'s, S: Allocator, N: Watch> Pages<'s, S, N> {
     }
 }
 
-/// The rows with one more, of the study on the bench.
-fn with_row<'s, 'b, S: Allocator, B: Allocator>(
-    alloc: &'s S,
-    rows: &Html<'_, S>,
-    bench: &Bench<'b, B>,
-    number: u32,
-) -> Result<Html<'s, S>, AllocError>
-    ensures { IfOk result (λ more. more ≡ rows.now ++ summary_row (marked bench.now) number) }
-{
-    let mut more = Html::new(alloc);
-    more.append(rows)?;
-    add_entry(alloc, &mut more, bench, number)?;
-    Ok(more)
-}
-
 impl<'s, S: Allocator, N: Watch> Report for Pages<'s, S, N> {
     ghost use Rattle.study_page.specs.Page.{IsPageOf, IsEntry};
     ghost use Rattle.study_print.specs.Entries.{AreEntries};
@@ -96,10 +79,11 @@ impl<'s, S: Allocator, N: Watch> Report for Pages<'s, S, N> {
         number: u32,
         out: &mut W,
     ) -> Result<(), ReviewFault> {
-        let Ok(rows) = with_row(self.alloc, &self.rows, bench, number) else {
-            return Err(ReviewFault::OutOfMemory);
+        let list = Listed {
+            alloc: self.alloc,
+            rows: &self.rows,
         };
-        write_page(alloc, bench, values, number, out)?;
+        let rows = write_page(alloc, bench, values, number, list, out)?;
         self.rows = rows;
         self.count = self.count.next();
         self.watch.told(number);

@@ -3,8 +3,10 @@ use Rattle.study_tree.specs.Forest.{nodes_in}
 use Rattle.study_marks.specs.BenchState.{marked}
 use Rattle.study_marks.specs.FaultSums.{below_at}
 use Rattle.study_review.specs.Asked.{AllTold, within}
-use Rattle.study_page.specs.Made.{RowsOf}
+use Rattle.study_review.specs.TimeFaults.{IsTimeFault}
+use Rattle.study_review.proofs.TimeCounted.{SumGoesOn}
 use Rattle.study_review.proofs.WrittenOrder.{GoesOn}
+use Rattle.study_page.specs.Rows.{FaultItems, Cards, TryRows, ZugzwangRows, DefenceRows, EndRows}
 use Rattle.study_page.proofs.walk.+add_each.Given as goal
 
 -- fewer nodes are below a child
@@ -14,8 +16,20 @@ decreases-add_each g l = nodes_in (below_at (marked l.bench.now).tree.below l.st
 -- what is written, and any lines of the nodes that are left, are lines of all
 abbrev pub invariant-loop-place : goal.invariant-loop-place
 invariant-loop-place g l = record {
-  written : g.V.Values.is_honest l.fn.values → GoesOn (RowsOf l.part (marked l.bench)) l.fn.steps.items
-      (below_at (marked l.bench).tree.below l.fn.steps.items) l.place l.initial.html l.html;
+  faults : g.V.Values.is_honest l.fn.values → GoesOn (FaultItems (marked l.bench)) l.fn.steps.items
+      (below_at (marked l.bench).tree.below l.fn.steps.items) l.place l.initial.parts.faults l.parts.faults;
+  duals : g.V.Values.is_honest l.fn.values → GoesOn (Cards (marked l.bench)) l.fn.steps.items
+      (below_at (marked l.bench).tree.below l.fn.steps.items) l.place l.initial.parts.duals l.parts.duals;
+  tries : g.V.Values.is_honest l.fn.values → GoesOn (TryRows (marked l.bench)) l.fn.steps.items
+      (below_at (marked l.bench).tree.below l.fn.steps.items) l.place l.initial.parts.tries l.parts.tries;
+  zugzwangs : g.V.Values.is_honest l.fn.values → GoesOn (ZugzwangRows (marked l.bench)) l.fn.steps.items
+      (below_at (marked l.bench).tree.below l.fn.steps.items) l.place l.initial.parts.zugzwangs l.parts.zugzwangs;
+  defences : g.V.Values.is_honest l.fn.values → GoesOn (DefenceRows (marked l.bench)) l.fn.steps.items
+      (below_at (marked l.bench).tree.below l.fn.steps.items) l.place l.initial.parts.defences l.parts.defences;
+  ends : g.V.Values.is_honest l.fn.values → GoesOn (EndRows (marked l.bench)) l.fn.steps.items
+      (below_at (marked l.bench).tree.below l.fn.steps.items) l.place l.initial.parts.ends l.parts.ends;
+  time : g.V.Values.is_honest l.fn.values → SumGoesOn (IsTimeFault (marked l.bench)) l.fn.steps.items
+      (below_at (marked l.bench).tree.below l.fn.steps.items) l.place l.initial.parts.time_faults l.parts.time_faults;
   back : l.steps.items ≡ l.fn.steps.items;
   told : AllTold g.V.Values.held (within (marked l.bench).start.position g.V.Values.gives) g.V.Values.may_fail g.V.Values.asked_of g.V.Values.failed_of g.V.Values.is_honest
       l.fn.values l.values;

@@ -1,0 +1,32 @@
+use Rattle.std.proofs.Common.{refl}
+use Rattle.study_page.proofs.WholePage.{from-nothing, page-entry}
+use Rattle.study_page.proofs.page.entry_of.Goals as goal
+
+pub returns-clause-text : goal.returns-clause-text
+returns-clause-text g c h =
+    let parts = c.in_ok-parts.parts in
+    let p = c.in_ok-parts.ensures.text h in (
+      parts.faults,
+      parts.duals,
+      parts.tries,
+      parts.zugzwangs,
+      parts.defences,
+      parts.ends,
+      parts.time_faults,
+      p.0,
+      p.1,
+      p.2,
+      p.3,
+      p.4,
+      p.5,
+      p.6,
+      from-nothing _ _ _ c.new-page.ensures c.in_ok-put_page.ensures,
+    )
+
+pub returns-clause-rows : goal.returns-clause-rows
+returns-clause-rows g c h =
+    let p = c.in_ok-parts.ensures.text h in
+    (_, (c.in_ok-parts.parts.time_faults, p.1, refl), c.in_ok-rows.ensures)
+
+pub returns-clause-entry : goal.returns-clause-entry
+returns-clause-entry g c = page-entry _ _ _ _ _ _ _ _ _ _ (from-nothing _ _ _ c.new-page.ensures c.in_ok-put_page.ensures)

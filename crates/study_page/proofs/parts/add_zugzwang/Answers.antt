@@ -1,0 +1,22 @@
+use Rattle.study_marks.specs.BenchState.{marked}
+use Rattle.study_review.specs.Asked.{within}
+use Rattle.study_page.proofs.Asking.{of-told, no-memory}
+use Rattle.study_page.proofs.MadeRows.{zugzwang-told}
+use Rattle.study_page.proofs.parts.add_zugzwang.Goals as goal
+
+pub returns-in_ok-put_zugzwang_at-in-Ok-clause-text : goal.returns-in_ok-put_zugzwang_at-in-Ok-clause-text
+returns-in_ok-put_zugzwang_at-in-Ok-clause-text g c h =
+    zugzwang-told (marked c.args.bench.now) c.args.steps.now c.args.place.now c.requires c.in-Ok.zugzwang c.args.html.now c.put_zugzwang_at.new.html
+    (c.in-Ok.ensures.game h) c.in_ok-put_zugzwang_at-in-Ok.ensures
+
+pub returns-in_err-put_zugzwang_at-in-Ok-clause-asked : goal.returns-in_err-put_zugzwang_at-in-Ok-clause-asked
+returns-in_err-put_zugzwang_at-in-Ok-clause-asked g c =
+    no-memory g.V.Values.held (within c.args.place.now.position g.V.Values.gives) g.V.Values.may_fail g.V.Values.asked_of g.V.Values.failed_of g.V.Values.is_honest
+    c.args.values.now c.zugzwang_at.new.values c.from_residual.result c.from_residual.ensures.1
+    (of-told g.V.Values.held (within c.args.place.now.position g.V.Values.gives) g.V.Values.may_fail g.V.Values.asked_of g.V.Values.failed_of g.V.Values.is_honest
+    c.args.values.now c.zugzwang_at.new.values c.in-Ok.ensures.told c.in-Ok.ensures.failures c.zugzwang_at.ensures.honest c.zugzwang_at.ensures.tables)
+
+pub returns-in_ok-put_zugzwang_at-in-Ok-clause-asked : goal.returns-in_ok-put_zugzwang_at-in-Ok-clause-asked
+returns-in_ok-put_zugzwang_at-in-Ok-clause-asked g c =
+    of-told g.V.Values.held (within c.args.place.now.position g.V.Values.gives) g.V.Values.may_fail g.V.Values.asked_of g.V.Values.failed_of g.V.Values.is_honest
+    c.args.values.now c.zugzwang_at.new.values c.in-Ok.ensures.told c.in-Ok.ensures.failures c.zugzwang_at.ensures.honest c.zugzwang_at.ensures.tables

@@ -1,0 +1,40 @@
+//! What a page is made of, before it is whole.
+ghost use Rattle.std.specs.Prelude.{◌≡◌, []};
+
+use std::alloc::Allocator;
+use study_html::Html;
+
+/// What is made of the nodes, part by part, and how many faults of the solution lose time alone.
+#[derive(Drop)]
+pub struct Parts<'a, A: Allocator> {
+    pub faults: Html<'a, A>,
+    pub time_faults: u32,
+    pub duals: Html<'a, A>,
+    pub tries: Html<'a, A>,
+    pub zugzwangs: Html<'a, A>,
+    pub defences: Html<'a, A>,
+    pub ends: Html<'a, A>,
+}
+
+impl<'a, A: Allocator> Parts<'a, A> {
+    /// Nothing of any node.
+    pub fn new(alloc: &'a A) -> Self
+        ensures faults { result.faults ≡ [] }
+        ensures time { result.time_faults ≡ 0 }
+        ensures duals { result.duals ≡ [] }
+        ensures tries { result.tries ≡ [] }
+        ensures zugzwangs { result.zugzwangs ≡ [] }
+        ensures defences { result.defences ≡ [] }
+        ensures ends { result.ends ≡ [] }
+    {
+        Parts {
+            faults: Html::new(alloc),
+            time_faults: 0,
+            duals: Html::new(alloc),
+            tries: Html::new(alloc),
+            zugzwangs: Html::new(alloc),
+            defences: Html::new(alloc),
+            ends: Html::new(alloc),
+        }
+    }
+}
