@@ -1,8 +1,9 @@
 -- The tree of the solution, child by child.
-use Rattle.std.proofs.Common.{◌≡◌, ℕ, zero, suc, ◌+◌, ◌≤◌, Bool, true, false, not, List, [], ◌++◌, Option, Some, None}
+use Rattle.std.proofs.Common.{◌≡◌, ℕ, zero, suc, ◌+◌, ◌≤◌, Bool, true, false, not, List, [], ◌++◌, Option, Some, None, Result, OnOk}
 use Rattle.std.proofs.Common.{refl, sym, ap, ◌∙◌, arith, append_assoc, add-one, nat_lt}
 use Rattle.std.proofs.lemmas.Bool.{lt-ltb}
 use Rattle.std.proofs.lemmas.List.{append-nil}
+use Rattle.std.proofs.lemmas.Result.{on_ok_weaker}
 use Rattle.study_board.specs.declared.men.Side.{Side}
 use Rattle.study_notation.specs.declared.start.Start.{Start}
 use Rattle.study_notation.specs.Played.{start_after}
@@ -13,7 +14,7 @@ use Rattle.study_pgn.proofs.PathWalks.{skip}
 use Rattle.study_review.specs.Nodes.{has_none}
 use Rattle.study_html.specs.declared.element.Element.TheVariants.{Item}
 use Rattle.study_html.specs.Elements.{inside}
-use Rattle.study_page.specs.Tree.{made_words, list_where, tree_words, item_words}
+use Rattle.study_page.specs.Tree.{made_words, list_where, others_of, tree_words, item_words}
 
 skip_zero : (f : Forest Mark) → skip 0 f ≡ f
 skip_zero none = refl
@@ -23,6 +24,10 @@ skip_all : (k : ℕ) (f : Forest Mark) → width f ≤ k → skip k f ≡ none
 skip_all k none h = refl
 skip_all zero (more m l b r) h = absurd (omega (arith, h))
 skip_all (suc k) (more m l b r) h = skip_all k r (omega (arith, h))
+
+others_skip : (f : Forest Mark) → skip 1 f ≡ others_of f
+others_skip none = refl
+others_skip (more m l b r) = skip_zero r
 
 -- there are other moves beside the first
 others_there : (f : Forest Mark) → nat_lt 1 (width f) ≡ not (has_none (skip 1 f))
@@ -89,20 +94,30 @@ module _ (hero : Side) (s : Start) where
         ∙ append_assoc list (inside Item (made_words hero true s t.played t.label ++ tree_words hero false (start_after s t.played) t.below)) v
         ∙ ap (λ (x : List ℕ). list ++ x) (sym (items_first f k t e)) ∙ h
 
-  module _ (first : Bool) (f : Forest Mark) (k : ℕ) (t : Twig Mark) (next : Start) (en : next ≡ start_after s t.played) where
-    -- all is written: the first move, the list of the others, and what follows the first
-    pub tree_written : (old made list listed new : List ℕ) (wide : Bool) → node_in f 0 [] ≡ Some t
-        → made ≡ old ++ made_words hero first s t.played t.label → width f ≤ k
-        → list ++ item_words hero s (skip k f) ≡ item_words hero s (skip 1 f) → listed ≡ made ++ list_where list
-        → wide ≡ nat_lt 1 (width f) → new ≡ listed ++ tree_words hero wide next t.below → new ≡ old ++ tree_words hero first s f
-    tree_written old made list listed new wide e em few h el ew n =
+  -- all items are written
+  items_all : (f : Forest Mark) (k : ℕ) (list : List ℕ) → width f ≤ k → list ++ item_words hero s (skip k f) ≡ item_words hero s (skip 1 f)
+      → list ≡ item_words hero s (others_of f)
+  items_all f k list few h =
+      sym (append-nil list) ∙ ap (λ (x : List ℕ). list ++ x) (sym (items_done f k few)) ∙ h ∙ ap (item_words hero s) (others_skip f)
+
+  pub list_written : {T E : Type 0} (f : Forest Mark) (k : ℕ) (old list new : List ℕ) (r : Result T E) → width f ≤ k
+      → list ++ item_words hero s (skip k f) ≡ item_words hero s (skip 1 f) → OnOk r (new ≡ old ++ list_where list)
+      → OnOk r (new ≡ old ++ list_where (item_words hero s (others_of f)))
+  list_written f k old list new r few h put =
+      on_ok_weaker r (λ e. e ∙ ap (λ (x : List ℕ). old ++ list_where x) (items_all f k list few h)) put
+
+  module _ (first : Bool) (f : Forest Mark) (t : Twig Mark) (next : Start) (en : next ≡ start_after s t.played) where
+    -- a ply of the main line is written: its move, and the list of the others
+    pub ply_written : (old made listed whole : List ℕ) (wide : Bool) → node_in f 0 [] ≡ Some t
+        → made ≡ old ++ made_words hero first s t.played t.label → listed ≡ made ++ list_where (item_words hero s (others_of f))
+        → wide ≡ nat_lt 1 (width f) → old ++ tree_words hero first s f ≡ whole → listed ++ tree_words hero wide next t.below ≡ whole
+    ply_written old made listed whole wide e em el ew h =
         let w = made_words hero first s t.played t.label in
-        let done : list ≡ item_words hero s (skip 1 f) =
-        sym (append-nil list) ∙ ap (λ (x : List ℕ). list ++ x) (sym (items_done f k few)) ∙ h in
         let l = list_where (item_words hero s (skip 1 f)) in
         let b = tree_words hero (not (has_none (skip 1 f))) (start_after s t.played) t.below in
         let after : tree_words hero wide next t.below ≡ b =
         ap (λ x. tree_words hero wide x t.below) en ∙ ap (λ x. tree_words hero x (start_after s t.played) t.below) (ew ∙ others_there f) in
-        n ∙ ap (λ (x : List ℕ). listed ++ x) after ∙ ap (λ (x : List ℕ). x ++ b) (el ∙ ap (λ (x : List ℕ). made ++ list_where x) done
-        ∙ ap (λ (x : List ℕ). x ++ l) em) ∙ append_assoc (old ++ w) l b ∙ append_assoc old w (l ++ b)
-        ∙ ap (λ (x : List ℕ). old ++ x) (sym (tree_first first f t e))
+        let both : listed ≡ (old ++ w) ++ l =
+        el ∙ ap (λ g. made ++ list_where (item_words hero s g)) (sym (others_skip f)) ∙ ap (λ (x : List ℕ). x ++ l) em in
+        ap (λ (x : List ℕ). listed ++ x) after ∙ ap (λ (x : List ℕ). x ++ b) both ∙ append_assoc (old ++ w) l b ∙ append_assoc old w (l ++ b)
+        ∙ ap (λ (x : List ℕ). old ++ x) (sym (tree_first first f t e)) ∙ h

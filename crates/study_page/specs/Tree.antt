@@ -57,6 +57,11 @@ unfoldable pub made_words : Side → Bool → Start → Move → Mark → List �
 made_words hero first s m x =
     played_words first s m x.on_move ++ (below_words hero s.position.to_move x.value ++ (dual_words x.on_move ++ said (codes " ")))
 
+-- the moves beside the first
+abbrev pub others_of : Forest Mark → Forest Mark
+others_of none = none
+others_of (more m mark below others) = others
+
 -- items as a list, where there are any
 abbrev pub list_where : List ℕ → List ℕ
 list_where items = if length items == 0 then [] else inside element.List items

@@ -59,10 +59,10 @@ fn solution_of<'a, 'b, A: Allocator, B: Allocator>(
 ) -> Result<Html<'a, A>, AllocError>
     ensures { IfOk result (λ tree. tree ≡ solution_words (marked bench.now)) }
 {
-    let start = bench.start();
+    let start = bench.start().copied();
     let hero = bench.stipulation().hero;
     let mut tree = Html::new(alloc);
-    put_following(alloc, &mut tree, hero, true, start, &bench.root())?;
+    put_following(alloc, &mut tree, hero, true, start, bench.root())?;
     Ok(tree)
 }
 

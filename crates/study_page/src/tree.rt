@@ -2,7 +2,7 @@
 ghost use Rattle.std.specs.Prelude.{◌≡◌, ◌++◌, true, OnOk};
 ghost use Rattle.study_marks.specs.Study.{IsPlayable};
 ghost use Rattle.study_moves.specs.Rules.{is_legal};
-ghost use Rattle.study_page.specs.Tree.{move_element, sign_words, dual_words, number_where, played_words, below_words, made_words, list_where, tree_words};
+ghost use Rattle.study_page.specs.Tree.{move_element, sign_words, dual_words, number_where, played_words, below_words, made_words, list_where, others_of, item_words, tree_words};
 
 use crate::rows::is_white;
 use crate::words::add_short;
@@ -150,22 +150,19 @@ fn put_list<A: Allocator>(html: &mut Html<'_, A>, items: &Html<'_, A>) -> Result
     html.put(Element::List, items)
 }
 
-/// What follows a node: the first move, the variations for the others in a list, and what follows the first.
-pub fn put_following<'t, 'a, 'b, A: Allocator, B: Allocator>(
+/// The variations for the moves beside the first, in a list. It is a call of its own, so that a ply of the main line takes nothing of the stack.
+#[inline(never)]
+#[cycle(tree)]
+fn put_variations<'t, 'a, 'b, A: Allocator, B: Allocator>(
     alloc: &'a A,
     html: &mut Html<'_, A>,
     hero: Side,
-    first: bool,
     start: &Start,
     node: &MarkedNode<'t, 'b, B>,
 ) -> Result<(), AllocError>
     requires { IsPlayable start.now.position node.now.below }
-    ensures { OnOk result (html.new ≡ html.old ++ tree_words hero first start.now node.now.below) }
+    ensures { OnOk result (html.new ≡ html.old ++ list_where (item_words hero start.now (others_of node.now.below))) }
 {
-    let Some(main) = node.child(0) else {
-        return Ok(());
-    };
-    put_made(alloc, html, hero, first, start, &main)?;
     let mut list = Html::new(alloc);
     for place in 1..node.width() {
         let Some(other) = node.child(place) else {
@@ -174,10 +171,33 @@ pub fn put_following<'t, 'a, 'b, A: Allocator, B: Allocator>(
         let mut item = Html::new(alloc);
         put_made(alloc, &mut item, hero, true, start, &other)?;
         let after = start.played(other.played);
-        put_following(alloc, &mut item, hero, false, &after, &other.node)?;
+        put_following(alloc, &mut item, hero, false, after, other.node)?;
         list.put(Element::Item, &item)?;
     }
-    put_list(html, &list)?;
-    let next = start.played(main.played);
-    put_following(alloc, html, hero, 1 < node.width(), &next, &main.node)
+    put_list(html, &list)
+}
+
+/// What follows a node: its first move, the variations for the others in a list, and so on along the main line.
+#[cycle(tree)]
+pub fn put_following<'t, 'a, 'b, A: Allocator, B: Allocator>(
+    alloc: &'a A,
+    html: &mut Html<'_, A>,
+    hero: Side,
+    mut first: bool,
+    mut start: Start,
+    mut node: MarkedNode<'t, 'b, B>,
+) -> Result<(), AllocError>
+    requires { IsPlayable start.position node.below }
+    ensures { OnOk result (html.new ≡ html.old ++ tree_words hero first start node.entry.below) }
+{
+    'plies: loop {
+        let Some(main) = node.child(0) else {
+            return Ok(());
+        };
+        put_made(alloc, html, hero, first, &start, &main)?;
+        put_variations(alloc, html, hero, &start, &node)?;
+        first = 1 < node.width();
+        start = start.played(main.played);
+        node = main.node;
+    }
 }

@@ -1,0 +1,29 @@
+use Rattle.std.proofs.Common.{◌≡◌, ◌++◌, ◌+◌, ◌*◌, ◌≤◌}
+use Rattle.study_marks.specs.Study.{IsPlayable}
+use Rattle.study_tree.specs.Forest.{nodes_in}
+use Rattle.study_pgn.proofs.PathWalks.{skip}
+use Rattle.study_page.specs.Tree.{item_words, tree_words}
+use Rattle.study_page.proofs.tree.+tree.Given as goal
+
+-- fewer nodes are below a child
+abbrev pub decreases-put_variations : goal.decreases-put_variations
+decreases-put_variations g l = 2 * nodes_in l.node.now.below
+
+abbrev pub decreases-put_following : goal.decreases-put_following
+decreases-put_following g l = 2 * nodes_in l.node.below + 1
+
+-- the items that are written, and those that are left, are all of them
+abbrev pub put_variations-invariant-loop-place : goal.put_variations-invariant-loop-place
+put_variations-invariant-loop-place g l =
+    l.list ++ item_words l.hero l.start (skip l.place l.node.below) ≡ item_words l.hero l.start (skip 1 l.node.below)
+
+-- what is written, and what follows the node that is reached, are all of it
+abbrev pub put_following-invariant-plies : goal.put_following-invariant-plies
+put_following-invariant-plies g l = record {
+  playable : IsPlayable l.start.position l.node.below;
+  written : l.html ++ tree_words l.hero l.first l.start l.node.below ≡ l.fn.html ++ tree_words l.hero l.fn.first l.fn.start l.fn.node.below;
+  fewer : nodes_in l.node.below ≤ nodes_in l.fn.node.below;
+}
+
+abbrev pub put_following-decreases-plies : goal.put_following-decreases-plies
+put_following-decreases-plies g l = nodes_in l.node.below
