@@ -42,7 +42,8 @@ fn parts_of<'a, 'b, A: Allocator, B: Allocator, V: Values>(
         × AreTimeFaults (marked bench.now) p.time_faults × AreRows Cards (marked bench.now) p.duals
         × AreRows TryRows (marked bench.now) p.tries × AreRows ZugzwangRows (marked bench.now) p.zugzwangs
         × AreRows DefenceRows (marked bench.now) p.defences × AreRows EndRows (marked bench.now) p.ends) }
-    ensures asked { HasAsked V.held (within (marked bench.now).start.position V.gives) V.may_fail V.asked_of V.failed_of V.is_honest values.old result values.new }
+    ensures asked { HasAsked V.held (within (marked bench.now).start.position V.gives)
+        V.may_fail V.asked_of V.failed_of V.is_honest values.old result values.new }
 {
     // (the study has at most 4,096 nodes)
     let _size = bench.size();
@@ -342,7 +343,8 @@ fn entry_of<'a, 's, 'b, A: Allocator, S: Allocator, B: Allocator, V: Values>(
     ensures rows { V.is_honest values.old → IfOk result (λ entry. (row : List ℕ) × IsRow (marked bench.now) number row
         × (entry.rows ≡ list.now.rows.now ++ row)) }
     ensures entry { IfOk result (λ entry. IsEntry number entry.page) }
-    ensures asked { HasAsked V.held (within (marked bench.now).start.position V.gives) V.may_fail V.asked_of V.failed_of V.is_honest values.old result values.new }
+    ensures asked { HasAsked V.held (within (marked bench.now).start.position V.gives)
+        V.may_fail V.asked_of V.failed_of V.is_honest values.old result values.new }
 {
     let mut page = Html::new(alloc);
     let parts = parts_of(alloc, bench, values)?;
@@ -376,7 +378,8 @@ pub fn write_page<'a, 's, 'b, A: Allocator, S: Allocator, B: Allocator, V: Value
         × TakesPrefix (W.contents out.old) (W.contents out.new) text }
     ensures memory { result ≡ Err ReviewFault.OutOfMemory → out.new ≡ out.old }
     ensures untold { (fault : AProbeFault) → result ≡ Err (ReviewFault.Values fault) → out.new ≡ out.old }
-    ensures asked { HasReviewed V.held (within (marked bench.now).start.position V.gives) V.may_fail V.asked_of V.failed_of V.is_honest values.old result values.new }
+    ensures asked { HasReviewed V.held (within (marked bench.now).start.position V.gives)
+        V.may_fail V.asked_of V.failed_of V.is_honest values.old result values.new }
 {
     let entry = entry_of(alloc, bench, values, number, &list)?;
     write_text(out, entry.page.as_slice())?;

@@ -188,7 +188,8 @@ pub fn add_move<'a, 'b, A: Allocator, B: Allocator, V: Values>(
     ensures zugzwangs { parts.new.zugzwangs ≡ parts.old.zugzwangs }
     ensures defences { parts.new.defences ≡ parts.old.defences }
     ensures ends { parts.new.ends ≡ parts.old.ends }
-    ensures asked { HasAsked V.held (within (marked bench.now).start.position V.gives) V.may_fail V.asked_of V.failed_of V.is_honest values.old result values.new }
+    ensures asked { HasAsked V.held (within (marked bench.now).start.position V.gives)
+        V.may_fail V.asked_of V.failed_of V.is_honest values.old result values.new }
 {
     let first = bench.start();
     let value = value_at(bench, steps);

@@ -36,7 +36,8 @@ fn add_own<'a, 'b, A: Allocator, B: Allocator, V: Values>(
         → OnOk result (Grew (ZugzwangRows (marked bench.now) steps.now) parts.old.zugzwangs parts.new.zugzwangs) }
     ensures defences { V.is_honest values.old → OnOk result (Grew (DefenceRows (marked bench.now) steps.now) parts.old.defences parts.new.defences) }
     ensures ends { V.is_honest values.old → OnOk result (Grew (EndRows (marked bench.now) steps.now) parts.old.ends parts.new.ends) }
-    ensures asked { HasAsked V.held (within (marked bench.now).start.position V.gives) V.may_fail V.asked_of V.failed_of V.is_honest values.old result values.new }
+    ensures asked { HasAsked V.held (within (marked bench.now).start.position V.gives)
+        V.may_fail V.asked_of V.failed_of V.is_honest values.old result values.new }
 {
     let first = bench.start();
     match place_in(bench, steps) {
@@ -75,7 +76,8 @@ pub fn add_each<'a, 'b, A: Allocator, B: Allocator, V: Values>(
     ensures ends { V.is_honest values.old → OnOk result (Grew (LinesOfEach (EndRows (marked bench.now))
         (steps.old.items ∷ paths_from steps.old.items 0 (below_at (marked bench.now).tree.below steps.old.items))) parts.old.ends parts.new.ends) }
     ensures path { OnOk result (steps.new.items ≡ steps.old.items) }
-    ensures asked { HasAsked V.held (within (marked bench.now).start.position V.gives) V.may_fail V.asked_of V.failed_of V.is_honest values.old result values.new }
+    ensures asked { HasAsked V.held (within (marked bench.now).start.position V.gives)
+        V.may_fail V.asked_of V.failed_of V.is_honest values.old result values.new }
 {
     add_own(alloc, parts, bench, steps.as_slice(), values)?;
     let count = count_at(bench, steps.as_slice());
