@@ -8,7 +8,7 @@ use Rattle.study_review.specs.Made.{Grew, Rose}
 use Rattle.study_review.specs.Review.{paths_from, LinesOfEach, SumOfEach, AreTimeFaults, written_order}
 use Rattle.study_review.specs.TimeFaults.{IsTimeFault}
 use Rattle.study_review.proofs.WholeReview.{time-counted}
-use Rattle.study_page.specs.Page.{AreRows, page_text, IsEntry}
+use Rattle.study_page.specs.Page.{AreRows}
 
 pub all-rows : (Rows : Study Mark → List ℕ → List ℕ → Type 0) (s : Study Mark) (p old new : List ℕ) → p ≡ [] → old ≡ []
     → Grew (LinesOfEach (Rows s) (p ∷ paths_from p 0 (below_at s.tree.below p))) old new → AreRows Rows s new
@@ -26,8 +26,3 @@ all-time s size p old new is few pe e g =
 
 pub from-nothing : (old new text : List ℕ) → old ≡ [] → new ≡ old ++ text → new ≡ text
 from-nothing old new text e h = h ∙ ap (λ (u : List ℕ). u ++ text) e
-
-pub page-entry : (s : Study Mark) (number time : ℕ) (faults duals tries zugzwangs defences ends text : List ℕ)
-    → text ≡ page_text s number time faults duals tries zugzwangs defences ends → IsEntry number text
-unfolding page_text
-page-entry s number time faults duals tries zugzwangs defences ends text e = (_, e)

@@ -7,6 +7,7 @@ use Rattle.study_review.specs.Review.{LinesOfEach, AreTimeFaults, written_order}
 use Rattle.study_html.specs.declared.element.Element.TheVariants as element
 use Rattle.study_html.specs.Escape.{said}
 use Rattle.study_html.specs.Elements.{inside}
+use Rattle.study_html.specs.Markup.{IsWellNested}
 use Rattle.study_page.specs.Head.{head, figure}
 use Rattle.study_page.specs.Verdict.{verdict_part, judged}
 use Rattle.study_page.specs.Tree.{solution_words}
@@ -82,10 +83,14 @@ tables tries zugzwangs defences ends =
 unfoldable pub top : Study Mark → ℕ → List ℕ → List ℕ
 top s time faults = inside element.Top (figure s.stipulation s.start ++ verdict_part (judged s time) faults)
 
-unfoldable pub page_text : Study Mark → ℕ → ℕ → List ℕ → List ℕ → List ℕ → List ℕ → List ℕ → List ℕ → List ℕ
+unfoldable pub content : Study Mark → ℕ → List ℕ → List ℕ → List ℕ → List ℕ → List ℕ → List ℕ → List ℕ
+content s time faults duals tries zugzwangs defences ends =
+    head s.tags ++ (top s time faults ++ (solution_part (solution_words s) ++ (cards_part duals
+    ++ (tables tries zugzwangs defences ends ++ inside element.Foot (said foot_words)))))
+
+abbrev pub page_text : Study Mark → ℕ → ℕ → List ℕ → List ℕ → List ℕ → List ℕ → List ℕ → List ℕ → List ℕ
 page_text s number time faults duals tries zugzwangs defences ends =
-    inside (element.Entry number) (head s.tags ++ (top s time faults ++ (solution_part (solution_words s) ++ (cards_part duals
-    ++ (tables tries zugzwangs defences ends ++ inside element.Foot (said foot_words))))))
+    inside (element.Entry number) (content s time faults duals tries zugzwangs defences ends)
 
 -- ---- what it says
 
@@ -107,9 +112,9 @@ IsPage s number text =
 abbrev pub IsRow : Study Mark → ℕ → List ℕ → Type 0
 IsRow s number row = (time : ℕ) × AreTimeFaults s time × (row ≡ summary_row s time number)
 
--- each page is one element, the entry of its number, whatever the values are
+-- each page is one element, the entry of its number, with markup inside it that is well nested, whatever the values are
 abbrev pub IsEntry : ℕ → List ℕ → Type 0
-IsEntry number text = (content : List ℕ) × (text ≡ inside (element.Entry number) content)
+IsEntry number text = (content : List ℕ) × IsWellNested content × (text ≡ inside (element.Entry number) content)
 
 -- the page of a plain study is that of its annotation
 abbrev pub IsPageOf : Study (Unit {0}) → ℕ → List ℕ → Type 0

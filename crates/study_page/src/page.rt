@@ -14,7 +14,7 @@ ghost use Rattle.study_page.specs.Lists.{summary_row};
 ghost use Rattle.study_page.specs.Page.{tries_title, zugzwangs_title, missing_title, ends_title, last_tables};
 ghost use Rattle.study_page.specs.Rows.{FaultItems, Cards, TryRows, ZugzwangRows, DefenceRows, EndRows};
 ghost use Rattle.study_page.specs.Tree.{solution_words};
-ghost use Rattle.study_page.specs.Page.{solution_part, duals_title, duals_note, foot_words, tables, top, page_text};
+ghost use Rattle.study_page.specs.Page.{solution_part, duals_title, duals_note, foot_words, tables, top, content};
 ghost use Rattle.study_page.specs.Page.{IsPage, IsPageOf, IsEntry, IsRow};
 
 use crate::draft::Parts;
@@ -280,26 +280,23 @@ fn put_top<'a, 'b, A: Allocator, B: Allocator>(
     html.put(Element::Top, &within)
 }
 
-/// The page, of these parts.
-#[tactic(auto, unfolding(crate::specs::Page::page_text))]
-fn put_page<'a, 'b, A: Allocator, B: Allocator>(
+/// What is inside a page, of these parts.
+#[tactic(auto, unfolding(crate::specs::Page::content))]
+fn put_content<'a, 'b, A: Allocator, B: Allocator>(
     alloc: &'a A,
     html: &mut Html<'_, A>,
     bench: &Bench<'b, B>,
-    number: u32,
     parts: &Parts<'_, A>,
 ) -> Result<(), AllocError>
-    ensures { OnOk result (html.new ≡ html.old ++ page_text (marked bench.now) number parts.now.time_faults
+    ensures { OnOk result (html.new ≡ html.old ++ content (marked bench.now) parts.now.time_faults
         parts.now.faults parts.now.duals parts.now.tries parts.now.zugzwangs parts.now.defences parts.now.ends) }
 {
-    let mut page = Html::new(alloc);
-    put_head(alloc, &mut page, bench)?;
-    put_top(alloc, &mut page, bench, parts)?;
-    put_solution(alloc, &mut page, bench)?;
-    put_cards(alloc, &mut page, &parts.duals)?;
-    put_tables(alloc, &mut page, parts)?;
-    put_words(alloc, &mut page, Element::Foot, foot_words())?;
-    html.put(Element::Entry(number), &page)
+    put_head(alloc, html, bench)?;
+    put_top(alloc, html, bench, parts)?;
+    put_solution(alloc, html, bench)?;
+    put_cards(alloc, html, &parts.duals)?;
+    put_tables(alloc, html, parts)?;
+    put_words(alloc, html, Element::Foot, foot_words())
 }
 
 /// The rows of the list of entries before a page, and their allocator.
@@ -347,8 +344,12 @@ fn entry_of<'a, 's, 'b, A: Allocator, S: Allocator, B: Allocator, V: Values>(
         V.may_fail V.asked_of V.failed_of V.is_honest values.old result values.new }
 {
     let mut page = Html::new(alloc);
+    let mut content = Html::new(alloc);
     let parts = parts_of(alloc, bench, values)?;
-    put_page(alloc, &mut page, bench, number, &parts)?;
+    put_content(alloc, &mut content, bench, &parts)?;
+    page.put(Element::Entry(number), &content)?;
+    // (the content is well nested, as the clause of its bytes says)
+    let _content = content.as_slice();
     let rows = with_row(list, bench, parts.time_faults, number)?;
     Ok(Entry { page, rows })
 }

@@ -1,3 +1,4 @@
 pub mod EntriesGrow
 pub mod FileWritten
 pub mod PageTold
+pub mod FileNested

@@ -4,11 +4,12 @@ use Rattle.std.specs.Io.KnownBytes.{Appends}
 use Rattle.study_text.specs.Taken.{TakesPrefix}
 use Rattle.study_script.specs.declared.running.Summary.{Summary}
 use Rattle.study_script.specs.declared.running.RunFault.{RunFault}
-use Rattle.study_script.specs.declared.running.RunFault.TheVariants.{WriteDevice, OutOfMemory}
+use Rattle.study_script.specs.declared.running.RunFault.TheVariants.{ReadDevice, WriteDevice, LineTooLong, TooManyLines, OutOfMemory}
 use Rattle.study_script.specs.State.{State}
 use Rattle.study_report.specs.Outcome.{Outcome, AreListed, AreListedBefore, Shape}
 use Rattle.study_report.specs.Parts.{Fits}
 use Rattle.study_html.specs.Frame.{opening, closing}
+use Rattle.study_html.specs.Markup.{IsWellNested}
 use Rattle.study_page.specs.Page.{IsPageOf, IsEntry}
 use Rattle.study_page.specs.Lists.{refusal_part, summary_part}
 use Rattle.study_print.specs.declared.pages.Count.{Count}
@@ -79,3 +80,17 @@ FileFits script left old new answer =
     ((answer ≡ Err WriteDevice) × TakesPrefix old new opening)
     ⊎ ((begun ended : Option (List ℕ)) × (ran : Result Summary RunFault) × (count : Count) × (rows : List ℕ) × Appends old begun opening
     × Fits IsEntry refusal_text script left begun ended ran × IsEnded (end_text count rows) ended new ran answer)
+
+-- a whole file: between the opening and the closing all is well nested
+abbrev pub IsWholeFile : Option (List ℕ) → Option (List ℕ) → Type 0
+IsWholeFile old new = (text : List ℕ) × IsWellNested text × Appends old new (opening ++ (text ++ closing))
+
+-- A file is whole, whatever is held and whatever its tables say, unless its writer failed or there was no memory: a run that stops at a fault of its
+-- script closes the file, too.
+abbrev pub IsWholeUnlessCut : Option (List ℕ) → Option (List ℕ) → Result Summary RunFault → Type 0
+IsWholeUnlessCut old new (Ok summary) = IsWholeFile old new
+IsWholeUnlessCut old new (Err ReadDevice) = IsWholeFile old new
+IsWholeUnlessCut old new (Err (LineTooLong n)) = IsWholeFile old new
+IsWholeUnlessCut old new (Err TooManyLines) = IsWholeFile old new
+IsWholeUnlessCut old new (Err WriteDevice) = Unit {0}
+IsWholeUnlessCut old new (Err OutOfMemory) = Unit {0}

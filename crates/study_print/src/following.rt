@@ -8,7 +8,7 @@ ghost use Rattle.study_script.specs.Session.{SessionHolds};
 ghost use Rattle.study_script.specs.Stores.{HonestOn};
 ghost use Rattle.study_report.specs.Outcome.{over_tables};
 ghost use Rattle.study_report.specs.Written.{none_trusted};
-ghost use Rattle.study_print.specs.Pages.{IsFile, FileShape, FileFits};
+ghost use Rattle.study_print.specs.Pages.{IsFile, FileShape, FileFits, IsWholeUnlessCut};
 
 use crate::ending::write_ending;
 use crate::pages::Pages;
@@ -37,6 +37,7 @@ pub fn follow_pages<'a, R: Read, W: Write, P: PageSource, A: Allocator, N: Watch
     ensures shape { IfSome (R.remaining script.old) (λ bytes. FileShape bytes (R.remaining script.new) result) }
     ensures fits { IfSome (R.remaining script.old)
         (λ bytes. FileFits bytes (R.remaining script.new) (W.contents out.old) (W.contents out.new) result) }
+    ensures whole { IfSome (R.remaining script.old) (λ bytes. IsWholeUnlessCut (W.contents out.old) (W.contents out.new) result) }
 {
     let mut store = NoFiles::new();
     follow_pages_over(alloc, script, out, watch, tables, &mut store)
@@ -58,11 +59,14 @@ pub fn follow_pages_over<'a, R: Read, W: Write, S: TableStore, A: Allocator, N: 
     ensures shape { IfSome (R.remaining script.old) (λ bytes. FileShape bytes (R.remaining script.new) result) }
     ensures fits { IfSome (R.remaining script.old)
         (λ bytes. FileFits bytes (R.remaining script.new) (W.contents out.old) (W.contents out.new) result) }
+    ensures whole { IfSome (R.remaining script.old) (λ bytes. IsWholeUnlessCut (W.contents out.old) (W.contents out.new) result) }
 {
     if write_opening(out).is_err() {
         return Err(RunFault::WriteDevice);
     }
     let mut pages = Pages::new(alloc, watch);
     let ran = follow_over(alloc, script, out, &mut pages, tables, store);
+    // (the rows are well nested, as the clause of their bytes says)
+    let _rows = pages.rows.as_slice();
     write_ending(alloc, pages.count, &pages.rows, ran, out)
 }

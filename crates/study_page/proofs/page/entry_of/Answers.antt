@@ -1,5 +1,8 @@
-use Rattle.std.proofs.Common.{refl}
-use Rattle.study_page.proofs.WholePage.{from-nothing, page-entry}
+use Rattle.std.proofs.Common.{refl, ap, ◌∙◌, subst}
+use Rattle.study_html.specs.declared.element.Element.TheVariants as element
+use Rattle.study_html.specs.Elements.{inside}
+use Rattle.study_html.specs.Markup.{IsWellNested}
+use Rattle.study_page.proofs.WholePage.{from-nothing}
 use Rattle.study_page.proofs.page.entry_of.Goals as goal
 
 pub returns-clause-text : goal.returns-clause-text
@@ -20,7 +23,8 @@ returns-clause-text g c h =
       p.4,
       p.5,
       p.6,
-      from-nothing _ _ _ c.new-page.ensures c.in_ok-put_page.ensures,
+      from-nothing _ _ _ c.new-page.ensures c.in_ok-put.ensures
+          ∙ ap (inside (element.Entry c.args.number)) (from-nothing _ _ _ c.new-content.ensures c.in_ok-put_content.ensures),
     )
 
 pub returns-clause-rows : goal.returns-clause-rows
@@ -29,4 +33,8 @@ returns-clause-rows g c h =
     (_, (c.in_ok-parts.parts.time_faults, p.1, refl), c.in_ok-rows.ensures)
 
 pub returns-clause-entry : goal.returns-clause-entry
-returns-clause-entry g c = page-entry _ _ _ _ _ _ _ _ _ _ (from-nothing _ _ _ c.new-page.ensures c.in_ok-put_page.ensures)
+returns-clause-entry g c = (
+  _,
+  subst IsWellNested c.as_slice.ensures.text c.as_slice.ensures.nested,
+  from-nothing _ _ _ c.new-page.ensures c.in_ok-put.ensures,
+)

@@ -1,0 +1,137 @@
+-- A file of pages is well nested between its opening and its closing.
+use Rattle.std.proofs.Common.{◌≡◌, ℕ, suc, ◌+◌, Bool, true, false, List, [], ◌∷◌, ◌++◌, Option, Some, Result, Ok, Err, inl, inr, sym, ap, ◌∙◌, subst, append_assoc, take}
+use Rattle.std.specs.Prelude.{◌⊎◌, ◌-◌, IfSome, codes, decimal, if◌then◌else◌}
+use Rattle.std.specs.Io.KnownBytes.{Appends}
+use Rattle.std.proofs.KnownBytes.{Appends-trans}
+use Rattle.study_text.specs.Taken.{TakesPrefix}
+use Rattle.study_command.specs.Lines.{script_lines}
+use Rattle.study_command.specs.Parser.{command_of}
+use Rattle.study_reply.specs.declared.refusal.Refusal.TheVariants.{NotAClass}
+use Rattle.study_reply.specs.Names.{words_of}
+use Rattle.study_script.specs.declared.running.Summary.{Summary}
+use Rattle.study_script.specs.declared.running.RunFault.{RunFault}
+use Rattle.study_script.specs.declared.running.RunFault.TheVariants.{ReadDevice, WriteDevice, LineTooLong, TooManyLines, OutOfMemory}
+use Rattle.study_script.specs.Written.{Piece, error_of}
+use Rattle.study_report.specs.declared.kind.Kind.{Kind}
+use Rattle.study_report.specs.declared.kind.Kind.TheVariants.{PassedOver, NoClass, Study, Checked}
+use Rattle.study_report.specs.Told.{kind_in, study_count}
+use Rattle.study_report.specs.Parts.{Part, nothing_part, refused_part, checked_part, parts_text, IsPartAs, AreParts, AreWritten, Fits}
+use Rattle.study_html.specs.declared.element.Element.{Element}
+use Rattle.study_html.specs.declared.element.Element.TheVariants.{Code, Head, Heads, Header, Row, Rows, Strong, Summary, Table, Title, Warning} as element
+use Rattle.study_html.specs.Escape.{said}
+use Rattle.study_html.specs.Elements.{inside}
+use Rattle.study_html.specs.Frame.{opening, closing}
+use Rattle.study_html.specs.Markup.{IsWellNested}
+use Rattle.study_html.proofs.MarkupGrows.{none_nested, both_nested, said_nested, inside_nested}
+use Rattle.study_page.specs.Page.{IsEntry}
+use Rattle.study_page.specs.Lists.{refusal_part, summary_part, summary_heads, two_heads, three_heads}
+use Rattle.study_print.specs.declared.pages.Count.{Count}
+use Rattle.study_print.specs.declared.pages.Count.TheVariants.{Nothing, One, Several}
+use Rattle.study_print.specs.Pages.{refusal_text, summary_text, end_text, is_broken, IsClosed, IsEndedIf, IsEnded, IsWholeFile, IsWholeUnlessCut}
+
+-- ---- what a line writes
+
+word : (w : List ℕ) → IsWellNested (said w)
+word w = said_nested [] w none_nested
+
+within : (e : Element) (i : List ℕ) → IsWellNested i → IsWellNested (inside e i)
+within e i h = inside_nested [] i e none_nested h
+
+refusal_nested : (number : ℕ) (text name reason : List ℕ) → IsWellNested (refusal_part number text name reason)
+unfolding refusal_part
+refusal_nested number text name reason =
+    within Warning _ (both_nested _ _ (word _) (both_nested _ _ (within Code _ (word text)) (both_nested _ _ (word _)
+    (both_nested _ _ (within Strong _ (word name)) (both_nested _ _ (word _) (word reason))))))
+
+entry_nested : (number : ℕ) (text : List ℕ) → IsEntry number text → IsWellNested text
+entry_nested number text entry = subst IsWellNested (sym entry.2) (within (element.Entry number) entry.0 entry.1)
+
+text_nested : (part whole : Part) → part ≡ whole → IsWellNested whole.text → IsWellNested part.text
+text_nested part whole e h = subst (λ (p : Part). IsWellNested p.text) (sym e) h
+
+checked_nested : (number : ℕ) (line : List ℕ) (piece : Piece) (refused : Bool)
+    → IsWellNested (if refused then refused_part IsEntry refusal_text number line piece.text else nothing_part).text
+checked_nested number line piece true = refusal_nested number line _ _
+checked_nested number line piece false = none_nested
+
+part_nested : (kind : Kind) (number next : ℕ) (line : List ℕ) (part : Part) → IsPartAs IsEntry refusal_text kind number next line part → IsWellNested part.text
+part_nested PassedOver number next line part h = text_nested part nothing_part h none_nested
+part_nested NoClass number next line part h = text_nested part _ h (refusal_nested number line _ _)
+part_nested Study number next line part (inl h) = text_nested part _ h.1 (refusal_nested number line _ _)
+part_nested Study number next line part (inr h) = text_nested part _ h.2 (entry_nested next h.0 h.1)
+part_nested Checked number next line part h = text_nested part _ h.2 (checked_nested number line h.0 h.0.refused)
+
+parts_nested : (lines studies : ℕ) (texts : List (List ℕ)) (parts : List Part) → AreParts IsEntry refusal_text lines studies texts parts
+    → IsWellNested (parts_text parts)
+parts_nested lines studies [] [] h = none_nested
+parts_nested lines studies [] (part ∷ parts) h = absurd h
+parts_nested lines studies (line ∷ more) [] h = absurd h
+parts_nested lines studies (line ∷ more) (part ∷ parts) h =
+    both_nested part.text (parts_text parts) (part_nested (kind_in (command_of line)) (suc lines) (suc studies) line part h.0)
+    (parts_nested (suc lines) (studies + study_count part.told) more parts h.1)
+
+-- ---- the list of all entries
+
+heads_nested : (a b c d e : List ℕ) → IsWellNested (inside Heads (inside Row (two_heads a b ++ three_heads c d e)))
+unfolding two_heads three_heads
+heads_nested a b c d e =
+    let head : (w : List ℕ) → IsWellNested (inside Head (said w)) = λ w. within Head _ (word w) in
+    within Heads _ (within Row _ (both_nested _ _ (both_nested _ _ (head a) (head b)) (both_nested _ _ (head c) (both_nested _ _ (head d) (head e)))))
+
+list_nested : (rows : List ℕ) → IsWellNested rows → IsWellNested (summary_part rows)
+unfolding summary_part
+list_nested rows h =
+    within Summary _ (both_nested _ _ (within Header _ (within Title _ (word _)))
+    (within Table _ (both_nested _ _ (heads_nested _ _ _ _ _) (within Rows rows h))))
+
+summary_nested : (count : Count) (rows : List ℕ) → IsWellNested rows → IsWellNested (summary_text count rows)
+summary_nested Nothing rows h = none_nested
+summary_nested One rows h = none_nested
+summary_nested Several rows h = list_nested rows h
+
+-- ---- the file
+
+module _ (old begun ended new : Option (List ℕ)) (count : Count) (rows : List ℕ) (nested : IsWellNested rows) where
+  whole : (lines : List (List ℕ)) (refusals : ℕ) → Appends old begun opening → AreWritten IsEntry refusal_text lines begun ended refusals
+      → Appends ended new (end_text count rows) → IsWholeFile old new
+  whole lines refusals opened written closed =
+      let parts = parts_text written.0 in
+      let list = summary_text count rows in
+      (
+        parts ++ list,
+        both_nested parts list (parts_nested 0 0 lines written.0 written.1) (summary_nested count rows nested),
+        subst (Appends old new) (ap (λ (t : List ℕ). opening ++ t) (sym (append_assoc parts list closing)))
+            (Appends-trans old begun new opening (parts ++ (list ++ closing)) opened (Appends-trans begun ended new parts (list ++ closing) written.2 closed)),
+      )
+
+  pub whole_by : (script : List ℕ) (left : Option (List ℕ)) (answer : Result Summary RunFault) → Appends old begun opening
+      → Fits IsEntry refusal_text script left begun ended answer → Appends ended new (end_text count rows) → IsWholeUnlessCut old new answer
+  whole_by script left (Ok summary) opened fits closed = whole _ _ opened fits closed
+  whole_by script left (Err ReadDevice) opened fits closed = whole _ _ opened fits.4 closed
+  whole_by script left (Err (LineTooLong n)) opened fits closed = whole _ _ opened fits.1 closed
+  whole_by script left (Err TooManyLines) opened fits closed = whole _ _ opened fits.1 closed
+  whole_by script left (Err WriteDevice) opened fits closed = tt
+  whole_by script left (Err OutOfMemory) opened fits closed = tt
+
+  cut : (ran answer : Result Summary RunFault) → is_broken ran ≡ true → answer ≡ ran → IsWholeUnlessCut old new answer
+  cut (Err WriteDevice) answer broken same = subst (IsWholeUnlessCut old new) (sym same) tt
+  cut (Ok summary) answer broken same = absurd broken
+  cut (Err ReadDevice) answer broken same = absurd broken
+  cut (Err (LineTooLong n)) answer broken same = absurd broken
+  cut (Err TooManyLines) answer broken same = absurd broken
+  cut (Err OutOfMemory) answer broken same = absurd broken
+
+  ended_if : (broken : Bool) (script : List ℕ) (left : Option (List ℕ)) (ran answer : Result Summary RunFault) → is_broken ran ≡ broken
+      → Appends old begun opening → Fits IsEntry refusal_text script left begun ended ran
+      → IsEndedIf broken (end_text count rows) ended new ran answer → IsWholeUnlessCut old new answer
+  ended_if true script left ran answer broken opened fits end = cut ran answer broken end.0
+  ended_if false script left ran answer broken opened fits (inl end) =
+      subst (IsWholeUnlessCut old new) (sym end.0) (whole_by script left ran opened fits end.1)
+  ended_if false script left ran answer broken opened fits (inr (inl end)) = subst (IsWholeUnlessCut old new) (sym end.0) tt
+  ended_if false script left ran answer broken opened fits (inr (inr end)) = subst (IsWholeUnlessCut old new) (sym end.0) tt
+
+  pub whole_file : (left : Option (List ℕ)) (given : Option (List ℕ)) (ran answer : Result Summary RunFault) → Appends old begun opening
+      → IfSome given (λ bytes. Fits IsEntry refusal_text bytes left begun ended ran) → IsEnded (end_text count rows) ended new ran answer
+      → IfSome given (λ bytes. IsWholeUnlessCut old new answer)
+  whole_file left None ran answer opened fits end = tt
+  whole_file left (Some script) ran answer opened fits end = ended_if (is_broken ran) script left ran answer refl opened fits end
