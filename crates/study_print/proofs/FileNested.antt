@@ -1,5 +1,5 @@
 -- A file of pages is well nested between its opening and its closing.
-use Rattle.std.proofs.Common.{◌≡◌, ℕ, suc, ◌+◌, Bool, true, false, List, [], ◌∷◌, ◌++◌, Option, Some, Result, Ok, Err, inl, inr, sym, ap, ◌∙◌, subst, append_assoc, take}
+use Rattle.std.proofs.Common.{◌≡◌, ℕ, suc, ◌+◌, Bool, true, false, List, [], ◌∷◌, ◌++◌, Option, Some, Result, Ok, Err, inl, inr, sym, ap, ◌∙◌, subst, append_assoc, refl}
 use Rattle.std.specs.Prelude.{◌⊎◌, ◌-◌, IfSome, codes, decimal, if◌then◌else◌}
 use Rattle.std.specs.Io.KnownBytes.{Appends}
 use Rattle.std.proofs.KnownBytes.{Appends-trans}
@@ -17,7 +17,8 @@ use Rattle.study_report.specs.declared.kind.Kind.TheVariants.{PassedOver, NoClas
 use Rattle.study_report.specs.Told.{kind_in, study_count}
 use Rattle.study_report.specs.Parts.{Part, nothing_part, refused_part, checked_part, parts_text, IsPartAs, AreParts, AreWritten, Fits}
 use Rattle.study_html.specs.declared.element.Element.{Element}
-use Rattle.study_html.specs.declared.element.Element.TheVariants.{Code, Head, Heads, Header, Row, Rows, Strong, Summary, Table, Title, Warning} as element
+use Rattle.study_html.specs.declared.element.Element.TheVariants.{Code, Head, Heads, Header, Row, Rows, Strong, Summary, Table, Title, Warning}
+use Rattle.study_html.specs.declared.element.Element.TheVariants as element
 use Rattle.study_html.specs.Escape.{said}
 use Rattle.study_html.specs.Elements.{inside}
 use Rattle.study_html.specs.Frame.{opening, closing}
@@ -96,8 +97,7 @@ module _ (old begun ended new : Option (List ℕ)) (count : Count) (rows : List 
       → Appends ended new (end_text count rows) → IsWholeFile old new
   whole lines refusals opened written closed =
       let parts = parts_text written.0 in
-      let list = summary_text count rows in
-      (
+      let list = summary_text count rows in (
         parts ++ list,
         both_nested parts list (parts_nested 0 0 lines written.0 written.1) (summary_nested count rows nested),
         subst (Appends old new) (ap (λ (t : List ℕ). opening ++ t) (sym (append_assoc parts list closing)))
