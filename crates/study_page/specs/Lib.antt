@@ -10,3 +10,4 @@ pub mod Made
 pub mod Lists
 pub mod Sheet
 pub mod Page
+pub mod Csv

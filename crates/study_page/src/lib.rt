@@ -5,6 +5,7 @@
 #![tactic(auto)]
 
 mod counts;
+mod csv;
 mod diagram;
 mod draft;
 mod fault;
@@ -25,6 +26,7 @@ mod verdict;
 mod walk;
 mod words;
 
+pub use csv::{write_head_record, write_record, write_refused_record};
 pub use fault::PageFault;
 pub use laws::{pages_are_unique, plain_studies_have_one_page};
 pub use lists::{write_refusal, write_summary};

@@ -33,7 +33,7 @@ use study_text::write_text;
 use study_values::Values;
 
 /// All parts that evaluate positions.
-fn parts_of<'a, 'b, A: Allocator, B: Allocator, V: Values>(
+pub fn parts_of<'a, 'b, A: Allocator, B: Allocator, V: Values>(
     alloc: &'a A,
     bench: &Bench<'b, B>,
     values: &mut V,

@@ -10,14 +10,16 @@ use Rattle.study_report.specs.Parts.{Fits}
 use Rattle.study_report.specs.Lines.{refusal_line, IsReviewForm}
 use Rattle.study_print.specs.Pages.{FileShape, FileFits}
 use Rattle.study_sheet.specs.Sheet.{SheetFits}
+use Rattle.study_list.specs.List.{ListShape, ListFits}
 use Rattle.study_report_program.specs.declared.options.Form.{Form}
-use Rattle.study_report_program.specs.declared.options.Form.TheVariants.{Lines, Pages, Sheet}
+use Rattle.study_report_program.specs.declared.options.Form.TheVariants.{Lines, Pages, Sheet, List as AList}
 
 -- how a report in this form over these bytes ends
 abbrev pub FormShape : Form → List ℕ → Option (List ℕ) → Result Summary RunFault → Type 0
 FormShape Lines script left answer = Shape script left answer
 FormShape Pages script left answer = FileShape script left answer
 FormShape Sheet script left answer = FileShape script left answer
+FormShape AList script left answer = ListShape script left answer
 
 -- what it writes, given what the writer had and has: reviews and refusals, or the entries and refusals of a file of pages, or the places and refusals of a
 -- sheet
@@ -25,6 +27,7 @@ abbrev pub FormFits : Form → List ℕ → Option (List ℕ) → Option (List �
 FormFits Lines script left old new answer = Fits IsReviewForm (λ number line reply. refusal_line number reply) script left old new answer
 FormFits Pages script left old new answer = ((answer ≡ Err OutOfMemory) × (new ≡ old)) ⊎ FileFits script left old new answer
 FormFits Sheet script left old new answer = ((answer ≡ Err OutOfMemory) × (new ≡ old)) ⊎ SheetFits script left old new answer
+FormFits AList script left old new answer = ((answer ≡ Err OutOfMemory) × (new ≡ old)) ⊎ ListFits script left old new answer
 
 -- the result of a report in this form over these bytes
 abbrev pub HasReported : Form → Option (List ℕ) → Option (List ℕ) → Option (List ℕ) → Option (List ℕ) → Result Summary RunFault → Type 0

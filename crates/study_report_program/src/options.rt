@@ -24,6 +24,8 @@ pub enum Form {
     Lines,
     /// As a sheet of diagrams, twelve a page, in HTML.
     Sheet,
+    /// As comma-separated values, a study a record.
+    List,
 }
 
 /// The options of the command line.
@@ -51,7 +53,11 @@ pub fn read_words<'a>(alloc: Global, words: &'a [String]) -> Result<Options<'a>,
     let matches = command.try_get_matches_from(words)?;
     let tables = folder_of(matches.get_str("tables"));
     let pages = pages_of(matches.get_one::<u16>("pages"));
-    let form = form_of(matches.get_flag("lines"), matches.get_flag("sheet"));
+    let form = form_of(
+        matches.get_flag("lines"),
+        matches.get_flag("sheet"),
+        matches.get_flag("list"),
+    );
     let progress = matches.get_flag("progress");
     Ok(Options {
         tables,
@@ -84,10 +90,15 @@ fn command<'a>(alloc: Global) -> Result<Command<'a>, Error> {
         "sheet",
         "Writes a sheet of diagrams, twelve a page, each with its number, stipulation and key",
     );
+    let list = flag(
+        alloc,
+        "list",
+        "Writes comma-separated values: number, title, author, FEN, stipulation and verdict of each study",
+    );
     let progress = flag(
         alloc,
         "progress",
-        "Writes to standard error, after every ten pages, how many studies were printed; of lines and sheets nothing",
+        "Writes to standard error, after every ten pages, how many studies were printed; nothing for the other forms",
     );
     let command = Command::new(alloc, "studyreport")
         .version(VERSION)
@@ -97,6 +108,7 @@ fn command<'a>(alloc: Global) -> Result<Command<'a>, Error> {
         .arg(pages)?
         .arg(lines)?
         .arg(sheet.conflicts_with("lines")?)?
+        .arg(list.conflicts_with("lines")?.conflicts_with("sheet")?)?
         .arg(progress)?;
     Ok(command)
 }
@@ -119,11 +131,12 @@ fn pages_of(given: Option<u16>) -> u16
     }
 }
 
-/// The form that the options name; clap refuses both at once.
-fn form_of(lines: bool, sheet: bool) -> Form {
-    match (lines, sheet) {
-        (true, _) => Form::Lines,
-        (false, true) => Form::Sheet,
-        (false, false) => Form::Pages,
+/// The form that the options name; clap refuses two at once.
+fn form_of(lines: bool, sheet: bool, list: bool) -> Form {
+    match (lines, sheet, list) {
+        (true, _, _) => Form::Lines,
+        (_, true, _) => Form::Sheet,
+        (_, _, true) => Form::List,
+        _ => Form::Pages,
     }
 }

@@ -14,6 +14,7 @@ use std::io;
 use std::io::{BufReader, ErrorKind, LineWriter, Read, Write};
 use std::process::ExitCode;
 use std::rt::Files;
+use study_list::follow_list;
 use study_print::follow_pages;
 use study_prober::PagedTables;
 use study_program::{FolderStore, status_of, status_without_options, words_of};
@@ -125,6 +126,7 @@ fn report_over_files<F: Files, A: Allocator, R: Read, W: Write, E: Write>(
     match options.form {
         Form::Lines => follow_script(alloc, script, out, &mut Lines, Tables::Paged(tables)),
         Form::Sheet => follow_sheet(alloc, script, out, Tables::Paged(tables)),
+        Form::List => follow_list(alloc, script, out, Tables::Paged(tables)),
         Form::Pages => {
             let asked = options.progress;
             let progress = Progress { errors, asked };

@@ -1,0 +1,37 @@
+-- The list of a script's studies as comma-separated values.
+use Rattle.std.specs.Prelude.{◌≡◌, ◌⊎◌, ℕ, List, Option, Some, Result, Err}
+use Rattle.std.specs.Io.KnownBytes.{Appends}
+use Rattle.study_text.specs.Taken.{TakesPrefix}
+use Rattle.study_script.specs.declared.running.Summary.{Summary}
+use Rattle.study_script.specs.declared.running.RunFault.{RunFault}
+use Rattle.study_script.specs.declared.running.RunFault.TheVariants.{WriteDevice}
+use Rattle.study_script.specs.State.{State}
+use Rattle.study_report.specs.Outcome.{Outcome, Shape}
+use Rattle.study_report.specs.Parts.{Fits}
+use Rattle.study_page.specs.Csv.{head_record, refused_record, IsRecordOf, IsSomeRecord}
+use Rattle.study_print.specs.Reasons.{refusal_in}
+
+-- a refused line, by the script's reply to it
+abbrev pub refusal_record : ℕ → List ℕ → List ℕ → List ℕ
+refusal_record number line reply = refused_record number line (refusal_in reply)
+
+-- the writer fails in the head, before the first line is read
+abbrev pub IsHeadCut : List ℕ → Option (List ℕ) → Option (List ℕ) → Option (List ℕ) → Result Summary RunFault → Type 0
+IsHeadCut script left old new answer = (answer ≡ Err WriteDevice) × (left ≡ Some script) × TakesPrefix old new head_record
+
+-- A list, given the state at the beginning, the bytes of a script, what the reader has left of them, what the writer had and has, and the result:
+-- the head, and in script order the record of each study of an accepted `pgn` line and of each refused line.
+abbrev pub IsList : State → List ℕ → Option (List ℕ) → Option (List ℕ) → Option (List ℕ) → Result Summary RunFault → Type 0
+IsList first script left old new answer =
+    IsHeadCut script left old new answer
+    ⊎ ((begun : Option (List ℕ)) × Appends old begun head_record × Outcome IsRecordOf refusal_record first script left begun new answer)
+
+-- the same without the content of the records, whatever the state
+abbrev pub ListShape : List ℕ → Option (List ℕ) → Result Summary RunFault → Type 0
+ListShape script left answer = ((answer ≡ Err WriteDevice) × (left ≡ Some script)) ⊎ Shape script left answer
+
+-- What is written of a list, whatever the state and its tables: the head and the records, with as many refusals as are counted.
+abbrev pub ListFits : List ℕ → Option (List ℕ) → Option (List ℕ) → Option (List ℕ) → Result Summary RunFault → Type 0
+ListFits script left old new answer =
+    ((answer ≡ Err WriteDevice) × TakesPrefix old new head_record)
+    ⊎ ((begun : Option (List ℕ)) × Appends old begun head_record × Fits IsSomeRecord refusal_record script left begun new answer)

@@ -1,0 +1,11 @@
+//! The list of a script's studies as comma-separated values (RFC 4180): a record for each study, with its verdict, and for each refused line.
+//!
+//! `follow_list` follows a script over tables and writes the head and the records, for a spreadsheet. `Records` is the same as a `Report`, for the
+//! records.
+#![tactic(auto)]
+
+mod following;
+mod records;
+
+pub use following::follow_list;
+pub use records::Records;

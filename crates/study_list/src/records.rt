@@ -1,0 +1,52 @@
+//! A report as records of comma-separated values.
+use std::alloc::Allocator;
+use std::io::Write;
+use study_marks::Bench;
+use study_page::{PageFault, write_record, write_refused_record};
+use study_print::refusal_in;
+use study_report::{NotTold, Report, ReviewFault};
+use study_values::Values;
+
+/// Studies and refused lines as records, in the order of the script.
+#[derive(Clone, Copy, Debug, PartialEq, Eq)]
+pub struct Records;
+
+impl Report for Records {
+    ghost use Rattle.study_page.specs.Csv.{IsRecordOf, IsSomeRecord};
+    ghost use Rattle.study_list.specs.List.{refusal_record};
+
+    ghost tells = { λ plain number text. IsRecordOf plain number text };
+
+    ghost form = { λ number text. IsSomeRecord number text };
+
+    ghost refusal = { λ number line reply. refusal_record number line reply };
+
+    // Nothing is kept.
+    ghost lists = { λ records told. Unit {0} };
+
+    fn add_study<'a, 'b, A: Allocator, B: Allocator, V: Values, W: Write>(
+        &mut self,
+        alloc: &'a A,
+        bench: &Bench<'b, B>,
+        values: &mut V,
+        number: u32,
+        out: &mut W,
+    ) -> Result<(), ReviewFault> {
+        write_record(alloc, bench, values, number, out)
+    }
+
+    fn add_refusal<'a, A: Allocator, W: Write>(
+        &mut self,
+        alloc: &'a A,
+        number: u32,
+        line: &[u8],
+        reply: &[u8],
+        out: &mut W,
+    ) -> Result<(), NotTold> {
+        match write_refused_record(alloc, number, line, refusal_in(reply), out) {
+            Ok(()) => Ok(()),
+            Err(PageFault::OutOfMemory) => Err(NotTold::OutOfMemory),
+            Err(PageFault::Device) => Err(NotTold::Device),
+        }
+    }
+}

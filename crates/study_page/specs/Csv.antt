@@ -1,0 +1,60 @@
+-- A study as a record of comma-separated values (RFC 4180).
+use Rattle.std.specs.Prelude.{◌≡◌, ℕ, ◌==◌, Bool, ◌||◌, List, [], ◌∷◌, ◌++◌, if◌then◌else◌, codes, decimal}
+use Rattle.std.specs.List.{flat_map, list_any}
+use Rattle.study_notation.specs.FenSpelling.{fen_text}
+use Rattle.study_marks.specs.declared.mark.Mark.{Mark}
+use Rattle.study_marks.specs.declared.tag.TagName.TheVariants.{Event, White}
+use Rattle.study_marks.specs.Study.{Study, tag_of, plain_study}
+use Rattle.study_marks.specs.Annotated.{IsAnnotated}
+use Rattle.study_pgn.specs.Pgn.{stipulation_text}
+use Rattle.study_review.specs.Review.{AreTimeFaults}
+use Rattle.study_page.specs.Known.{known}
+use Rattle.study_page.specs.Verdict.{stamp_words, judged}
+
+-- a comma, a quotation mark or an end of line: a field with one of them stands in quotation marks
+abbrev pub is_special : ℕ → Bool
+is_special b = b == 44 || (b == 34 || (b == 13 || b == 10))
+
+-- in quotation marks a quotation mark is written twice
+abbrev pub doubled : ℕ → List ℕ
+doubled b = if b == 34 then 34 ∷ 34 ∷ [] else b ∷ []
+
+unfoldable pub quoted : List ℕ → List ℕ
+quoted text = codes "\"" ++ (flat_map doubled text ++ codes "\"")
+
+abbrev pub field : List ℕ → List ℕ
+field text = if list_any is_special text then quoted text else text
+
+-- a field with the comma behind it
+unfoldable pub column : List ℕ → List ℕ
+column text = field text ++ codes ","
+
+unfoldable pub head_record : List ℕ
+head_record = codes "Number,Title,Author,FEN,Stipulation,Verdict\r\n"
+
+-- title and author, if they are known
+unfoldable pub names : Study Mark → List ℕ
+names s = column (known (tag_of s.tags Event)) ++ column (known (tag_of s.tags White))
+
+-- its number, title and author, its start as FEN, the stipulation, and the verdict on a study of whose faults so many lose time alone
+unfoldable pub record_text : Study Mark → ℕ → ℕ → List ℕ
+record_text s time number =
+    column (decimal number) ++ (names s ++ (column (fen_text s.start) ++ (column (stipulation_text s.stipulation)
+    ++ (field (stamp_words (judged s time).stamp) ++ codes "\r\n"))))
+
+-- a refused line: its number and its text in place of a title, and the name of the refusal in place of a verdict
+unfoldable pub refused_record : ℕ → List ℕ → List ℕ → List ℕ
+refused_record number line name =
+    codes "," ++ (column (codes "line " ++ (decimal number ++ (codes ": " ++ line))) ++ (codes ",,," ++ (field (codes "refused: " ++ name) ++ codes "\r\n")))
+
+-- the record of an annotated study
+abbrev pub IsRecord : Study Mark → ℕ → List ℕ → Type 0
+IsRecord s number text = (time : ℕ) × AreTimeFaults s time × (text ≡ record_text s time number)
+
+-- the record of some study, whatever its values are
+abbrev pub IsSomeRecord : ℕ → List ℕ → Type 0
+IsSomeRecord number text = (s : Study Mark) × (time : ℕ) × (text ≡ record_text s time number)
+
+-- the record of a plain study is that of its annotation
+abbrev pub IsRecordOf : Study (Unit {0}) → ℕ → List ℕ → Type 0
+IsRecordOf plain number text = (s : Study Mark) × (plain_study s ≡ plain) × IsAnnotated s × IsRecord s number text

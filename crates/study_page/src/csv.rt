@@ -1,0 +1,258 @@
+//! A study as a record of comma-separated values (RFC 4180).
+ghost use Rattle.std.specs.Prelude.{◌≡◌, ℕ, List, ◌++◌, OnOk, IfOk, Err, codes, decimal};
+ghost use Rattle.std.specs.List.{flat_map};
+ghost use Rattle.std.specs.Io.KnownBytes.{Appends};
+ghost use Rattle.study_text.specs.Taken.{TakesPrefix};
+ghost use Rattle.study_values.specs.declared.values.ProbeFault.{ProbeFault as AProbeFault};
+ghost use Rattle.study_notation.specs.FenSpelling.{fen_text};
+ghost use Rattle.study_marks.specs.BenchState.{marked, IsKeptRight};
+ghost use Rattle.study_marks.specs.Study.{plain_study};
+ghost use Rattle.study_pgn.specs.Pgn.{stipulation_text};
+ghost use Rattle.study_review.specs.Asked.{within};
+ghost use Rattle.study_review.specs.Review.{HasReviewed};
+ghost use Rattle.study_page.specs.Made.{HasAsked};
+ghost use Rattle.study_page.specs.Verdict.{stamp_words, judged};
+ghost use Rattle.study_page.specs.Csv.{is_special, doubled, quoted, field, column, head_record, names, record_text, refused_record};
+ghost use Rattle.study_page.specs.Csv.{IsRecord, IsSomeRecord, IsRecordOf};
+
+use crate::fault::{NotMade, PageFault};
+use crate::known::known_tag;
+use crate::page::parts_of;
+use crate::verdict::{add_stamp_words, judge};
+use std::alloc::{AllocError, Allocator};
+use std::io::Write;
+use study_marks::{Bench, TagName};
+use study_notation::write_fen;
+use study_pgn::add_stipulation;
+use study_review::ReviewFault;
+use study_text::{DeviceFailed, Text, write_text};
+use study_values::Values;
+
+/// Whether a field with the byte stands in quotation marks.
+fn is_special(byte: u8) -> bool
+    ensures { result ≡ is_special byte }
+{
+    byte == b',' || byte == b'"' || byte == b'\r' || byte == b'\n'
+}
+
+fn add_doubled<A: Allocator>(text: &mut Text<'_, A>, byte: u8) -> Result<(), AllocError>
+    ensures { OnOk result (text.new ≡ text.old ++ doubled byte) }
+{
+    if byte == b'"' {
+        text.add(b"\"\"")
+    } else {
+        text.add(&[byte])
+    }
+}
+
+/// Adds a text in which each quotation mark is written twice.
+fn add_doubled_each<A: Allocator>(text: &mut Text<'_, A>, bytes: &[u8]) -> Result<(), AllocError>
+    ensures { OnOk result (text.new ≡ text.old ++ flat_map doubled bytes.now) }
+{
+    for byte in bytes {
+        add_doubled(text, *byte)?;
+    }
+    Ok(())
+}
+
+#[tactic(auto, unfolding(crate::specs::Csv::quoted))]
+fn add_quoted<A: Allocator>(text: &mut Text<'_, A>, bytes: &[u8]) -> Result<(), AllocError>
+    ensures { OnOk result (text.new ≡ text.old ++ quoted bytes.now) }
+{
+    text.add(b"\"")?;
+    add_doubled_each(text, bytes)?;
+    text.add(b"\"")
+}
+
+/// Adds a field, in quotation marks if it needs them.
+fn add_field<A: Allocator>(text: &mut Text<'_, A>, bytes: &[u8]) -> Result<(), AllocError>
+    ensures { OnOk result (text.new ≡ text.old ++ field bytes.now) }
+{
+    let needs_marks = bytes.iter().any(|byte| is_special(*byte));
+    if needs_marks {
+        return add_quoted(text, bytes);
+    }
+    text.add(bytes)
+}
+
+/// Adds a field and the comma behind it.
+#[tactic(auto, unfolding(crate::specs::Csv::column))]
+fn add_column<A: Allocator>(text: &mut Text<'_, A>, bytes: &[u8]) -> Result<(), AllocError>
+    ensures { OnOk result (text.new ≡ text.old ++ column bytes.now) }
+{
+    add_field(text, bytes)?;
+    text.add(b",")
+}
+
+fn add_number<'a, A: Allocator>(
+    alloc: &'a A,
+    text: &mut Text<'_, A>,
+    number: u32,
+) -> Result<(), AllocError>
+    ensures { OnOk result (text.new ≡ text.old ++ column (decimal number)) }
+{
+    let mut digits = Text::new(alloc);
+    digits.add_number(number)?;
+    add_column(text, digits.as_slice())
+}
+
+/// Title and author, if they are known.
+#[tactic(auto, unfolding(crate::specs::Csv::names))]
+fn add_names<'b, A: Allocator, B: Allocator>(
+    text: &mut Text<'_, A>,
+    bench: &Bench<'b, B>,
+) -> Result<(), AllocError>
+    ensures { OnOk result (text.new ≡ text.old ++ names (marked bench.now)) }
+{
+    add_column(text, known_tag(bench, TagName::Event))?;
+    add_column(text, known_tag(bench, TagName::White))
+}
+
+fn add_fen<'b, A: Allocator, B: Allocator>(
+    text: &mut Text<'_, A>,
+    bench: &Bench<'b, B>,
+) -> Result<(), AllocError>
+    ensures { OnOk result (text.new ≡ text.old ++ column (fen_text (marked bench.now).start)) }
+{
+    add_column(text, write_fen(bench.start()).as_str().as_bytes())
+}
+
+fn add_wanted<'a, 'b, A: Allocator, B: Allocator>(
+    alloc: &'a A,
+    text: &mut Text<'_, A>,
+    bench: &Bench<'b, B>,
+) -> Result<(), AllocError>
+    ensures { OnOk result (text.new ≡ text.old ++ column (stipulation_text (marked bench.now).stipulation)) }
+{
+    let mut words = Text::new(alloc);
+    add_stipulation(&mut words, bench.stipulation())?;
+    add_column(text, words.as_slice())
+}
+
+fn add_verdict<'a, 'b, A: Allocator, B: Allocator>(
+    alloc: &'a A,
+    text: &mut Text<'_, A>,
+    bench: &Bench<'b, B>,
+    time: u32,
+) -> Result<(), AllocError>
+    ensures { OnOk result (text.new ≡ text.old ++ field (stamp_words (judged (marked bench.now) time).stamp)) }
+{
+    let mut words = Text::new(alloc);
+    add_stamp_words(&mut words, judge(bench, time).stamp)?;
+    add_field(text, words.as_slice())
+}
+
+/// The record of the study, of whose faults so many lose time alone.
+#[tactic(auto, unfolding(crate::specs::Csv::record_text))]
+fn add_record<'a, 'b, A: Allocator, B: Allocator>(
+    alloc: &'a A,
+    text: &mut Text<'_, A>,
+    bench: &Bench<'b, B>,
+    time: u32,
+    number: u32,
+) -> Result<(), AllocError>
+    ensures { OnOk result (text.new ≡ text.old ++ record_text (marked bench.now) time number) }
+{
+    add_number(alloc, text, number)?;
+    add_names(text, bench)?;
+    add_fen(text, bench)?;
+    add_wanted(alloc, text, bench)?;
+    add_verdict(alloc, text, bench, time)?;
+    text.add(b"\r\n")
+}
+
+/// The record of the study.
+fn record_of<'a, 'b, A: Allocator, B: Allocator, V: Values>(
+    alloc: &'a A,
+    bench: &Bench<'b, B>,
+    values: &mut V,
+    number: u32,
+) -> Result<Text<'a, A>, NotMade>
+    ensures text { V.is_honest values.old → IfOk result (λ text. IsRecord (marked bench.now) number text) }
+    ensures form { IfOk result (λ text. IsSomeRecord number text) }
+    ensures asked { HasAsked V.held (within (marked bench.now).start.position V.gives)
+        V.may_fail V.asked_of V.failed_of V.is_honest values.old result values.new }
+{
+    let mut text = Text::new(alloc);
+    let parts = parts_of(alloc, bench, values)?;
+    add_record(alloc, &mut text, bench, parts.time_faults, number)?;
+    Ok(text)
+}
+
+/// Writes the head of a list: the names of the six fields.
+#[tactic(auto, unfolding(crate::specs::Csv::head_record))]
+pub fn write_head_record<W: Write>(out: &mut W) -> Result<(), DeviceFailed>
+    ensures ok { OnOk result (Appends (W.contents out.old) (W.contents out.new) head_record) }
+    ensures err { result ≡ Err DeviceFailed → TakesPrefix (W.contents out.old) (W.contents out.new) head_record }
+{
+    write_text(out, b"Number,Title,Author,FEN,Stipulation,Verdict\r\n")
+}
+
+/// Writes a study as a record of comma-separated values, ended by CR LF: number, title, author, FEN, stipulation, verdict. What is not known is empty.
+///
+/// The record is made whole first, so want of memory, and a value that cannot be read, are reported before the first byte.
+pub fn write_record<'a, 'b, A: Allocator, B: Allocator, V: Values, W: Write>(
+    alloc: &'a A,
+    bench: &Bench<'b, B>,
+    values: &mut V,
+    number: u32,
+    out: &mut W,
+) -> Result<(), ReviewFault>
+    ensures plain { V.is_honest values.old → IsKeptRight bench.now → OnOk result ((text : List ℕ)
+        × IsRecordOf (plain_study (marked bench.now)) number text × Appends (W.contents out.old) (W.contents out.new) text) }
+    ensures form { OnOk result ((text : List ℕ) × IsSomeRecord number text × Appends (W.contents out.old) (W.contents out.new) text) }
+    ensures device { V.is_honest values.old → IsKeptRight bench.now → result ≡ Err ReviewFault.Device → (text : List ℕ)
+        × IsRecordOf (plain_study (marked bench.now)) number text × TakesPrefix (W.contents out.old) (W.contents out.new) text }
+    ensures memory { result ≡ Err ReviewFault.OutOfMemory → out.new ≡ out.old }
+    ensures untold { (fault : AProbeFault) → result ≡ Err (ReviewFault.Values fault) → out.new ≡ out.old }
+    ensures asked { HasReviewed V.held (within (marked bench.now).start.position V.gives)
+        V.may_fail V.asked_of V.failed_of V.is_honest values.old result values.new }
+{
+    let text = record_of(alloc, bench, values, number)?;
+    write_text(out, text.as_slice())?;
+    Ok(())
+}
+
+#[tactic(auto, unfolding(crate::specs::Csv::refused_record))]
+fn add_refused<'a, A: Allocator>(
+    alloc: &'a A,
+    text: &mut Text<'_, A>,
+    number: u32,
+    line: &[u8],
+    name: &[u8],
+) -> Result<(), AllocError>
+    ensures { OnOk result (text.new ≡ text.old ++ refused_record number line.now name.now) }
+{
+    let mut title = Text::new(alloc);
+    let mut verdict = Text::new(alloc);
+    title.add(b"line ")?;
+    title.add_number(number)?;
+    title.add(b": ")?;
+    title.add(line)?;
+    verdict.add(b"refused: ")?;
+    verdict.add(name)?;
+    text.add(b",")?;
+    add_column(text, title.as_slice())?;
+    text.add(b",,,")?;
+    add_field(text, verdict.as_slice())?;
+    text.add(b"\r\n")
+}
+
+/// Writes a refused line as a record: its number and its text in place of a title, and the name of the refusal in place of a verdict.
+pub fn write_refused_record<'a, A: Allocator, W: Write>(
+    alloc: &'a A,
+    number: u32,
+    line: &[u8],
+    name: &[u8],
+    out: &mut W,
+) -> Result<(), PageFault>
+    ensures ok { OnOk result (Appends (W.contents out.old) (W.contents out.new) (refused_record number line.now name.now)) }
+    ensures device { result ≡ Err PageFault.Device
+        → TakesPrefix (W.contents out.old) (W.contents out.new) (refused_record number line.now name.now) }
+    ensures memory { result ≡ Err PageFault.OutOfMemory → out.new ≡ out.old }
+{
+    let mut text = Text::new(alloc);
+    add_refused(alloc, &mut text, number, line, name)?;
+    write_text(out, text.as_slice())?;
+    Ok(())
+}
