@@ -1,6 +1,10 @@
-//! Tests of sheets of diagrams. The expected texts are laid out by hand, by the description of a sheet in docs/REPORT.md; the drawing of a board is
+//! Tests of sheets of diagrams and of lists. The expected texts are laid out by hand, by their description in docs/REPORT.md; the drawing of a board is
 //! that of an independent program's pages. Only tests call these functions.
 #![tactic(auto)]
 
+#[cfg(test)]
+mod kings;
+#[cfg(test)]
+mod list;
 #[cfg(test)]
 mod sheet;

@@ -1,16 +1,11 @@
 //! Sheets over the table of two kings.
+use crate::kings::two_kings;
 use std::alloc::Global;
 use std::process::Abort;
 use std::test::Fail;
-use study_material::Class;
-use study_prober::WholeTables;
-use study_retro::{BuildRoom, build};
-use study_script::{RunFault, Summary, Tables};
+use study_script::{RunFault, Summary};
 use study_sheet::follow_sheet;
-use study_table::TableSet;
-use study_tablefile::MemorySource;
 use study_text::{MemoryReader, MemoryWriter, WhenFull};
-use study_values::cells;
 
 /// Two studies, of which the second begins with a move of Black and has no author, one without a move, and a refused line.
 const SCRIPT: &str = "position k7/8/8/8/8/8/8/K7 w - - 0 1
@@ -53,17 +48,11 @@ fn sheet_to<'a>(
     alloc: &'a Global,
     mut writer: MemoryWriter<'a, Global>,
 ) -> (Vec<u8, &'a Global>, Result<Summary, RunFault>) {
-    let class = Class::parse("KK").ok().expect(rt, "a class");
-    let mut set = TableSet::new(alloc).ok().expect(rt, "a set");
-    let room = BuildRoom::new(alloc, cells(class)).ok().expect(rt, "room");
-    let (table, _) = build(class, &set, room).ok().expect(rt, "a table");
-    assert!(rt; set.add(table).is_ok());
-    let tables: Tables<'_, MemorySource<'_>, Global> = Tables::Whole(WholeTables::new(set));
     let answer = follow_sheet(
         alloc,
         &mut MemoryReader::new(SCRIPT.as_bytes()),
         &mut writer,
-        tables,
+        two_kings(rt, alloc),
     );
     (writer.taken, answer)
 }
