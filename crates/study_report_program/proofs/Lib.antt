@@ -1,1 +1,2 @@
 pub mod FormShapes
+pub mod ErrorsWritten

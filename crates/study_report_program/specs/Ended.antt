@@ -1,5 +1,5 @@
 -- The outcome of the program.
-use Rattle.std.specs.Prelude.{◌≡◌, ℕ, ◌⊎◌, List, Option, Result, Err, IfSome}
+use Rattle.std.specs.Prelude.{◌≡◌, ℕ, ◌⊎◌, Bool, List, Option, Result, Err, IfSome}
 use Rattle.std.specs.Io.KnownBytes.{Keeps}
 use Rattle.study_script.specs.declared.running.Summary.{Summary}
 use Rattle.study_script.specs.declared.running.RunFault.{RunFault}
@@ -12,6 +12,7 @@ use Rattle.study_print.specs.Pages.{FileShape, FileFits}
 use Rattle.study_sheet.specs.Sheet.{SheetFits}
 use Rattle.study_list.specs.List.{ListShape, ListFits}
 use Rattle.study_report_program.specs.declared.options.Form.{Form}
+use Rattle.study_report_program.specs.Errors.{AreErrors}
 use Rattle.study_report_program.specs.declared.options.Form.TheVariants.{Lines, Pages, Sheet, List as AList}
 
 -- how a report in this form over these bytes ends
@@ -39,5 +40,6 @@ IsReported form script left old new answer = (written : Option (List ℕ)) × Ha
 
 -- The exit status of a run, or it ends as one whose writer failed, if the last text stays in a buffer. No clause excludes that it ends with 3 and has read
 -- nothing, for want of memory: tests do.
-abbrev pub EndsBy : (Result Summary RunFault → Type 0) → ℕ → Type 0
-EndsBy Ran status = (ran answer : Result Summary RunFault) × Ran ran × ((answer ≡ ran) ⊎ (answer ≡ Err WriteDevice)) × (status ≡ status_told answer)
+abbrev pub EndsBy : (Result Summary RunFault → Type 0) → Bool → ℕ → Option (List ℕ) → Option (List ℕ) → Type 0
+EndsBy Ran progress status old new = (ran answer : Result Summary RunFault) × Ran ran × ((answer ≡ ran) ⊎ (answer ≡ Err WriteDevice))
+    × (status ≡ status_told answer) × AreErrors progress answer old new

@@ -1,8 +1,10 @@
 //! The program, over the streams of its process or over any others.
-ghost use Rattle.std.specs.Prelude.{◌≡◌, Bool};
+ghost use Rattle.std.specs.Prelude.{◌≡◌, Bool, false};
+ghost use Rattle.study_material.specs.Class.{class_list};
 ghost use Rattle.clap.specs.Values.{kind_of};
 ghost use Rattle.study_program.specs.Status.{status_told, status_unread};
 ghost use Rattle.study_report_program.specs.Ended.{EndsBy, HasReported, IsReported};
+ghost use Rattle.study_report_program.specs.Errors.{AreFaultsOf, IsStopReported};
 
 use crate::options::{Form, Options, read_words};
 use crate::progress::Progress;
@@ -15,7 +17,7 @@ use std::io::{BufReader, ErrorKind, LineWriter, Read, Write};
 use std::process::ExitCode;
 use std::rt::Files;
 use study_list::follow_list;
-use study_print::follow_pages;
+use study_print::{Unwatched, follow_pages};
 use study_prober::PagedTables;
 use study_program::{FolderStore, status_of, status_without_options, words_of};
 use study_report::{Lines, follow_script};
@@ -85,7 +87,8 @@ pub fn report_script<F: Files, A: Allocator, R: Read, W: Write, E: Write>(
     out: &mut W,
     errors: &mut E,
 ) -> u8
-    ensures { EndsBy (IsReported options.now.form (R.remaining script.old) (R.remaining script.new) (W.contents out.old) (W.contents out.new)) result }
+    ensures { EndsBy (IsReported options.now.form (R.remaining script.old) (R.remaining script.new) (W.contents out.old) (W.contents out.new))
+        options.now.progress result (E.contents errors.old) (E.contents errors.new) }
 {
     let mut answer = report_over_files(files, alloc, options, script, out, errors);
     // A failure to write what is left in the writer's buffer is reported too.
@@ -97,7 +100,8 @@ pub fn report_script<F: Files, A: Allocator, R: Read, W: Write, E: Write>(
 
 /// Reports why a run stopped, if it did. A failure of standard error cannot be reported.
 fn ended<E: Write>(errors: &mut E, answer: &Result<Summary, RunFault>) -> u8
-    ensures { result ≡ status_told answer.now }
+    ensures status { result ≡ status_told answer.now }
+    ensures stop { IsStopReported answer.now (E.contents errors.old) (E.contents errors.new) }
 {
     if let Err(fault) = answer {
         let _ = put_stop(errors, *fault);
@@ -114,7 +118,8 @@ fn report_over_files<F: Files, A: Allocator, R: Read, W: Write, E: Write>(
     out: &mut W,
     errors: &mut E,
 ) -> Result<Summary, RunFault>
-    ensures { HasReported options.now.form (R.remaining script.old) (R.remaining script.new) (W.contents out.old) (W.contents out.new) result }
+    ensures reported { HasReported options.now.form (R.remaining script.old) (R.remaining script.new) (W.contents out.old) (W.contents out.new) result }
+    ensures faults { options.now.progress ≡ false → AreFaultsOf class_list (E.contents errors.old) (E.contents errors.new) }
 {
     let Ok(mut store) = FolderStore::new(files, alloc, options.tables) else {
         return Err(RunFault::OutOfMemory);
@@ -127,10 +132,10 @@ fn report_over_files<F: Files, A: Allocator, R: Read, W: Write, E: Write>(
         Form::Lines => follow_script(alloc, script, out, &mut Lines, Tables::Paged(tables)),
         Form::Sheet => follow_sheet(alloc, script, out, Tables::Paged(tables)),
         Form::List => follow_list(alloc, script, out, Tables::Paged(tables)),
-        Form::Pages => {
-            let asked = options.progress;
-            let progress = Progress { errors, asked };
+        Form::Pages if options.progress => {
+            let progress = Progress { errors };
             follow_pages(alloc, script, out, progress, Tables::Paged(tables))
         }
+        Form::Pages => follow_pages(alloc, script, out, Unwatched, Tables::Paged(tables)),
     }
 }

@@ -8,12 +8,11 @@ use study_print::Watch;
 #[derive(Drop)]
 pub struct Progress<'e, E: Write> {
     pub errors: &'e mut E,
-    pub asked: bool,
 }
 
 impl<'e, E: Write> Watch for Progress<'e, E> {
     fn told(&mut self, count: u32) {
-        if self.asked && count % 10 == 0 {
+        if count % 10 == 0 {
             // A failure of standard error cannot be reported.
             let _ = put_studies(self.errors, count);
         }

@@ -1,18 +1,19 @@
 //! The messages of the program on standard error.
-ghost use Rattle.std.specs.Prelude.{◌++◌, codes, decimal, OnOk, OnErr};
+ghost use Rattle.std.specs.Prelude.{◌++◌, ◌∷◌, [], codes, decimal, OnOk, OnErr};
 ghost use Rattle.std.specs.Io.KnownBytes.{Appends};
 ghost use Rattle.study_text.specs.Taken.{TakesPrefix};
+ghost use Rattle.study_report_program.specs.Errors.{stop_text};
 
 use itoa::Buffer;
 use std::io::Write;
-use study_material::Class;
 use study_script::RunFault;
 use study_text::{DeviceFailed, write_text};
 
-/// Reports why a run stopped, in a line of its own: `studyreport: LineTooLong 3`.
-///
-/// No contract: `tools/report_faults.py` tests it.
-pub fn put_stop<W: Write>(out: &mut W, fault: RunFault) -> Result<(), DeviceFailed> {
+/// Writes why a run stopped, in a line of its own: `studyreport: LineTooLong 3`.
+pub fn put_stop<W: Write>(out: &mut W, fault: RunFault) -> Result<(), DeviceFailed>
+    ensures ok { OnOk result (Appends (W.contents out.old) (W.contents out.new) (stop_text fault)) }
+    ensures err { OnErr result (TakesPrefix (W.contents out.old) (W.contents out.new) (stop_text fault)) }
+{
     match fault {
         RunFault::ReadDevice => write_text(out, b"studyreport: ReadDevice\n"),
         RunFault::WriteDevice => write_text(out, b"studyreport: WriteDevice\n"),
@@ -22,23 +23,26 @@ pub fn put_stop<W: Write>(out: &mut W, fault: RunFault) -> Result<(), DeviceFail
     }
 }
 
-fn put_too_long<W: Write>(out: &mut W, line: u32) -> Result<(), DeviceFailed> {
+fn put_too_long<W: Write>(out: &mut W, line: u32) -> Result<(), DeviceFailed>
+    ensures ok { OnOk result (Appends (W.contents out.old) (W.contents out.new) (codes "studyreport: LineTooLong " ++ (decimal line ++ 10 ∷ []))) }
+    ensures err { OnErr result (TakesPrefix (W.contents out.old) (W.contents out.new)
+        (codes "studyreport: LineTooLong " ++ (decimal line ++ 10 ∷ []))) }
+{
     let mut buffer = Buffer::new();
-    write_text(out, b"studyreport: LineTooLong ")?;
-    write_text(out, buffer.format(line).as_bytes())?;
-    write_text(out, b"\n")
+    put_line(
+        out,
+        b"studyreport: LineTooLong ",
+        buffer.format(line).as_bytes(),
+    )
 }
 
-/// Reports why the file of a class is not a table: `studyreport: KRK.dtm: HeaderDamaged`. The words end with a line feed.
-pub fn put_file_fault<W: Write>(
-    out: &mut W,
-    class: Class,
-    words: &[u8],
-) -> Result<(), DeviceFailed> {
-    write_text(out, b"studyreport: ")?;
-    write_text(out, class.name().as_bytes())?;
-    write_text(out, b".dtm: ")?;
-    write_text(out, words)
+fn put_line<W: Write>(out: &mut W, front: &[u8], back: &[u8]) -> Result<(), DeviceFailed>
+    ensures ok { OnOk result (Appends (W.contents out.old) (W.contents out.new) (front.now ++ (back.now ++ 10 ∷ []))) }
+    ensures err { OnErr result (TakesPrefix (W.contents out.old) (W.contents out.new) (front.now ++ (back.now ++ 10 ∷ []))) }
+{
+    write_text(out, front)?;
+    write_text(out, back)?;
+    write_text(out, b"\n")
 }
 
 /// Reports how many studies were printed, in a line of its own: `30 studies`.

@@ -1,0 +1,35 @@
+-- What is written to standard error, one after the other.
+use Rattle.std.proofs.Common.{◌≡◌, ℕ, suc, ◌<◌, List, [], ◌∷◌, ◌++◌, length, take, Option, Result, Ok, Err, refl, inl, inr, sym, ap, ◌∙◌, subst}
+use Rattle.std.specs.Prelude.{OnOk, OnErr, get_or}
+use Rattle.std.specs.Io.KnownBytes.{Appends}
+use Rattle.std.proofs.Math.Seq.{take-suc}
+use Rattle.study_text.specs.Taken.{TakesPrefix}
+use Rattle.study_material.specs.declared.class.Class.{Class}
+use Rattle.study_reply.specs.declared.refusal.Refusal.{Refusal}
+use Rattle.study_reply.specs.Names.{words_of}
+use Rattle.study_report_program.specs.Errors.{IsWrittenOrCut, file_fault_text, IsFaultOrNone, AreFaultsOf}
+
+pub written_or_cut : {A E : Type 0} (r : Result A E) (old new : Option (List ℕ)) (text : List ℕ) → OnOk r (Appends old new text)
+    → OnErr r (TakesPrefix old new text) → IsWrittenOrCut old new text
+written_or_cut (Ok x) old new text h k = inl h
+written_or_cut (Err e) old new text h k = inr k
+
+pub fault_written : (c : Class) (why : Refusal) (old new : Option (List ℕ)) (text shown : List ℕ) → text ≡ file_fault_text c (words_of why ++ 10 ∷ [])
+    → shown ≡ text → IsWrittenOrCut old new shown → IsFaultOrNone c old new
+fault_written c why old new text shown e f h = inr (why, subst (IsWrittenOrCut old new) (f ∙ e) h)
+
+pub no_faults : (classes : List Class) (old : Option (List ℕ)) → AreFaultsOf classes old old
+no_faults [] old = refl
+no_faults (c ∷ more) old = (old, inl refl, no_faults more old)
+
+one_more : (classes : List Class) (c : Class) (old mid new : Option (List ℕ)) → AreFaultsOf classes old mid → IsFaultOrNone c mid new
+    → AreFaultsOf (classes ++ c ∷ []) old new
+one_more [] c old mid new same fault = (new, subst (λ (t : Option (List ℕ)). IsFaultOrNone c t new) same fault, refl)
+one_more (d ∷ more) c old mid new (at, first, rest) fault = (at, first, one_more more c at mid new rest fault)
+
+-- the same of the first classes of a list, where the next one follows
+pub next_class : (classes : List Class) (n : ℕ) (c d : Class) (old mid new : Option (List ℕ)) → n < length classes → c ≡ get_or classes n d
+    → AreFaultsOf (take n classes) old mid → IsFaultOrNone c mid new → AreFaultsOf (take (suc n) classes) old new
+next_class classes n c d old mid new low is faults fault =
+    subst (λ (l : List Class). AreFaultsOf l old new) (ap (λ (x : Class). take n classes ++ x ∷ []) is ∙ sym (take-suc classes n d low))
+    (one_more (take n classes) c old mid new faults fault)
