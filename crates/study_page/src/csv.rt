@@ -1,6 +1,6 @@
 //! A study as a record of comma-separated values (RFC 4180).
-ghost use Rattle.std.specs.Prelude.{◌≡◌, ℕ, List, ◌++◌, OnOk, IfOk, Err, codes, decimal};
-ghost use Rattle.std.specs.List.{flat_map};
+ghost use Rattle.std.specs.Prelude.{◌≡◌, ℕ, List, ◌++◌, OnOk, OnErr, IfOk, Err, decimal};
+ghost use Rattle.std.specs.List.{flat_map, list_any};
 ghost use Rattle.std.specs.Io.KnownBytes.{Appends};
 ghost use Rattle.study_text.specs.Taken.{TakesPrefix};
 ghost use Rattle.study_values.specs.declared.values.ProbeFault.{ProbeFault as AProbeFault};
@@ -64,12 +64,18 @@ fn add_quoted<A: Allocator>(text: &mut Text<'_, A>, bytes: &[u8]) -> Result<(), 
     text.add(b"\"")
 }
 
+/// Whether a field stands in quotation marks.
+fn has_special(bytes: &[u8]) -> bool
+    ensures { result ≡ list_any is_special bytes.now }
+{
+    bytes.iter().any(|byte| is_special(*byte))
+}
+
 /// Adds a field, in quotation marks if it needs them.
 fn add_field<A: Allocator>(text: &mut Text<'_, A>, bytes: &[u8]) -> Result<(), AllocError>
     ensures { OnOk result (text.new ≡ text.old ++ field bytes.now) }
 {
-    let needs_marks = bytes.iter().any(|byte| is_special(*byte));
-    if needs_marks {
+    if has_special(bytes) {
         return add_quoted(text, bytes);
     }
     text.add(bytes)
@@ -183,7 +189,7 @@ fn record_of<'a, 'b, A: Allocator, B: Allocator, V: Values>(
 #[tactic(auto, unfolding(crate::specs::Csv::head_record))]
 pub fn write_head_record<W: Write>(out: &mut W) -> Result<(), DeviceFailed>
     ensures ok { OnOk result (Appends (W.contents out.old) (W.contents out.new) head_record) }
-    ensures err { result ≡ Err DeviceFailed → TakesPrefix (W.contents out.old) (W.contents out.new) head_record }
+    ensures err { OnErr result (TakesPrefix (W.contents out.old) (W.contents out.new) head_record) }
 {
     write_text(out, b"Number,Title,Author,FEN,Stipulation,Verdict\r\n")
 }

@@ -194,11 +194,10 @@ pub fn add_move<'a, 'b, A: Allocator, B: Allocator, V: Values>(
     let first = bench.start();
     let value = value_at(bench, steps);
     let listed = is_solution_move(bench, steps);
-    let mark = mark_at(bench, steps);
     let Some(made) = made_in(bench, steps) else {
         return Ok(());
     };
-    match mark {
+    match mark_at(bench, steps) {
         Some(MoveMark::Dual(k)) => {
             let dual = DualFacts {
                 value,

@@ -35,6 +35,6 @@ returns-clause-rows g c h =
 pub returns-clause-entry : goal.returns-clause-entry
 returns-clause-entry g c = (
   _,
-  subst IsWellNested c.as_slice.ensures.text c.as_slice.ensures.nested,
+  subst IsWellNested c.as_slice-content.ensures.text c.as_slice-content.ensures.nested,
   from-nothing _ _ _ c.new-page.ensures c.in_ok-put.ensures,
 )

@@ -8,26 +8,26 @@ use Rattle.study_page.proofs.tree.+tree.Goals as goal
 
 pub put_variations-unreachable-requires : goal.put_variations-unreachable-requires
 put_variations-unreachable-requires g t c =
-    no-child c.args.node.now.below c.loop-place.place (omega (arith, c.loop-place-test.true, c.width-place-end.ensures)) c.in_default-child.ensures
+    no-child c.args.node.now.below c.loop-place.place (omega (arith, c.loop-place-test.true, c.width-place-end.ensures)) c.in_default.ensures
 
 pub put_variations-put_made-requires : goal.put_variations-put_made-requires
 put_variations-put_made-requires g t c =
-    (playable_at c.args.start.now.position c.args.node.now.below c.loop-place.place _ c.requires c.in-Some-child.ensures).0
+    (playable_at c.args.start.now.position c.args.node.now.below c.loop-place.place _ c.requires c.in-Some.ensures).0
 
 pub put_variations-played-after-requires : goal.put_variations-played-after-requires
 put_variations-played-after-requires g t c =
-    (playable_at c.args.start.now.position c.args.node.now.below c.loop-place.place _ c.requires c.in-Some-child.ensures).0
+    (playable_at c.args.start.now.position c.args.node.now.below c.loop-place.place _ c.requires c.in-Some.ensures).0
 
 pub put_variations-put_following-requires : goal.put_variations-put_following-requires
 put_variations-put_following-requires g t c κs within =
     let f = c.args.node.now.below in
     let k = c.loop-place.place in (
-      omega (arith, fewer f k _ c.in-Some-child.ensures, c.decreases),
+      omega (arith, fewer f k _ c.in-Some.ensures, c.decreases),
       (
         within.0,
         (
           within.1,
-          playable_below c.args.start.now c.played-after.result f k _ c.in-Some-child.ensures c.played-after.ensures.value c.requires,
+          playable_below c.args.start.now c.played-after.result f k _ c.in-Some.ensures c.played-after.ensures.value c.requires,
         ),
       ),
     )
@@ -38,7 +38,7 @@ put_variations-loop-place-preserved g t c =
     let s = c.args.start.now in
     item_written c.args.hero s f c.loop-place.place _ c.played-after.result c.played-after.ensures.value c.new-item.result
     c.put_made.new.html c.put_following.new.html c.loop-place.list (item_words c.args.hero s (skip 1 f)) c.put.new.self
-    c.in-Some-child.ensures c.new-item.ensures c.in_ok-put_made.ensures c.in_ok-put_following.ensures c.in_ok-put.ensures
+    c.in-Some.ensures c.new-item.ensures c.in_ok-put_made.ensures c.in_ok-put_following.ensures c.in_ok-put.ensures
     c.loop-place.invariant
 
 pub put_variations-returns : goal.put_variations-returns
@@ -66,8 +66,8 @@ put_following-plies-preserved g t c =
     record {
       playable = playable_below s c.played-start.result f 0 _ c.in-Some.ensures c.played-start.ensures.value c.plies.invariant.playable;
       written = ply_written c.args.hero s c.plies.first f _ c.played-start.result c.played-start.ensures.value c.plies.html c.put_made.new.html
-          c.put_variations.new.html _ (nat_lt 1 c.width.result) c.in-Some.ensures c.in_ok-put_made.ensures c.in_ok-put_variations.ensures
-          (ap (nat_lt 1) c.width.ensures) c.plies.invariant.written;
+          c.put_variations.new.html _ (nat_lt 1 c.width-first.result) c.in-Some.ensures c.in_ok-put_made.ensures c.in_ok-put_variations.ensures
+          (ap (nat_lt 1) c.width-first.ensures) c.plies.invariant.written;
       fewer = omega (arith, fewer f 0 _ c.in-Some.ensures, c.plies.invariant.fewer);
     }
 

@@ -13,17 +13,17 @@ abbrev pub decreases-put_following : goal.decreases-put_following
 decreases-put_following g l = 2 * nodes_in l.node.below + 1
 
 -- the items that are written, and those that are left, are all of them
-abbrev pub put_variations-invariant-loop-place : goal.put_variations-invariant-loop-place
-put_variations-invariant-loop-place g l =
+abbrev pub invariant-put_variations-loop-place : goal.invariant-put_variations-loop-place
+invariant-put_variations-loop-place g l =
     l.list ++ item_words l.hero l.start (skip l.place l.node.below) ≡ item_words l.hero l.start (skip 1 l.node.below)
 
 -- what is written, and what follows the node that is reached, are all of it
-abbrev pub put_following-invariant-plies : goal.put_following-invariant-plies
-put_following-invariant-plies g l = record {
+abbrev pub invariant-put_following-plies : goal.invariant-put_following-plies
+invariant-put_following-plies g l = record {
   playable : IsPlayable l.start.position l.node.below;
   written : l.html ++ tree_words l.hero l.first l.start l.node.below ≡ l.fn.html ++ tree_words l.hero l.fn.first l.fn.start l.fn.node.below;
   fewer : nodes_in l.node.below ≤ nodes_in l.fn.node.below;
 }
 
-abbrev pub put_following-decreases-plies : goal.put_following-decreases-plies
-put_following-decreases-plies g l = nodes_in l.node.below
+abbrev pub decreases-put_following-plies : goal.decreases-put_following-plies
+decreases-put_following-plies g l = nodes_in l.node.below
