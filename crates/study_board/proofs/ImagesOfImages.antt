@@ -1,4 +1,4 @@
--- Symmetries after one another, and images of images.
+-- Composed symmetries, and images of images.
 use Rattle.study_board.specs.Men.{is_pawn}
 use Rattle.std.proofs.Common.{◌≡◌, ℕ, ◌<◌, ◌==◌, Bool, true, false, not, cond, ◌&&◌, ◌||◌, List, [], ◌∷◌, Option, Some, None, refl, sym, ◌∙◌, ap, arith, subst}
 use Rattle.std.specs.List.{list_any}
@@ -98,7 +98,7 @@ turned_side-twice false b side = refl
 turned_man-joined : (s t : Symmetry) (m : Man) → m.at < 64 → turned_man t (turned_man s m) ≡ turned_man (composed s t) m
 turned_man-joined s t m on = rw (turned_side-twice s.colours t.colours m.side, turned_square-joined s t m.at on)
 
--- what the laws of images ask of a position: less than to be valid
+-- the premise of the laws of images on a position: weaker than validity
 abbrev pub IsOnBoard : Option ℕ → Type 0
 IsOnBoard None = Unit {0}
 IsOnBoard (Some x) = x < 64
@@ -145,7 +145,7 @@ image_joined s t p h k =
     passed None e = refl
     passed (Some x) e = ap (λ n. Some n) (turned_square-joined s t x e)
 
--- the image is turnable as the position is
+-- the image is turnable if the position is
 pub IsTurnable-image : (s t : Symmetry) (p : Position) → IsTurnable s p → IsTurnable t p → IsTurnable t (image s p)
 IsTurnable-image s t p h k = record {
   seats = seated_turned s t p.men h.seats k.seats;
@@ -161,7 +161,7 @@ IsTurnable-image s t p h k = record {
     on_board None e = tt
     on_board (Some x) e = turned_small s x e
 
--- the symmetry that leaves everything where it is
+-- the identity
 abbrev pub unturned : Symmetry
 unturned = record { files = false; ranks = false; diagonal = false; colours = false }
 
@@ -250,7 +250,7 @@ admits_joined s t p = go (list_any is_pawn p.men)
     go true a b = keeps_joined s t a b
     go false a b = refl
 
--- the image admits what the position admits
+-- the image admits the symmetries that the position admits
 pub admits_image : (s t : Symmetry) (p : Position) → IsValid p → admits p s ≡ true → admits (image s p) t ≡ admits p t
 admits_image s t p v a = rw (any_turned s is_pawn is_pawn (λ m _. refl) p.men (seats s p v a))
 

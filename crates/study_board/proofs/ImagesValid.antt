@@ -1,4 +1,4 @@
--- What the image of a list of men has, and that the image of a valid position is valid.
+-- The properties of the image of a list of men, and that the image of a valid position is valid.
 use Rattle.std.proofs.Common.{◌≡◌, ℕ, ◌+◌, ◌-◌, ◌<◌, ◌≤◌, ◌==◌, eqb, nat_lt, Bool, true, false}
 use Rattle.std.proofs.Common.{not, cond, ◌&&◌, ◌||◌, List, [], ◌∷◌, length, Option, Some, None}
 use Rattle.std.proofs.Common.{refl, sym, ◌∙◌, ap, arith, suc, zero, take, add-one, get_or}
@@ -29,7 +29,7 @@ use Rattle.study_board.proofs.Coordinates.{strictly_between-turned, pawn_capture
 use Rattle.study_board.proofs.Coordinates.{other_side-turned, rank_of-kept, rank_small, and_under, home_rank}
 use Rattle.study_board.proofs.Coordinates.{shadow, ahead, turned_behind, turned_ahead, home_rank-turned, eqb_then}
 
--- what holds of each man of a list
+-- a property of each man of a list
 abbrev pub Each : (Man → Type 0) → List Man → Type 0
 Each P [] = Unit {0}
 Each P (x ∷ xs) = P x × Each P xs
@@ -49,7 +49,7 @@ Each-placed P m [] one h = (one, tt)
 Each-placed P m (x ∷ xs) one h = elim (nat_lt x.at m.at) as (λ b. Each P (cond b (x ∷ placed m xs) (m ∷ x ∷ xs)))
     [ true ↦ (h.0, Each-placed P m xs one h.1) | false ↦ (one, h) ]
 
--- a list with a man put in order has what the list has, and the man
+-- a list with a man inserted in order has the members of the list, and the man
 pub list_any-placed : (p : Man → Bool) (m : Man) (xs : List Man) → list_any p (placed m xs) ≡ (p m || list_any p xs)
 list_any-placed p m [] = refl
 list_any-placed p m (x ∷ xs) =
@@ -94,7 +94,7 @@ man_at-placed m (y ∷ ys) x =
     not_both true false h = refl
     not_both false v h = refl
 
--- two men on different squares can be put in order one after the other either way
+-- two men on different squares can be inserted in order in either sequence
 pub placed-exchanged : (a b : Man) (xs : List Man) → eqb a.at b.at ≡ false → placed a (placed b xs) ≡ placed b (placed a xs)
 placed-exchanged a b [] e = two (nat_lt b.at a.at) (nat_lt a.at b.at) (opposite b.at a.at e)
   where
@@ -142,7 +142,7 @@ NoneBelow-filter q n [] h = tt
 NoneBelow-filter q n (x ∷ xs) h = elim (q x) as (λ b. NoneBelow n (cond b (x ∷ filter q xs) (filter q xs)))
     [ true ↦ (h.0, NoneBelow-filter q n xs h.1) | false ↦ NoneBelow-filter q n xs h.1 ]
 
--- a filter of a list with a man put in order
+-- a filter of a list with a man inserted in order
 pub filter-placed : (q : Man → Bool) (m : Man) (xs : List Man) → IsSortedByAt xs → filter q (placed m xs) ≡ cond (q m) (placed m (filter q xs)) (filter q xs)
 filter-placed q m [] h = refl
 filter-placed q m (x ∷ xs) h =
@@ -172,7 +172,7 @@ filter-placed q m (x ∷ xs) h =
     first false true t = sym (placed-first m (filter q xs) (NoneBelow-filter q m.at xs (NoneBelow-less m.at x.at xs (ltb-false _ _ t) h.0)))
     first c false t = refl
 
--- a man on the board, in whose way the symmetry goes
+-- a man on the board, of a kind that the symmetry respects
 pub record IsSeated (s : Symmetry) (m : Man) : Type 0 where
   pub on : m.at < 64
   pub pawn : is_pawn m ≡ true → KeepsPawns s
@@ -202,7 +202,7 @@ IsSeated-from_admits s (x ∷ xs) e all =
     split false b k e = (λ h. absurd (false≢true h), e)
 
 module _ (s : Symmetry) where
-  -- a test of each image that says what another says of the man
+  -- a test of each image that agrees with another test of the man
   pub any_turned : (q p : Man → Bool) → ((m : Man) → IsSeated s m → q (turned_man s m) ≡ p m) → (xs : List Man)
       → Each (IsSeated s) xs → list_any q (turned_men s xs) ≡ list_any p xs
   any_turned q p f [] h = refl
@@ -244,7 +244,7 @@ module _ (s : Symmetry) where
       moved true = refl
       moved false = refl
 
-  -- a man put among men on other squares
+  -- a man inserted among men on other squares
   pub placed_turned : (m : Man) → m.at < 64 → (xs : List Man) → Each (IsSeated s) xs
       → list_any (λ y. y.at == m.at) xs ≡ false
       → turned_men s (placed m xs) ≡ placed (turned_man s m) (turned_men s xs)
@@ -258,7 +258,7 @@ module _ (s : Symmetry) where
         | false ↦ refl
       ]
 
-  -- what the tests of a position say of images
+  -- the tests of a position, of images
   module _ (xs : List Man) (h : Each (IsSeated s) xs) where
     pub is_blocked-turned : (a x : ℕ) → a < 64 → x < 64 → is_blocked (turned_men s xs) (turned_square s a) (turned_square s x) ≡ is_blocked xs a x
     unfolding is_blocked

@@ -11,7 +11,7 @@ use borrow.Author.Tests.{ltb-true, ltb-false}
 use Rattle.study_board.specs.declared.men.Man.{Man}
 use Rattle.study_board.specs.Position.{placed, in_order}
 
--- how many men stand below a square, from the first on
+-- the number of men that stand below a square, from the first on
 abbrev pub below : Man → List Man → ℕ
 below m xs = prefix_len (λ x. nat_lt x.at m.at) xs
 
@@ -70,7 +70,7 @@ IsSortedByAt-fold : (xs done : List Man) → IsSortedByAt done → IsSortedByAt 
 IsSortedByAt-fold [] done h = h
 IsSortedByAt-fold (x ∷ xs) done h = IsSortedByAt-fold xs (placed x done) (IsSortedByAt-placed x done h)
 
--- what `insert` at the place of a man gives
+-- the result of `insert` at the place of a man
 pub placed_by_insert : (m : Man) (xs zs ys : List Man) (n i : ℕ) → zs ≡ xs → n ≡ m.at
     → i ≡ prefix_len (λ x. nat_lt x.at n) zs → ys ≡ insert xs i m → ys ≡ placed m xs
 placed_by_insert m xs zs ys n i z k e h =

@@ -1,4 +1,4 @@
--- The letters of the men, as FEN, SAN and the names of classes have them.
+-- The letters of the men, as in FEN, SAN and the names of classes.
 use Rattle.std.specs.Prelude.{ℕ}
 use Rattle.study_board.specs.declared.men.Kind.{Kind}
 use Rattle.study_board.specs.declared.men.Kind.TheVariants.{King, Queen, Rook, Bishop, Knight, Pawn}

@@ -1,4 +1,4 @@
--- Not part of any public contract: the tables of lines, that is in which direction a square lies from another, and the squares in a direction.
+-- Not part of any public contract: the tables of lines, with the direction of one square from another, and the squares in a direction.
 use Rattle.std.specs.Prelude.{ℕ, [], slice_index_or}
 use Rattle.study_board.specs.declared.attack_tables.TheConstants.{DIRECTION}
 use Rattle.study_board.specs.declared.ray_tables.TheConstants.{RAY}

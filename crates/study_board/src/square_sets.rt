@@ -10,7 +10,7 @@ use crate::ray_tables::RAY;
 use crate::{Kind, Man, Side, Square};
 use std::marker::Model;
 
-/// A set of squares: bit x is set where the square of number x is in it.
+/// A set of squares: bit x is set if the square of number x is in it.
 #[derive(Clone, Copy)]
 pub struct SquareSet {
     bits: u64,
@@ -29,7 +29,7 @@ impl Model for SquareSet {
 }
 
 impl SquareSet {
-    /// No square.
+    /// The empty set.
     #[inline]
     pub fn empty() -> Self
         ensures { result ≡ 0 }
@@ -45,7 +45,7 @@ impl SquareSet {
         SquareSet { bits }
     }
 
-    /// One square.
+    /// The set of one square.
     #[inline]
     pub fn of(a: Square) -> Self
         ensures { (x : ℕ) → x < 64 → has result x ≡ (a == x) }
@@ -71,7 +71,7 @@ impl SquareSet {
         self.bits >> x.number() & 1 == 1
     }
 
-    /// How many squares are in the set.
+    /// The number of squares in the set.
     #[inline]
     pub fn len(self) -> u32
         ensures { result ≡ count_ones self }
@@ -79,7 +79,7 @@ impl SquareSet {
         self.bits.count_ones()
     }
 
-    /// The squares of this set and not of the other.
+    /// The squares in this set and not in the other.
     #[inline]
     pub fn without(self, other: SquareSet) -> Self
         ensures { (x : ℕ) → x < 64 → has result x ≡ (has self x && not (has other x)) }
@@ -89,7 +89,7 @@ impl SquareSet {
         }
     }
 
-    /// The squares of either set.
+    /// The squares in at least one of the sets.
     #[inline]
     pub fn union(self, other: SquareSet) -> Self
         ensures { (x : ℕ) → has result x ≡ (has self x || has other x) }
@@ -97,7 +97,7 @@ impl SquareSet {
         SquareSet::of_bits(self.bits | other.bits)
     }
 
-    /// The squares of both sets.
+    /// The squares in both sets.
     #[inline]
     pub fn intersection(self, other: SquareSet) -> Self
         ensures { (x : ℕ) → has result x ≡ (has self x && has other x) }
@@ -115,7 +115,7 @@ impl SquareSet {
         SquareSet { bits: !self.bits }
     }
 
-    /// The first square of the set, in the order a1, b1, .., h8.
+    /// The first square of the set, in the order a1, b1, .., h8; `None` if the set is empty.
     #[inline]
     pub fn first(self) -> Square
         requires { self ≢ 0 }
@@ -127,7 +127,7 @@ impl SquareSet {
     }
 }
 
-/// The squares a king step away.
+/// The squares one king step away.
 #[inline]
 pub fn king_steps(a: Square) -> SquareSet
     ensures { (x : ℕ) → x < 64 → has result x ≡ (not (a == x) && king_step a x) }
@@ -135,7 +135,7 @@ pub fn king_steps(a: Square) -> SquareSet
     SquareSet::of_bits(KING[a.number() as usize])
 }
 
-/// The squares a knight's jump away.
+/// The squares one knight's jump away.
 #[inline]
 pub fn knight_jumps(a: Square) -> SquareSet
     ensures { (x : ℕ) → x < 64 → has result x ≡ (not (a == x) && knight_jump a x) }
@@ -170,7 +170,7 @@ pub fn pawn_captures_of(side: Side, a: Square) -> SquareSet
     }
 }
 
-/// The direction in which `y` lies from `a`: 0 to 7, or 8 where they are one or on no line.
+/// The direction of `y` from `a`: 0 to 7, or 8 if they are the same square or share no line.
 #[inline]
 fn direction(a: Square, y: Square) -> usize
     ensures value { result ≡ direction_of a y }
@@ -237,7 +237,7 @@ pub fn between(a: Square, x: Square) -> SquareSet
 }
 
 impl Kind {
-    /// Whether the kind goes along lines.
+    /// Whether the kind moves along lines.
     #[inline(always)]
     pub fn is_slider(self) -> bool
         ensures { result ≡ is_slider self }
@@ -261,7 +261,7 @@ fn shadow_without(a: Square, y: Square, lifted: Square) -> SquareSet
     }
 }
 
-/// The squares behind some man as seen from `a`, the man on `lifted` taken away.
+/// The squares behind some man as seen from `a`, once the man on `lifted` is taken away.
 #[inline(always)]
 pub fn shadows_without(men: &[Man], lifted: Square, a: Square) -> SquareSet
     ensures { (x : ℕ) → x < 64 → has result x ≡ is_blocked_past men.now lifted a x }
@@ -273,7 +273,7 @@ pub fn shadows_without(men: &[Man], lifted: Square, a: Square) -> SquareSet
     set
 }
 
-/// The squares on which the man bears, the man on `lifted` taken away.
+/// The squares on which the man bears, once the man on `lifted` is taken away.
 #[inline(always)]
 pub fn attacks_without(men: &[Man], lifted: Square, m: &Man) -> SquareSet
     ensures { (x : ℕ) → x < 64 → has result x ≡ bears_past men.now lifted m.now x }

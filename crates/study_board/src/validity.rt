@@ -1,4 +1,4 @@
-//! What makes men a position.
+//! Which lists of men are valid positions.
 ghost use Rattle.std.specs.Prelude.{◌≡◌, ◌≤◌, ◌&&◌, true, length, is_some};
 ghost use Rattle.study_board.specs.declared.men.Side.TheVariants.{White, Black};
 ghost use Rattle.study_board.specs.Position.{is_occupied, has_man, has_square_twice, has_one_king, is_end_pawn};
@@ -101,8 +101,7 @@ fn passed_possible(men: &[Man], to_move: Side, passed: Option<Square>) -> bool
     }
 }
 
-/// Whether men who are at most four, with one king of each side, are no position. It says less than `first_fault`, and
-/// looks for fewer faults.
+/// Whether at most four men, with one king of each side, are not a valid position. It reports no reason, and checks fewer faults than `first_fault`.
 #[inline]
 #[tactic(auto, unfolding(crate::specs::Position::first_fault))]
 pub fn has_fault(men: &[Man], to_move: Side, passed: Option<Square>) -> bool
@@ -116,7 +115,7 @@ pub fn has_fault(men: &[Man], to_move: Side, passed: Option<Square>) -> bool
         || !passed_possible(men, to_move, passed)
 }
 
-/// The first reason why these men, in any order, are no position.
+/// The first reason why these men, in any order, are not a valid position.
 #[tactic(auto, unfolding(crate::specs::Position::first_fault))]
 pub fn first_fault(men: &[Man], to_move: Side, passed: Option<Square>) -> Option<PositionFault>
     ensures { result ≡ first_fault men.now to_move passed }

@@ -25,7 +25,7 @@ pub NoFeed-push : (bs : List ℕ) (b : ℕ) → NoFeed bs → (b ≡ 10 → ⊥)
 NoFeed-push [] b h ne = (ne_eqb b 10 ne, tt)
 NoFeed-push (x ∷ bs) b h ne = (h.0, NoFeed-push bs b h.1 ne)
 
--- a part goes on to the first feed
+-- a part continues to the first feed
 split_on : (raw ys p : List ℕ) (ps : List (List ℕ)) → NoFeed raw → slice_split is_feed ys ≡ p ∷ ps → slice_split is_feed (raw ++ ys) ≡ (raw ++ p) ∷ ps
 split_on [] ys p ps h e = e
 split_on (x ∷ raw) ys p ps h e = rw h.0 (ap (onto_first x) (split_on raw ys p ps h.1 e))
@@ -153,9 +153,9 @@ lines_long raw b rest h ne full =
       long-without_room raw s.0 b full,
     )
 
--- ---- over what a reader has left
+-- ---- the bytes left in a reader
 
--- what was read of a line that has not ended
+-- the bytes read so far of a line that has not ended
 pub record Begins (old new : Option (List ℕ)) (raw : List ℕ) : Type 0 where
   pub taken : Consumes old new raw
   pub no_feed : NoFeed raw
@@ -201,7 +201,7 @@ none_at_end (Some bs) (Some ms) (Some rest) raw line s none h end =
     ap script_lines (s.taken ∙ ap (λ (t : List ℕ). raw ++ t) (h ∙ end) ∙ append-nil raw ∙ nil_from_length raw none)
     ∙ lines_none
 
--- at the end of the input a line ends where a byte of it was read
+-- at the end of the input a line ends if a byte of it was read
 pub stops_at_end : (old mid new : Option (List ℕ)) (raw line : List ℕ) (empty : Bool) → Begins old mid raw
     → empty ≡ eqb (length raw) 0 → Consumes mid new [] → IsAtEnd new → line ≡ strip_carriage_return raw
     → TakesLine old new (not empty) line
@@ -252,7 +252,7 @@ has_none None new h e = tt
 has_none (Some bs) None h e = h
 has_none (Some bs) (Some rest) h e = ap script_lines (h ∙ e) ∙ lines_none
 
--- ---- how many line feeds were read
+-- ---- the number of line feeds read
 
 feeds-none : (raw : List ℕ) → NoFeed raw → feed_count raw ≡ 0
 feeds-none [] h = refl

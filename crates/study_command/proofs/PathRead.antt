@@ -19,7 +19,7 @@ pub place_is : (part : List ℕ) → is_place part ≡ true → place_told part 
 unfolding place_told
 place_is part h = rw h refl
 
--- what stands before the first point, and after it
+-- the part before the first point, and the rest
 pub cut_at : (word : List ℕ) (i : ℕ) → i < length word → slice_index word i ≡ 46
     → ((k : ℕ) → k < i → (slice_index word k == 46) ≡ false)
     → places_in word ≡ take i word ∷ places_in (drop (i + 1) word)

@@ -4,17 +4,17 @@ use Rattle.std.specs.List.{slice_split}
 use Rattle.std.specs.Io.KnownBytes.{Consumes}
 use Rattle.std.specs.Str.Lines.{strip_carriage_return}
 
--- what stands between line feeds; where no byte follows the last one, no line begins
+-- the parts between line feeds; if no byte follows the last line feed, no line begins there
 abbrev pub begun : List (List ℕ) → List (List ℕ)
 begun [] = []
 begun (part ∷ []) = if length part == 0 then [] else part ∷ []
 begun (part ∷ next ∷ more) = part ∷ begun (next ∷ more)
 
--- a carriage return before a line feed, or before the end, is no part of the line
+-- a carriage return before a line feed, or before the end, is not part of the line
 unfoldable pub script_lines : List ℕ → List (List ℕ)
 script_lines script = map strip_carriage_return (begun (slice_split (λ b. b == 10) script))
 
--- a reader that had the old bytes gave a line, or had none
+-- a reader with the old bytes returned a line, or had none
 abbrev pub TakesLine : Option (List ℕ) → Option (List ℕ) → Bool → List ℕ → Type 0
 TakesLine None new more line = ⊤
 TakesLine (Some script) None more line = ⊥
@@ -26,10 +26,10 @@ abbrev pub BeginsLong : Option (List ℕ) → Type 0
 BeginsLong None = ⊤
 BeginsLong (Some script) = (line : List ℕ) × (more : List (List ℕ)) × (script_lines script ≡ line ∷ more) × (1024 < length line)
 
--- how many line feeds there are
+-- the number of line feeds
 abbrev pub feed_count : List ℕ → ℕ
 feed_count bytes = count_by (λ b. b == 10) bytes
 
--- a reader that had the old bytes gave some of them, with no more than n line feeds
+-- a reader with the old bytes returned some of them, with at most n line feeds
 abbrev pub GaveFeeds : Option (List ℕ) → Option (List ℕ) → ℕ → Type 0
 GaveFeeds old new n = (given : List ℕ) × Consumes old new given × (feed_count given ≤ n)

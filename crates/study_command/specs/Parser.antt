@@ -30,7 +30,7 @@ use Rattle.study_command.specs.declared.command.MoveCount.{MoveCount}
 use Rattle.study_command.specs.declared.command.PathWord.{PathWord}
 use Rattle.study_command.specs.Paths.{place_told, is_path_word, steps_of}
 
--- a command, with its arguments read; a class is still a word, since a mode is looked at before it
+-- a command with its arguments read; a class is still a word, since the mode is checked before it
 pub data Asked : Type 0 where
   fen_command : FenCommand → (fen : List ℕ) → Asked
   node_query : NodeQuery → (steps : List ℕ) → Asked
@@ -42,7 +42,7 @@ pub data Asked : Type 0 where
   solve : (count : ℕ) (steps : List ℕ) → Asked
   pgn : Asked
 
--- nothing, a command, or the first fault of form
+-- no command, a command, or the first fault of form
 abbrev pub Asks : Type 0
 Asks = Result (Option Asked) SyntaxFault
 
@@ -57,12 +57,12 @@ ended (b ∷ bs) = if list_all is_space (b ∷ bs) then [] else b ∷ ended bs
 unfoldable pub trimmed : List ℕ → List ℕ
 trimmed text = ended (begun_word text)
 
--- the one word that there is
+-- the only word, if there is exactly one
 abbrev pub one_word : List (List ℕ) → Option (List ℕ)
 one_word (word ∷ []) = Some word
 one_word _ = None
 
--- the two words that there are
+-- the two words, if there are exactly two
 abbrev pub two_words : List (List ℕ) → Option (List ℕ × List ℕ)
 two_words (first ∷ second ∷ []) = Some (first, second)
 two_words _ = None
@@ -77,7 +77,7 @@ text_told rest = if length (trimmed rest) == 0 then None else Some (trimmed rest
 abbrev pub path_of : List ℕ → Option (List ℕ)
 path_of word = if is_path_word word then Some (steps_of word) else None
 
--- one word, which is a path
+-- a path, if there is exactly one word and it is a path
 abbrev pub path_in : Option (List ℕ) → Option (List ℕ)
 path_in None = None
 path_in (Some word) = path_of word
@@ -117,7 +117,7 @@ abbrev pub stipulation_of : List (List ℕ) → Option Stipulation
 stipulation_of [] = None
 stipulation_of (side ∷ goal) = aimed (side_told side) (goal_of goal)
 
--- a tag that can be set
+-- the name of a tag that can be set
 abbrev pub tag_told : List ℕ → Option TagName
 tag_told word =
     if bytes_eq word (codes "Event") then Some tag_named.Event
@@ -130,7 +130,7 @@ tag_told word =
 
 -- ---- the commands
 
--- the arguments of a command, or none of its form
+-- the arguments of a command, or the fault that they are missing or wrong
 abbrev pub arguments_needed : Option Asked → Asks
 arguments_needed None = Err BadArguments
 arguments_needed (Some asked) = Ok (Some asked)
@@ -161,7 +161,7 @@ abbrev pub solve_asked : Option (List ℕ × List ℕ) → Option Asked
 solve_asked None = None
 solve_asked (Some pair) = solve_at (count_told pair.0) (path_of pair.1)
 
--- `tag NAME TEXT`: the name is looked at before the text
+-- `tag NAME TEXT`: the name is checked before the text
 abbrev pub tag_named_asked : Option TagName → Option (List ℕ) → Asks
 tag_named_asked None text = Err UnknownTag
 tag_named_asked (Some name) None = Err BadArguments
@@ -175,7 +175,7 @@ abbrev pub pgn_asked : List (List ℕ) → Option Asked
 pgn_asked [] = Some pgn
 pgn_asked (word ∷ more) = None
 
--- the first word of a line, and what follows it
+-- the command of the first word of a line and the rest
 unfoldable pub word_asked : Keyword → List ℕ → Asks
 word_asked (FromFen word) rest = arguments_needed (with_text (fen_command word) (text_told rest))
 word_asked (Query word) rest = arguments_needed (with_text (node_query word) (path_in (one_word (words rest))))
@@ -224,11 +224,11 @@ line_asked line (first ∷ arguments) =
     else (if not (list_all is_printable line) then Err BadByte
     else asked_with (word_of first) (behind_word line))
 
--- there is no command in a line of spaces, or in one that begins, after spaces, with `#`
+-- a line of spaces has no command, nor has one that begins, after spaces, with `#`
 unfoldable pub command_of : List ℕ → Asks
 command_of line = line_asked line (words line)
 
--- ---- what a contract sees of a command that was read
+-- ---- a command as contracts see it
 
 abbrev pub count_seen : MoveCount → ℕ
 count_seen count = count.number

@@ -1,4 +1,4 @@
--- Paths as they are read in a script.
+-- Paths as a script writes them.
 use Rattle.std.specs.Prelude.{ℕ, Bool, ◌&&◌, ◌||◌, ◌==◌, nat_le, List, [], length, map, codes, Option, Some, None, if◌then◌else◌}
 use Rattle.std.specs.List.{list_all, slice_split}
 use Rattle.std.specs.Str.{bytes_eq}
@@ -13,7 +13,7 @@ is_place part = nat_le 1 (length part) && nat_le (length part) 3 && list_all is_
 unfoldable pub place_told : List ℕ → Option ℕ
 place_told part = if is_place part then Some (digits_value 10 part) else None
 
--- what stands between points
+-- the parts between points
 abbrev pub places_in : List ℕ → List (List ℕ)
 places_in word = slice_split (λ b. b == 46) word
 

@@ -20,7 +20,7 @@ pub fn as_text(bytes: &[u8]) -> &str
     }
 }
 
-/// How much of a text stands before the spaces at its end.
+/// The length of a text without the spaces at its end.
 fn len_without_end_spaces(text: &[u8]) -> usize
     ensures value { take result text.now ≡ ended text.now }
     ensures within { result ≤ length text.now }
@@ -55,7 +55,7 @@ pub fn read_text(rest: &[u8]) -> Option<&str>
     Some(as_text(text))
 }
 
-/// The one word that there is.
+/// The only word, `None` unless there is exactly one.
 pub fn read_one_word(rest: &[u8]) -> Option<&[u8]>
     ensures value { option_map (λ word. word.now) result ≡ one_word (words rest.now) }
     ensures printable { list_all is_printable rest.now ≡ true → IfSome result (λ word. list_all is_printable word.now ≡ true) }
@@ -67,7 +67,7 @@ pub fn read_one_word(rest: &[u8]) -> Option<&[u8]>
     Some(word)
 }
 
-/// The two words that there are.
+/// The two words, `None` unless there are exactly two.
 pub fn read_two_words(rest: &[u8]) -> Option<(&[u8], &[u8])>
     ensures value { option_map (λ pair. (pair.0.now, pair.1.now)) result ≡ two_words (words rest.now) }
     ensures printable { list_all is_printable rest.now ≡ true → IfSome result (λ pair. list_all is_printable pair.1.now ≡ true) }

@@ -12,14 +12,14 @@ pub enum FenCommand {
     Shift,
 }
 
-/// Commands that take a node and nothing else, and need no study.
+/// Commands whose only argument is a node, and that need no study.
 #[derive(Clone, Copy, Debug, PartialEq, Eq)]
 pub enum NodeQuery {
     Moves,
     Fen,
 }
 
-/// Commands that take a node of a study and nothing else.
+/// Commands whose only argument is a node of a study.
 #[derive(Clone, Copy, Debug, PartialEq, Eq)]
 pub enum NodeCommand {
     Delete,
@@ -36,7 +36,7 @@ pub enum TableCommand {
     Verify,
 }
 
-/// The first words of lines with a command.
+/// The first words of lines that have a command.
 #[derive(Clone, Copy, Debug, PartialEq, Eq)]
 pub enum Keyword {
     FromFen(FenCommand),
@@ -50,8 +50,8 @@ pub enum Keyword {
     Pgn,
 }
 
-/// Why a line is no command: in this order, but that words after `stipulate` of whatever number are no stipulation, and
-/// that the name of a tag is looked at before its text.
+/// Why a line is not a command. Faults are checked in this order, except that a wrong number of words after `stipulate` is reported as no stipulation, and
+/// that the name of a tag is checked before its text.
 #[derive(Clone, Copy, Debug, PartialEq, Eq, Error)]
 pub enum SyntaxFault {
     #[error("a byte outside printable ASCII")]
@@ -66,7 +66,7 @@ pub enum SyntaxFault {
     UnknownTag,
 }
 
-/// How many moves the side to move has for a forced mate: 1 to 3.
+/// The number of moves of the side to move in a forced mate: 1 to 3.
 #[derive(Clone, Copy, Debug, PartialEq, Eq)]
 pub struct MoveCount {
     pub number: u8,
@@ -74,7 +74,7 @@ pub struct MoveCount {
     ghost high: { number ≤ 3 },
 }
 
-/// A path as it is written: `root`, or places of one to three digits joined by `.`.
+/// A path as written: `root`, or places of one to three digits joined by `.`.
 #[derive(Clone, Copy)]
 pub struct PathWord<'a> {
     pub word: &'a [u8],
@@ -87,7 +87,7 @@ pub enum Command<'a> {
     FromFen(FenCommand, &'a str),
     Query(NodeQuery, PathWord<'a>),
     Node(NodeCommand, PathWord<'a>),
-    /// With the name of a class, which may be none.
+    /// With the name of a class, which need not exist.
     Table(TableCommand, &'a str),
     Stipulate(Stipulation),
     Insert(PathWord<'a>, &'a str),

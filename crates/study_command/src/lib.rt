@@ -1,7 +1,7 @@
 //! The command in a line of a script.
 //!
-//! `Line` reads the lines of a script one by one, `read_command` reads the command of a line, or reports the first fault of its form,
-//! and `read_path` turns a path as it is written into places of children.
+//! `Line` reads the lines of a script one by one, `read_command` reads the command of a line, or reports the first fault of its form, and `read_path`
+//! turns a written path into places of children.
 #![tactic(auto)]
 
 mod arguments;

@@ -9,14 +9,14 @@ use std::io::Read;
 use std::marker::Model;
 use study_text::DeviceFailed;
 
-/// Why no line is read.
+/// Why a line is not read.
 #[derive(Clone, Copy, Debug, PartialEq, Eq)]
 pub enum LineFault {
     Device,
     TooLong,
 }
 
-/// A line of at most 1,024 bytes. Its room is taken once, and never grows.
+/// A line of at most 1,024 bytes. Its memory is allocated once, and never grows.
 #[derive(Drop)]
 pub struct Line<'a, A: Allocator> {
     bytes: Vec<u8, &'a A>,
@@ -47,7 +47,7 @@ impl<'a, A: Allocator> Line<'a, A> {
         self.bytes.as_slice()
     }
 
-    /// Takes the next line of the script, without its end, if one begins.
+    /// Reads the next line of the script, without its end, if one begins.
     pub fn read<R: Read>(&mut self, script: &mut R) -> Result<bool, LineFault>
         ensures line { IfOk result (λ begins. TakesLine (R.remaining script.old) (R.remaining script.new) begins self.new) }
         ensures short { OnOk result (length self.new ≤ 1024) }
@@ -77,7 +77,7 @@ impl<'a, A: Allocator> Line<'a, A> {
         Ok(begins)
     }
 
-    /// The room after 1,024 bytes is for a carriage return alone.
+    /// The room after 1,024 bytes is only for a carriage return.
     fn has_room_for(&self, byte: u8) -> bool
         ensures { result ≡ (nat_lt (length self.now) 1024 || (length self.now == 1024 && byte == 13)) }
     {

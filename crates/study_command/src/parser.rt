@@ -19,7 +19,7 @@ use study_board::Side;
 use study_marks::{Goal, MateMoves, Stipulation, TagName, is_printable};
 use study_text::next_word;
 
-/// The command of the line: none in a comment or an empty line, else a command, or the first fault of form.
+/// The command of the line: `None` for a comment or an empty line, otherwise a command, or the first fault of form.
 #[tactic(auto, using(crate::proofs::Printable::printable_behind), unfolding(crate::specs::Parser::command_of))]
 pub fn read_command(line: &[u8]) -> Result<Option<Command<'_>>, SyntaxFault>
     ensures { line_seen result ≡ command_of line.now }
@@ -89,7 +89,7 @@ fn read_keyword(word: &[u8]) -> Option<Keyword>
     }
 }
 
-/// What follows the first word. A text is not empty, and all other arguments are words.
+/// The command of a first word and its arguments. A text must not be empty, and all other arguments are words.
 #[tactic(auto, unfolding(crate::specs::Parser::word_asked))]
 fn read_arguments(word: Keyword, rest: &[u8]) -> Result<Option<Command<'_>>, SyntaxFault>
     requires { list_all is_printable rest.now ≡ true }
@@ -123,14 +123,14 @@ fn read_arguments(word: Keyword, rest: &[u8]) -> Result<Option<Command<'_>>, Syn
     }
 }
 
-/// One word, which is a path.
+/// A path, if there is exactly one word and it is a path.
 fn read_path(rest: &[u8]) -> Option<PathWord<'_>>
     ensures { option_map path_seen result ≡ path_in (one_word (words rest.now)) }
 {
     read_path_word(read_one_word(rest)?)
 }
 
-/// One word, a name.
+/// A name, if there is exactly one word.
 fn read_name(rest: &[u8]) -> Option<&str>
     requires { list_all is_printable rest.now ≡ true }
     ensures { option_map (λ name. name.now) result ≡ one_word (words rest.now) }

@@ -8,7 +8,7 @@ use crate::path_text::read_place;
 use std::alloc::{AllocError, Allocator};
 use study_tree::Path;
 
-/// The path that is written so. That of the root takes no memory.
+/// The path that the word spells. The path of the root takes no memory.
 pub fn read_path<'a, A: Allocator>(alloc: &'a A, path: &[u8]) -> Result<Path<'a, A>, AllocError>
     requires { is_path_word path.now ≡ true }
     ensures path { IfOk result (λ p. p ≡ steps_of path.now) }
@@ -21,7 +21,7 @@ pub fn read_path<'a, A: Allocator>(alloc: &'a A, path: &[u8]) -> Result<Path<'a,
     }
 }
 
-/// `root`, or else child places.
+/// Whether the word is `root` rather than child places.
 fn is_root(path: &[u8]) -> bool
     requires { is_path_word path.now ≡ true }
     ensures root { result ≡ true → steps_of path.now ≡ [] }
@@ -48,7 +48,7 @@ fn read_places<'a, A: Allocator>(alloc: &'a A, path: &[u8]) -> Result<Path<'a, A
     }
 }
 
-/// The part before the first point, and what follows it.
+/// The part before the first point, and the rest.
 fn split_first_place(word: &[u8]) -> (&[u8], Option<&[u8]>)
     ensures cut { MatchOption result.1 (places_in word.now ≡ result.0.now ∷ []) (λ more. places_in word.now ≡ result.0.now ∷ places_in more.now) }
     ensures shorter { IfSome result.1 (λ more. length more.now < length word.now) }
@@ -61,7 +61,7 @@ fn split_first_place(word: &[u8]) -> (&[u8], Option<&[u8]>)
     (word, None)
 }
 
-/// Goes on to the child whose place is written so.
+/// Extends the path to the child whose place is written.
 fn push_place<'a, A: Allocator>(found: &mut Path<'a, A>, part: &[u8]) -> Result<(), AllocError>
     requires { is_place part.now ≡ true }
     ensures { OnOk result (found.new ≡ found.old ++ digits_value 10 part.now ∷ []) }

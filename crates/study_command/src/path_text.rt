@@ -1,4 +1,4 @@
-//! Paths as they are written.
+//! Paths as written.
 ghost use Rattle.std.specs.Prelude.{◌≡◌};
 ghost use Rattle.std.specs.Option.{option_map};
 ghost use Rattle.std.specs.List.{list_all};

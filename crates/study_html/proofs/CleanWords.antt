@@ -1,4 +1,4 @@
--- What is written of words is clean.
+-- The HTML of words is clean.
 use Rattle.std.proofs.Common.{◌≡◌, ℕ, ◌+◌, ◌/◌, ◌%◌, ◌<◌, ◌≤◌, List, [], ◌∷◌, ◌++◌, inl, inr, refl, arith}
 use Rattle.std.specs.Prelude.{codes, nat_lt}
 use Rattle.std.proofs.Common.{eqb}
@@ -6,7 +6,7 @@ use Rattle.std.proofs.lemmas.Bool.{cases_Bool, eqb-false, ltb-true, ltb-false}
 use Rattle.std.specs.List.{flat_map}
 use Rattle.study_html.specs.Escape.{entity, said, shown, hex_digit, IsClean, IsPlainByte}
 
--- a byte that is none of these
+-- a byte other than these
 other : (b : ℕ) (xs : List ℕ) → 32 ≤ b → b ≤ 126 → (b ≡ 60 → ⊥) → (b ≡ 62 → ⊥) → (b ≡ 34 → ⊥) → (b ≡ 39 → ⊥) → (b ≡ 38 → ⊥)
     → IsClean xs → IsClean (b ∷ xs)
 other b xs lo hi lt gt quote mark amp h =
@@ -74,14 +74,14 @@ apostrophe xs h = (
   hash _ (digit 51 _ (omega arith) (omega arith) (digit 57 _ (omega arith) (omega arith) (digit 59 _ (omega arith) (omega arith) h))),
 )
 
--- a digit of sixteen
+-- a hexadecimal digit
 hex : (d : ℕ) (xs : List ℕ) → d < 16 → IsClean xs → IsClean (hex_digit d ∷ xs)
 hex d xs few h = elim (cases_Bool (nat_lt d 10)) [
   | inl a ↦ rw a (digit (48 + d) xs (omega arith) (omega (arith, ltb-true d 10 a)) h)
   | inr na ↦ rw na (letter (55 + d) xs (omega (arith, ltb-false d 10 na)) (omega (arith, few)) h)
 ]
 
--- a byte that is not printed
+-- a byte that is not printable
 numbered : (b : ℕ) (xs : List ℕ) → IsClean xs → IsClean (92 ∷ 120 ∷ hex_digit (b / 16 % 16) ∷ hex_digit (b % 16) ∷ xs)
 numbered b xs h =
     letter 92 _ (omega arith) (omega arith) (letter 120 _ (omega arith) (omega arith)

@@ -1,4 +1,4 @@
--- Markup to which more is added at the end.
+-- Markup that grows at the end.
 use Rattle.std.proofs.Common.{◌≡◌, ℕ, List, [], ◌++◌, refl, sym, ap, ◌∙◌, append_assoc}
 use Rattle.std.proofs.lemmas.List.{append-nil}
 use Rattle.study_html.specs.declared.element.Element.{Element}

@@ -1,4 +1,4 @@
--- What is drawn.
+-- The drawings: boards, men and signs.
 use Rattle.std.specs.Prelude.{ℕ, ◌-◌, ◌*◌, List, [], ◌∷◌, ◌++◌, codes, decimal}
 use Rattle.study_board.specs.declared.men.Side.{Side}
 use Rattle.study_board.specs.declared.men.Side.TheVariants as side
@@ -17,7 +17,7 @@ side_class side.Black = codes "b"
 unfoldable pub cell_of : ℕ → List ℕ
 cell_of x = codes " x=\"" ++ (decimal (45 * file_of x) ++ (codes "\" y=\"" ++ (decimal (45 * (7 - rank_of x)) ++ codes "\"")))
 
--- a colour of men, and a kind
+-- the colours of men, and their kinds
 unfoldable pub colour : Side → List ℕ
 colour s = codes " class=\"" ++ (side_class s ++ codes "\"")
 

@@ -57,7 +57,7 @@ name element.Mini = codes "svg"
 name (element.Entry n) = codes "article"
 name (element.Link n) = codes "a"
 
--- the attributes of an element that has no number
+-- the attributes of an element without a number
 abbrev pub fixed : Element → List ℕ
 fixed element.Header = []
 fixed element.Title = []
@@ -123,6 +123,6 @@ opening e = codes "<" ++ (name e ++ (attributes e ++ codes ">"))
 unfoldable pub closing : Element → List ℕ
 closing e = codes "</" ++ (name e ++ codes ">")
 
--- an element with what is inside
+-- an element with its contents
 unfoldable pub inside : Element → List ℕ → List ℕ
 inside e text = opening e ++ (text ++ closing e)

@@ -1,4 +1,4 @@
--- Words in HTML.
+-- Words as HTML.
 use Rattle.std.specs.Prelude.{◌≡◌, ◌≤◌, ℕ, ◌+◌, ◌/◌, ◌%◌, ◌==◌, ◌||◌, nat_lt, List, [], ◌∷◌, ◌++◌, ◌⊎◌, if◌then◌else◌, codes}
 use Rattle.std.specs.List.{flat_map}
 
@@ -10,7 +10,7 @@ hex_digit d = if nat_lt d 10 then 48 + d else 55 + d
 abbrev pub shown : ℕ → List ℕ
 shown b = if nat_lt b 32 || nat_lt 126 b then 92 ∷ 120 ∷ hex_digit (b / 16 % 16) ∷ hex_digit (b % 16) ∷ [] else b ∷ []
 
--- what stands for a byte: `&`, `<`, `>` and both quotation marks are entities
+-- the text for a byte: `&`, `<`, `>` and both quotation marks become entities
 abbrev pub entity : ℕ → List ℕ
 entity b =
     if b == 38 then codes "&amp;"
@@ -20,14 +20,14 @@ entity b =
 unfoldable pub said : List ℕ → List ℕ
 said text = flat_map entity text
 
--- one of the five entities comes first
+-- the bytes begin with one of the five entities
 abbrev pub BeginsEntity : List ℕ → Type 0
 BeginsEntity text =
     (rest : List ℕ)
     × ((text ≡ codes "&amp;" ++ rest) ⊎ ((text ≡ codes "&lt;" ++ rest) ⊎ ((text ≡ codes "&gt;" ++ rest)
     ⊎ ((text ≡ codes "&quot;" ++ rest) ⊎ (text ≡ codes "&#39;" ++ rest)))))
 
--- a byte of printable ASCII that is none of `<`, `>`, `"` and `'`
+-- a byte of printable ASCII other than `<`, `>`, `"` and `'`
 pub record IsPlainByte (b : ℕ) : Type 0 where
   pub printed : 32 ≤ b
   pub ascii : b ≤ 126
@@ -36,11 +36,11 @@ pub record IsPlainByte (b : ℕ) : Type 0 where
   pub quote : b ≡ 34 → ⊥
   pub apostrophe : b ≡ 39 → ⊥
 
--- all bytes are such, and at each `&` an entity begins
+-- all bytes are plain, and at each `&` an entity begins
 abbrev pub IsClean : List ℕ → Type 0
 IsClean [] = Unit {0}
 IsClean (b ∷ text) = IsPlainByte b × (b ≡ 38 → BeginsEntity (b ∷ text)) × IsClean text
 
--- whatever the words are, what is written of them is clean
+-- whatever the words are, their HTML is clean
 abbrev pub WordsAreClean : Type 0
 WordsAreClean = (words : List ℕ) → IsClean (said words)

@@ -1,7 +1,7 @@
--- What comes before the first page and after the last: fixed texts.
+-- The texts before the first page and after the last: fixed texts.
 use Rattle.std.specs.Prelude.{ℕ, List, ◌++◌, codes}
 
--- what comes before the end of the style, and what comes after it
+-- the text before the end of the style, and the text after it
 unfoldable pub front : List ℕ
 front =
     codes "<!DOCTYPE html>\n<html lang=\"en\"><head><meta charset=\"utf-8\"><meta name=\"viewport\" content=\"width=device-width, initial-sca"
@@ -64,11 +64,11 @@ back =
     ++ (codes "<text x=\"-8\" y=\"252\">3</text><text x=\"-8\" y=\"207\">4</text><text x=\"-8\" y=\"162\">5</text><text x=\"-8\" y=\"117\">6</tex"
     ++ (codes "t><text x=\"-8\" y=\"72\">7</text><text x=\"-8\" y=\"27\">8</text></g></defs></svg>\n")))))))))))))))))))))))))
 
--- of pages
+-- the opening of pages
 unfoldable pub opening : List ℕ
 opening = front ++ back
 
--- of a sheet: twelve diagrams a page
+-- the additional style of a sheet: twelve diagrams per page
 unfoldable pub sheet_style : List ℕ
 sheet_style =
     codes "body{max-width:178mm}\nbody>figure{display:inline-block;width:59mm;height:68mm;vertical-align:top;break-inside:avoid}\nbody>figure svg.board"

@@ -6,21 +6,20 @@ use Rattle.study_html.specs.Escape.{said}
 use Rattle.study_html.specs.Elements.{inside}
 use Rattle.study_html.specs.Drawings.{drawn}
 
--- what comes one after the other: words, elements with what is inside them, and drawings, which have no inside
+-- a sequence: words, elements with their contents, and drawings, which have no contents
 pub data Markup : Type 0 where
   nothing : Markup
   words : List ℕ → Markup → Markup
   element : Element → Markup → Markup → Markup
   drawing : Drawing → Markup → Markup
 
--- its text
+-- the text of markup
 abbrev pub text_of : Markup → List ℕ
 text_of nothing = []
 text_of (words w rest) = said w ++ text_of rest
 text_of (element e within rest) = inside e (text_of within) ++ text_of rest
 text_of (drawing d rest) = drawn d ++ text_of rest
 
--- The text is that of a tree of markup: each element that is opened is closed, in order, and what comes from outside
--- is in it only as words.
+-- The text is that of a tree of markup: each element that is opened is closed, in order, and text from outside is in it only as words.
 abbrev pub IsWellNested : List ℕ → Type 0
 IsWellNested text = (tree : Markup) × (text ≡ text_of tree)

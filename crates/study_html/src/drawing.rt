@@ -1,4 +1,4 @@
-//! What is drawn.
+//! The drawings: boards, men and signs.
 ghost use Rattle.std.specs.Prelude.{◌≡◌, ◌++◌, ◌∷◌, [], OnOk};
 ghost use Rattle.study_board.specs.Letters.{letter};
 ghost use Rattle.study_html.specs.Drawings.{side_class, colour, shape, size, cell_of, standing, drawn};
@@ -7,7 +7,7 @@ use std::alloc::{AllocError, Allocator};
 use study_board::{Kind, Man, Side, Square};
 use study_text::Text;
 
-/// What markup has without anything inside.
+/// Markup without contents.
 #[derive(Clone, Copy)]
 pub enum Drawing {
     /// A new line.
@@ -78,7 +78,7 @@ fn add_shape<A: Allocator>(text: &mut Text<'_, A>, kind: Kind) -> Result<(), All
     text.add(b"\"")
 }
 
-/// A square's width and height.
+/// The width and height of a square.
 #[tactic(auto, unfolding(crate::specs::Drawings::size))]
 fn add_size<A: Allocator>(text: &mut Text<'_, A>) -> Result<(), AllocError>
     ensures { OnOk result (text.new ≡ text.old ++ size) }

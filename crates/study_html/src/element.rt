@@ -5,7 +5,7 @@ ghost use Rattle.study_html.specs.Elements.{name, fixed, attributes, opening, cl
 use std::alloc::{AllocError, Allocator};
 use study_text::Text;
 
-/// An element of a page, by what it is for.
+/// An element of a page, by its purpose.
 #[derive(Clone, Copy)]
 pub enum Element {
     /// The head of a page.
@@ -18,13 +18,13 @@ pub enum Element {
     Top,
     /// A diagram with its caption.
     Figure,
-    /// What is below a diagram.
+    /// The part below a diagram.
     Caption,
     /// Bold words.
     Strong,
     /// The count of men.
     Count,
-    /// A text as it is typed.
+    /// A text as typed.
     Code,
     /// The part with the verdict.
     Verdict,
@@ -48,11 +48,11 @@ pub enum Element {
     Tree,
     /// The only move that holds.
     Only,
-    /// A move beside which others hold.
+    /// A move beside which other moves hold.
     Dual,
-    /// A move that throws it away.
+    /// A move that gives the goal away.
     Mistake,
-    /// A move where nothing is to be held.
+    /// A move in a position that does not hold.
     Idle,
     /// A move of the opponent.
     Reply,
@@ -64,7 +64,7 @@ pub enum Element {
     Below,
     /// A list.
     List,
-    /// A part of a list.
+    /// An entry of a list.
     Item,
     /// The faults of a solution.
     Faults,
@@ -72,7 +72,7 @@ pub enum Element {
     Cards,
     /// A card.
     Card,
-    /// What is beside a diagram.
+    /// The part beside a diagram.
     Beside,
     /// The title of a card.
     CardTitle,
@@ -82,7 +82,7 @@ pub enum Element {
     Also,
     /// A table.
     Table,
-    /// The heads of a table.
+    /// The head of a table.
     Heads,
     /// The rows of a table.
     Rows,
@@ -92,15 +92,15 @@ pub enum Element {
     Head,
     /// A cell of a table.
     Cell,
-    /// Words that are not broken between lines.
+    /// Words that are not broken across lines.
     Whole,
-    /// Defences with one answer.
+    /// Defences with the same answer.
     Group,
-    /// The answer to them.
+    /// The answer to such defences.
     Answer,
     /// The foot of a page.
     Foot,
-    /// What a drawing shows, for those who hear it.
+    /// The description of a drawing, for screen readers.
     Said,
     /// The page with all entries.
     Summary,
@@ -155,7 +155,7 @@ fn name(element: Element) -> &'static [u8]
     }
 }
 
-/// The attributes of an element that has no number, each after a space.
+/// The attributes of an element without a number, each after a space.
 fn fixed(element: Element) -> &'static [u8]
     ensures { result.now ≡ fixed element }
 {
@@ -227,7 +227,7 @@ fn add_closing<A: Allocator>(text: &mut Text<'_, A>, element: Element) -> Result
     text.add(b">")
 }
 
-/// Adds the element with what is inside.
+/// Adds the element with its contents.
 #[tactic(auto, unfolding(crate::specs::Elements::inside))]
 pub fn add_inside<A: Allocator>(
     text: &mut Text<'_, A>,

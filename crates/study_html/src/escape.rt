@@ -1,11 +1,11 @@
-//! Words in HTML.
+//! Words as HTML.
 ghost use Rattle.std.specs.Prelude.{◌≡◌, ◌<◌, ◌++◌, OnOk};
 ghost use Rattle.study_html.specs.Escape.{entity, hex_digit, shown, said};
 
 use std::alloc::{AllocError, Allocator};
 use study_text::Text;
 
-/// The digit, of sixteen.
+/// The hexadecimal digit.
 fn hex_digit(digit: u8) -> u8
     requires { digit < 16 }
     ensures { result ≡ hex_digit digit }
@@ -13,7 +13,7 @@ fn hex_digit(digit: u8) -> u8
     if digit < 10 { 48 + digit } else { 55 + digit }
 }
 
-/// A byte that is printed, as it is, and any other by its number.
+/// Adds a printable byte as it is, and any other by its number.
 fn add_shown<A: Allocator>(text: &mut Text<'_, A>, byte: u8) -> Result<(), AllocError>
     ensures { OnOk result (text.new ≡ text.old ++ shown byte) }
 {
@@ -24,7 +24,7 @@ fn add_shown<A: Allocator>(text: &mut Text<'_, A>, byte: u8) -> Result<(), Alloc
     }
 }
 
-/// What stands for a byte.
+/// Adds the text for a byte.
 fn add_entity<A: Allocator>(text: &mut Text<'_, A>, byte: u8) -> Result<(), AllocError>
     ensures { OnOk result (text.new ≡ text.old ++ entity byte) }
 {
@@ -43,7 +43,7 @@ fn add_entity<A: Allocator>(text: &mut Text<'_, A>, byte: u8) -> Result<(), Allo
     }
 }
 
-/// Adds words as HTML has them: `&`, `<`, `>` and the quotation marks as entities, and what is not printed by its number.
+/// Adds words as HTML: `&`, `<`, `>` and the quotation marks as entities, and bytes that are not printable by their numbers.
 #[tactic(auto, unfolding(crate::specs::Escape::said))]
 pub fn add_said<A: Allocator>(text: &mut Text<'_, A>, bytes: &[u8]) -> Result<(), AllocError>
     ensures { OnOk result (text.new ≡ text.old ++ said bytes.now) }

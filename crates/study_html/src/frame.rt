@@ -1,4 +1,4 @@
-//! What comes before the first page and after the last.
+//! The texts before the first page and after the last.
 ghost use Rattle.std.specs.Prelude.{◌≡◌, ◌++◌, OnOk, OnErr};
 ghost use Rattle.std.specs.Io.KnownBytes.{Appends};
 ghost use Rattle.study_text.specs.Taken.{TakesPrefix};
@@ -7,7 +7,7 @@ ghost use Rattle.study_html.specs.Frame.{front, back, opening, sheet_style, shee
 use std::io::Write;
 use study_text::{DeviceFailed, write_text};
 
-/// What comes before the end of the style.
+/// The text before the end of the style.
 fn front() -> &'static [u8]
     ensures { result.now ≡ front }
 {
@@ -71,7 +71,7 @@ t><text x=\"-8\" y=\"297\">2</text><text x=\"-8\" y=\"252\">3</text><text x=\"-8
 x=\"-8\" y=\"117\">6</text><text x=\"-8\" y=\"72\">7</text><text x=\"-8\" y=\"27\">8</text></g></defs></svg>\n"
 }
 
-/// What a sheet adds to the style.
+/// The additional style of a sheet.
 fn sheet_style() -> &'static [u8]
     ensures { result.now ≡ sheet_style }
 {
@@ -87,7 +87,7 @@ fn closing() -> &'static [u8]
     b"</body></html>\n"
 }
 
-/// Writes one text after the other.
+/// Writes two texts, one after the other.
 fn write_both<W: Write>(out: &mut W, first: &[u8], second: &[u8]) -> Result<(), DeviceFailed>
     ensures ok { OnOk result (Appends (W.contents out.old) (W.contents out.new) (first.now ++ second.now)) }
     ensures prefix { OnErr result (TakesPrefix (W.contents out.old) (W.contents out.new) (first.now ++ second.now)) }
@@ -96,7 +96,7 @@ fn write_both<W: Write>(out: &mut W, first: &[u8], second: &[u8]) -> Result<(), 
     write_text(out, second)
 }
 
-/// Writes what comes before the first page.
+/// Writes the text before the first page.
 #[tactic(auto, unfolding(crate::specs::Frame::opening))]
 pub fn write_opening<W: Write>(out: &mut W) -> Result<(), DeviceFailed>
     ensures ok { OnOk result (Appends (W.contents out.old) (W.contents out.new) opening) }
@@ -105,7 +105,7 @@ pub fn write_opening<W: Write>(out: &mut W) -> Result<(), DeviceFailed>
     write_both(out, front(), back())
 }
 
-/// Writes what comes before the first diagram of a sheet.
+/// Writes the text before the first diagram of a sheet.
 #[tactic(auto, unfolding(crate::specs::Frame::sheet_opening))]
 pub fn write_sheet_opening<W: Write>(out: &mut W) -> Result<(), DeviceFailed>
     ensures ok { OnOk result (Appends (W.contents out.old) (W.contents out.new) sheet_opening) }
@@ -115,7 +115,7 @@ pub fn write_sheet_opening<W: Write>(out: &mut W) -> Result<(), DeviceFailed>
     write_both(out, sheet_style(), back())
 }
 
-/// Writes what comes after the last page.
+/// Writes the text after the last page.
 pub fn write_closing<W: Write>(out: &mut W) -> Result<(), DeviceFailed>
     ensures ok { OnOk result (Appends (W.contents out.old) (W.contents out.new) closing) }
     ensures prefix { OnErr result (TakesPrefix (W.contents out.old) (W.contents out.new) closing) }

@@ -12,8 +12,7 @@ use std::alloc::{AllocError, Allocator};
 use std::marker::Model;
 use study_text::Text;
 
-/// Markup in memory, to which more is added at the end: words, whole elements and drawings, and nothing else. Where there is no
-/// memory for more, nothing is left of it.
+/// Markup in memory that grows at its end: by words, whole elements and drawings, and nothing else. If there is no memory for more, the markup is emptied.
 #[derive(Drop)]
 pub struct Html<'a, A: Allocator> {
     alloc: &'a A,
@@ -32,7 +31,7 @@ impl<'a, A: Allocator> Model for Html<'a, A> {
 }
 
 impl<'a, A: Allocator> Html<'a, A> {
-    /// No markup.
+    /// Empty markup.
     #[tactic(auto, using(crate::proofs::MarkupGrows::none_nested))]
     pub fn new(alloc: &'a A) -> Self
         ensures { result ≡ [] }
@@ -50,7 +49,7 @@ impl<'a, A: Allocator> Html<'a, A> {
         self.text.as_slice()
     }
 
-    /// Whether there is no markup.
+    /// Whether the markup is empty.
     pub fn is_empty(&self) -> bool
         ensures { result ≡ (length self.now == 0) }
     {
@@ -71,7 +70,7 @@ impl<'a, A: Allocator> Html<'a, A> {
         }
     }
 
-    /// Adds an element with what is inside it.
+    /// Adds an element with its contents.
     #[tactic(auto, using(crate::proofs::MarkupGrows::inside_nested, crate::proofs::MarkupGrows::none_nested))]
     pub fn put<'b, B: Allocator>(
         &mut self,

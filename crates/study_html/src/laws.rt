@@ -1,7 +1,7 @@
 //! Laws over the definitions, stated by functions that do nothing.
 ghost use Rattle.study_html.specs.Escape.{WordsAreClean};
 
-/// What is written of words has none of `<`, `>` and the quotation marks, `&` only where an entity begins, and no byte but
+/// The HTML of words has none of `<`, `>` and the quotation marks, `&` only at the beginning of an entity, and only bytes of
 /// printable ASCII, whatever the words are.
 pub fn words_are_clean()
     ensures { WordsAreClean }

@@ -1,8 +1,8 @@
 //! HTML that is always well nested: elements, words from outside, and drawings of boards and men.
 //!
-//! `Html` is markup that grows by words, by whole elements and by drawings, so that it is always well nested and words from
-//! outside are never read as markup. `write_opening` or `write_sheet_opening`, and `write_closing`, write what stands around the pages of a file: the
-//! style sheet of the elements, and the shapes that the drawings name.
+//! `Html` is markup that grows by words, by whole elements and by drawings, so it is always well nested, and words from outside are never read as
+//! markup. `write_opening` or `write_sheet_opening`, and `write_closing`, write the texts around the pages of a file: the style sheet of the
+//! elements, and the shapes that the drawings name.
 #![tactic(auto)]
 
 mod drawing;

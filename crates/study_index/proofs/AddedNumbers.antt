@@ -1,4 +1,4 @@
--- A man that moves from a square, by the slot of the man that stands there.
+-- A man that moves from a square, by the slot of the man there.
 use Rattle.std.proofs.Common.{◌≡◌, ℕ, zero, suc, ◌+◌, ◌-◌, ◌<◌, ◌≤◌, ◌==◌, eqb, Bool, true, false, cond, List, [], ◌∷◌, map, length, slice_index_or}
 use Rattle.std.proofs.Common.{refl, sym, ◌∙◌, ap, subst, arith}
 use Rattle.std.specs.Prelude.{count_by}
@@ -33,7 +33,7 @@ none_moves x a (y ∷ ys) e =
         omega (arith, e, c))
     by_test false t r = ap (λ (zs : List Man). y ∷ zs) r
 
--- where a man of the list stands
+-- the square of a man of the list
 at_origin : (x : ℕ) (ms : List Man) (i : ℕ) → i < length ms → ((d : Man) → (slice_index_or ms i d).at ≡ x) → 1 ≤ count_by (λ y. y.at == x) ms
 at_origin x [] i l e = absurd (omega (arith, l))
 at_origin x (y ∷ ys) i l e = by_index (λ j. at_origin x ys j) i l e
@@ -50,7 +50,7 @@ at_origin x (y ∷ ys) i l e = by_index (λ j. at_origin x ys j) i l e
 stays_there : (x a : ℕ) (m : Man) → eqb m.at x ≡ false → from_to x a m ≡ m
 stays_there x a m e = rw e refl
 
--- the man of one place put on another square
+-- the man at one place put on another square
 pub one_moves : (x a : ℕ) (ms : List Man) (i : ℕ) → i < length ms → ((d : Man) → (slice_index_or ms i d).at ≡ x)
     → count_by (λ y. y.at == x) ms ≤ 1 → map (from_to x a) ms ≡ moved_to i a ms
 one_moves x a [] i l e o = absurd (omega (arith, l))
@@ -82,7 +82,7 @@ one_moves x a (y ∷ ys) i l e o = by_index (λ j. one_moves x a ys j) i l e
             let c : count_by (λ z. z.at == x) (y ∷ ys) ≡ 1 + count_by (λ z. z.at == x) ys = count_by-cons (λ z. z.at == x) y ys ∙ rw h refl in
             omega (arith, o, c, k))
 
--- no fewer men stand on a square to which those of another were put
+-- no fewer men stand on a square to which the men of another are moved
 grown : (a : ℕ) (y : Man) (ys : List Man) → count_by (λ z. z.at == a) ys ≤ count_by (λ z. z.at == a) (y ∷ ys)
 grown a y ys = by_test (y.at == a) refl
   where
@@ -117,7 +117,7 @@ as_long : (ms : List Man) → length (map slot_filled ms) ≡ length ms
 as_long [] = refl
 as_long (m ∷ ms) = let e = as_long ms in omega (arith, e)
 
--- the man that stands on x is that of slot i
+-- the man on x is the man of slot i
 pub IsStepped-moved : (c : Class) (n i x a : ℕ) (p : Position) → i < length (slots_of c)
     → ((d : Man) → (slice_index_or (told_men (slots_of c) (without_bit n)) i d).at ≡ x) → IsMoved c n x a p → IsStepped c n i a p
 IsStepped-moved c n i x a p few stands t =

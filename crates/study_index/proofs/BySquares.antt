@@ -22,7 +22,7 @@ AreOnBoard (m ∷ ms) = (m.at < 64) × AreOnBoard ms
 abbrev pub square : Man → ℕ
 square m = m.at
 
--- two symmetries that take squares to the same
+-- two symmetries with the same images of squares
 abbrev pub TakeSame : Symmetry → Symmetry → Type 0
 TakeSame t u = (x : ℕ) → x < 64 → turned_square t x ≡ turned_square u x
 
@@ -164,7 +164,7 @@ pub one_placed : (c : Bool) (m : Man) (k : PlacedMan) → k ≡ placed c m → k
 unfolding put
 one_placed c m k e = ap (λ n. n ∷ []) e
 
--- one man more is put among the others
+-- one more man is inserted among the others
 pub more_placed : (c : Bool) (m : Man) (ms : List Man) (k : PlacedMan) (ks xs : List PlacedMan) → k ≡ placed c m
     → ks ≡ put_placed k xs → xs ≡ map (placed c) (sorted c ms) → ks ≡ map (placed c) (sorted c (m ∷ ms))
 more_placed c m ms k ks xs d e f = e ∙ ap (λ n. put_placed n xs) d ∙ ap (λ z. put_placed (placed c m) z) f ∙ placed-put c m (sorted c ms)
@@ -173,7 +173,7 @@ squares-placed : (c : Bool) (ms : List Man) → squares_placed (map (placed c) m
 squares-placed c [] = refl
 squares-placed c (m ∷ ms) = ap (λ xs. m.at ∷ xs) (squares-placed c ms)
 
--- the last two of four are of one slot
+-- the last two of four have the same slot
 abbrev pub like_placed : List PlacedMan → Bool
 like_placed (a ∷ b ∷ x ∷ y ∷ []) = x.slot == y.slot
 like_placed ks = false

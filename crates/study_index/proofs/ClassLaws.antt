@@ -1,4 +1,4 @@
--- The laws of classes: what tables rest on.
+-- The laws of classes, on which tables rest.
 use Rattle.std.proofs.Common.{◌≡◌, ℕ, ◌+◌, ◌*◌, ◌^◌, ◌<◌, Bool, true, false, cond, ◌||◌, List, []}
 use Rattle.std.proofs.Common.{◌∷◌, length, Option, Some, None, refl, sym, ◌∙◌, ap, subst, arith}
 use Rattle.std.proofs.lemmas.Bool.{false≢true}
@@ -41,7 +41,7 @@ use Rattle.study_index.proofs.LivePassing.{live_class, live_behind, live_along, 
 use Rattle.study_index.proofs.NumbersReadOff.{IsLeastNumber-unique, IsOfMen-decoded}
 use Rattle.study_index.proofs.WithBit.{HasParts-from}
 
--- twice the numbers of a pawn against a pawn
+-- a class with a pawn on each side has twice as many cells as numbers
 live_cells : (c : Class) → lists_of c ≡ of (Pawn ∷ []) (Pawn ∷ []) → cells_of c ≡ 33554432
 live_cells c e = ap cells_for e
   where
@@ -75,7 +75,7 @@ below c n q d =
     by_live true e is l small = subst (λ m. n < m) (sym (live_cells c (live_class c q d.valid of_class e))) (let h : n < 33554432 = omega arith in h)
     by_live false e is l small = doubled (has_both_pawns (lists_of c)) n (numbers_of c) (subst (λ m. m < numbers_of c) (sym is) small)
 
--- what is read off a number
+-- the data read off a number
 pub record IsRead (c : Class) (n : ℕ) (q : Position) : Type 0 where
   pub valid : IsValid q
   pub of_class : IsOf c q
@@ -112,7 +112,7 @@ entry c n q d =
     unchanged : (l : Lists) → is_exchanged l ≡ false → l ≡ ordered l
     unchanged l e = rw e refl
 
--- the lists of a class are equal where those of its positions are
+-- the lists of a class are equal if those of its positions are
 equal_lists : (c : Class) (p : Position) → IsOf c p → (lists p.men).white ≡ (lists p.men).black → (lists_of c).white ≡ (lists_of c).black
 equal_lists c p o e = subst (λ (l : Lists). l.white ≡ l.black) (sym o) (by_test (is_exchanged (lists p.men)))
   where
@@ -120,7 +120,7 @@ equal_lists c p o e = subst (λ (l : Lists). l.white ≡ l.black) (sym o) (by_te
     by_test true = sym e
     by_test false = e
 
--- where colours are swapped to reach the class, its lists differ
+-- if the colours are swapped for the class, its lists differ
 keeps_swapped : (p : Position) → (lists p.men).white ≡ (lists p.men).black → is_swapped p.men ≡ false
 keeps_swapped p e = by_lists (lists p.men) e
   where
@@ -237,13 +237,13 @@ same_game p q h =
 HasParts-number : (p : Position) (n : ℕ) (v : IsValid p) (i : IsIndex p n) → without_bit n ≡ i.number
 HasParts-number p n v i = IsLeastNumber-unique p (without_bit n) i.number (HasParts-from p n v i).least i.least
 
--- the passed square of a position that is its own bare form is the one that the bit tells
+-- the passed square of a position that is its own bare form is the one that the bit encodes
 told_passed : (q : Position) (xs : List Man) (b : Bool) → IsValid q → bare q ≡ q → IsFilling false q.men xs
     → has_legal_en_passant q ≡ b → q.passed ≡ passed_behind b q.to_move xs
 told_passed q xs true v own f e = live_behind q xs v f.each_once e
 told_passed q xs false v own f e = not_live_passed q own e
 
--- where the lists of the class are equal, so are those of its positions
+-- if the lists of the class are equal, so are those of its positions
 equal_back : (c : Class) (p : Position) → IsOf c p → (lists_of c).white ≡ (lists_of c).black → (lists p.men).white ≡ (lists p.men).black
 equal_back c p o e = by_test (is_exchanged (lists p.men)) (subst (λ (l : Lists). l.white ≡ l.black) o e)
   where
@@ -311,7 +311,7 @@ numbered_bare c p b n v w plain own o i =
     unchanged : (l : Lists) → is_exchanged l ≡ false → ordered l ≡ l
     unchanged l e = rw e refl
 
--- each position has a number that reads as a position that is alike
+-- each position has a number that is read as a position that is alike
 pub numbered : (c : Class) (p : Position) (n : ℕ) → IsValid p → IsOf c p → IsIndex p n → (q : Position) × IsDecoded c n q × AreAlikeIn c q p
 numbered c p n v o i =
     numbered_bare c p (bare p) n v (AgreesWithBare-from_valid p v).valid refl (bare_twice p) (o ∙ ap (λ xs. ordered (lists xs)) (sym (bare_men p)))

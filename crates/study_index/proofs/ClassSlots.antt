@@ -64,7 +64,7 @@ below n m l = grind (arith, nat_tests)
 same_test : (a b m n : ℕ) → (a < m → b < n) → (b < n → a < m) → nat_lt a m ≡ nat_lt b n
 same_test a b m n to from = bool_same (nat_lt a m) (nat_lt b n) (λ e. below b n (to (ltb-true a m e))) (λ e. below a m (from (ltb-true b n e)))
 
--- the numbers of a class are those of a side to move
+-- a number of a class encodes a side to move
 pub is_cell-below : (c : Class) (n : ℕ) → is_cell (slots_of c) n ≡ nat_lt n (numbers_of c)
 is_cell-below KK n = same_test (n / 64 / 10) n 2 1280 (λ l. omega arith) (λ l. omega arith)
 is_cell-below KQK n = same_test (n / 64 / 64 / 10) n 2 81920 (λ l. omega arith) (λ l. omega arith)
@@ -180,7 +180,7 @@ few_cells KNKN n l = omega arith
 few_cells KNKP n l = omega arith
 few_cells KPKP n l = omega arith
 
--- the kinds of a side's slots but the king's, in list order
+-- the kinds of a side's slots without the king's, in list order
 abbrev pub kinds_in : Side → List Slot → List Kind
 kinds_in side [] = []
 kinds_in side (s ∷ ss) = cond (same_side s.side side && not (same_kind s.kind King)) (put_kind s.kind (kinds_in side ss)) (kinds_in side ss)

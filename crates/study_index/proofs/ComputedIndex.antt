@@ -1,4 +1,4 @@
--- What is computed is the index, and the position of a number.
+-- The computed index is the index, and the computed position is that of the number.
 use Rattle.std.proofs.Common.{◌≡◌, ℕ, ◌+◌, ◌<◌, ◌/◌, ◌==◌, nat_lt, ◌%◌, Bool, true, false, cond, ◌&&◌, List}
 use Rattle.std.proofs.Common.{[], ◌∷◌, Option, Some, None, unwrap_or, refl, sym, ◌∙◌, ap, subst, arith}
 use Rattle.std.specs.List.{All}
@@ -87,7 +87,7 @@ on_board pawns [] n a = absurd a
 on_board pawns (k ∷ []) n a = absurd a
 on_board pawns (k ∷ b ∷ x ∷ y ∷ z ∷ fs) n a = absurd a
 
--- men in order that have no fault are a position
+-- men in order without a fault are a valid position
 valid_told : (c : Class) (n : ℕ) → first_fault (position_told c n).men (position_told c n).to_move (position_told c n).passed ≡ None
     → IsValid (position_told c n)
 valid_told c n e =
@@ -101,7 +101,7 @@ valid_told c n e =
       faultless = e;
     }
 
--- what is decoded is what is told
+-- the decoded position is the encoded one
 one_told : (c : Class) (n : ℕ) (q : Position) → IsDecoded c n q → position_told c n ≡ q
 one_told c n q d =
     let men = told_men (slots_of c) (without_bit n) in

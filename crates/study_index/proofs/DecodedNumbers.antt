@@ -1,4 +1,4 @@
--- The least number of men who are read off is the index of their position.
+-- The least number of the men that are read off is the index of their position.
 use Rattle.std.proofs.Common.{◌≡◌, ℕ, Bool, true, false, Option, Some, refl, sym, ◌∙◌, ap, subst}
 use Rattle.std.specs.List.Sorted.{IsPermutation}
 use Rattle.std.proofs.lemmas.Bool.{false≢true}
@@ -52,7 +52,7 @@ IsTold c n p =
 abbrev pub IsLeastTold : Class → ℕ → Type 0
 IsLeastTold c n = HasLeast (slots_have_pawn (slots_of c)) (told_side (slots_of c) (without_bit n)) (without_bit n) (told_men (slots_of c) (without_bit n))
 
--- men whose least number it is are decoded, where the bit tells whether a capture in passing is legal
+-- men whose least number it is are decoded, if the bit agrees with whether a capture in passing is legal
 pub read_decoded : (c : Class) (n : ℕ) (p : Position) → is_cell (slots_of c) (without_bit n) ≡ true → IsTold c n p
     → IsLeastTold c n → n ≡ with_bit (has_legal_en_passant p) (without_bit n) → IsDecoded c n p
 read_decoded c n p cell l h e =
@@ -65,7 +65,7 @@ told_of c n q d =
     let o = IsOfMen-decoded (slots_of c) n q (AreSlots-class c) d in
     record { valid = d.valid; same_men = o.same; same_side = o.move; same_passed = o.passed }
 
--- where the number is not the least nothing is decoded
+-- if the number is not the least, nothing is decoded
 pub not_least : (c : Class) (n : ℕ) → (IsLeastTold c n → ⊥) → (q : Position) → IsDecoded c n q → ⊥
 not_least c n h q d =
     let r = placed_least c (without_bit n) _ q (told_of c n q d) in
@@ -74,7 +74,7 @@ not_least c n h q d =
     (subst (λ k. HasLeast (slots_have_pawn (slots_of c)) (told_side (slots_of c) (without_bit n)) k
     (told_men (slots_of c) (without_bit n))) (IsLeastNumber-unique q r.0 (without_bit n) r.2 i.least) r.1)
 
--- where the bit is set and no capture in passing is legal nothing is decoded
+-- if the bit is set and no capture in passing is legal, nothing is decoded
 pub not_passing : (c : Class) (n : ℕ) (p : Position) → IsTold c n p → has_bit n ≡ true → has_legal_en_passant p ≡ false → (q : Position) → IsDecoded c n q → ⊥
 not_passing c n p l bit dead q d =
     let k = told_of c n q d in

@@ -1,4 +1,4 @@
--- Ways to the number after a man has moved.
+-- How to compute the number after a man has moved.
 use Rattle.std.proofs.Common.{◌≡◌, ℕ, subst}
 use Rattle.study_material.specs.declared.class.Class.{Class}
 use Rattle.study_index.specs.declared.way.Terms.{Terms}

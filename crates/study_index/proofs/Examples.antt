@@ -12,7 +12,7 @@ use Rattle.study_index.specs.Decoded.{slot_for, slots_of, listed_square, told_me
 abbrev man : Side → Kind → ℕ → Man
 man s k a = record { side = s; kind = k; at = a }
 
--- c3 is the eighth listed square, e1 is none
+-- c3 is the eighth listed square, e1 is not listed
 triangle : place false 18 ≡ Some 7
 unfolding place
 triangle = refl
@@ -51,7 +51,7 @@ four_men = refl
 a_pawn_of_four : cells_of KRKP ≡ 16777216
 a_pawn_of_four = refl
 
--- what 20,543 tells of a king and a rook against a king
+-- the men that 20,543 encodes for king and rook against king
 told : told_men (slots_of KRK) 20543 ≡ man White King 10 ∷ man Black King 0 ∷ man White Rook 63 ∷ []
 unfolding listed_square
 told = refl

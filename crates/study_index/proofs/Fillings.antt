@@ -1,4 +1,4 @@
--- The men of a position fill the slots in one way, or in two where the last two are alike.
+-- The men of a position fill the slots in one way, or in two if the last two are alike.
 use Rattle.std.proofs.Common.{◌≡◌, ℕ, ◌+◌, ◌≤◌, ◌<◌, ◌==◌, ◌⊎◌, zero, suc, zero-add, Bool, true, false, cond}
 use Rattle.std.proofs.Common.{◌&&◌, eqb, List, [], ◌∷◌, length, refl, ap, sym, ◌∙◌, subst, arith, inl, inr}
 use Rattle.std.specs.List.{Contains, count_by}
@@ -74,7 +74,7 @@ AreApart-ascending (x ∷ xs) h s =
     ]
     in omega (arith, c, go (eqb x.at s) refl)
 
--- how many men of a slot
+-- the number of men of a slot
 abbrev pub in_slot : Bool → ℕ → List Man → ℕ
 in_slot c k xs = count_by (λ m. man_slot_number c m == k) xs
 
@@ -99,7 +99,7 @@ module _ (c : Bool) where
       let r = go (eqb (man_slot_number c x) k) refl d in
       (r.0, none_more k xs h.1 r.1)
 
-  -- the first man, where just one is of the first slot
+  -- the first man, if just one man is of the first slot
   pub first_is : (k : ℕ) (x : Man) (xs : List Man) → IsInSlots c (x ∷ xs) → NoneBefore c k (x ∷ xs)
       → in_slot c k (x ∷ xs) ≡ 1 → (man_slot_number c x ≡ k) × NoneBefore c (k + 1) xs
   first_is k x xs h n e =
@@ -140,7 +140,7 @@ IsSame-tail x xs ys h = record {
   len = (let l = h.len in omega arith);
 }
 
--- both begin with the one man of the first slot
+-- both begin with the only man of the first slot
 pub same_first : (c : Bool) (k : ℕ) (x y : Man) (xs ys : List Man) → man_slot_number c x ≡ k
     → man_slot_number c y ≡ k → NoneBefore c (k + 1) ys → IsSame (x ∷ xs) (y ∷ ys) → x ≡ y
 same_first c k x y xs ys e d n h =

@@ -39,7 +39,7 @@ weight_small Bishop = omega arith
 weight_small Knight = omega arith
 weight_small Pawn = omega arith
 
--- what the men weigh together
+-- the total weight of the men
 abbrev IsWeighed : ℕ → ℕ → ℕ → ℕ → Type 0
 IsWeighed balance white len black = balance + white ≡ 10 * len + black
 

@@ -1,4 +1,4 @@
--- A position and its image have one index.
+-- A position and its image have the same index.
 use Rattle.study_board.specs.Men.{is_pawn}
 use Rattle.std.proofs.Common.{◌≡◌, ℕ, Bool, true, false, cond, Some, refl, sym, ◌∙◌, ap, subst}
 use Rattle.study_board.specs.declared.symmetry.Symmetry.{Symmetry}
@@ -13,7 +13,7 @@ use Rattle.study_material.proofs.ClassOfImage.{turned_lists, lists-image, swappe
 use Rattle.study_values.specs.Filling.{IsFilling}
 use Rattle.study_values.specs.Number.{has_pawn, number, IsNumber, IsLeastNumber}
 
--- where the two lists are equal the colours are kept
+-- if the two lists are equal the colours are kept
 abbrev pub Keeps : Symmetry → Position → Type 0
 Keeps u p = (lists p.men).white ≡ (lists p.men).black → u.colours ≡ false
 
@@ -25,7 +25,7 @@ differ_twice false b = refl
 pub has_pawn-image : (u : Symmetry) (p : Position) → IsValid p → admits p u ≡ true → has_pawn (image u p).men ≡ has_pawn p.men
 has_pawn-image u p v a = any_turned u is_pawn is_pawn (λ m _. refl) p.men (seats u p v a)
 
--- a number of the image is one of the position
+-- a number of the image is a number of the position
 IsNumber-image : (u : Symmetry) (p : Position) (n : ℕ) → IsValid p → admits p u ≡ true → Keeps u p → IsNumber (image u p) n → IsNumber p n
 IsNumber-image u p n v au k h =
     let t = h.by in
@@ -58,7 +58,7 @@ IsLeastNumber-image u p n v au k h =
       least = λ m l. h.least m (IsNumber-image u p m v au k l);
     }
 
--- the passed square is not looked at
+-- the passed square is ignored
 IsNumber-passed : (p q : Position) (n : ℕ) → p.men ≡ q.men → p.to_move ≡ q.to_move → IsNumber p n → IsNumber q n
 IsNumber-passed p q n e f h =
     let t = h.by in

@@ -83,7 +83,7 @@ king_first pawns [] n a s h = absurd s
 king_first pawns (k ∷ []) n a s h = absurd s
 king_first pawns (k ∷ b ∷ x ∷ y ∷ z ∷ fs) n a s h = absurd s
 
--- the number of the men turned, with the king on a, as it is computed
+-- the number of the men turned, with the king on a, is computed in this way
 abbrev pub number_so : Bool → List Slot → ℕ → ℕ → Option ℕ
 number_so pawns slots n a = number_at pawns (other_side (told_side slots n)) (turned_square (king_symmetry pawns a)) (squares (moved_to 0 a (told_men slots n)))
 

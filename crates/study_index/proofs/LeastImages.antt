@@ -31,7 +31,7 @@ straight_is : (x : ℕ) → turned_square straight x ≡ x
 unfolding turned_square
 straight_is x = omega arith
 
--- ---- what a listed square is
+-- ---- properties of a listed square
 
 abbrev small_tests : ℕ → Bool
 small_tests x = not (nat_lt 3 (file_of x)) && not (nat_lt 3 (rank_of x))
@@ -177,7 +177,7 @@ across_is : (x : ℕ) → turned_square diagonal x ≡ 8 * (x % 8) + x / 8
 unfolding turned_square
 across_is x = refl
 
--- what a number with these squares is, the place of the king being one of the diagonal's or none
+-- a number with these squares, by whether the king's place is on the diagonal
 by_diagonal : (t : Bool) (f : ℕ → ℕ) (q m : ℕ) → f q ≡ m → option_map f (cond t (Some q) None) ≡ cond t (Some m) None
 by_diagonal true f q m e = ap (λ x. Some x) e
 by_diagonal false f q m e = refl
@@ -316,7 +316,7 @@ least_squares pawns [] n a c = absurd a
 least_squares pawns (k ∷ []) n a c = absurd a
 least_squares pawns (k ∷ b ∷ x ∷ y ∷ z ∷ fs) n a c = absurd a
 
--- the least number of the men that a number of the class's tells
+-- the least number of the men that a number of the class encodes
 pub least_told : (pawns : Bool) (slots : List Slot) (n : ℕ) → AreSlots slots → nat_lt (head slots n / listed_count pawns) 2 ≡ true
     → least_of pawns (side_numbered (head slots n / listed_count pawns)) false (men_of pawns slots n)
     ≡ Some (least_image pawns (are_like_slots slots) slots n)

@@ -1,4 +1,4 @@
--- The number that is computed is the least of the position's numbers.
+-- The computed number is the least of the position's numbers.
 use Rattle.std.proofs.Common.{◌≡◌, ℕ, ◌+◌, ◌*◌, ◌<◌, ◌≤◌, ◌⊎◌, Bool, true, false, cond, not, ◌&&◌, ◌||◌, nat_lt}
 use Rattle.std.proofs.Common.{List, [], ◌∷◌, map, Option, Some, None, refl, sym, ◌∙◌, subst, arith, inl, inr}
 use Rattle.std.specs.Option.{is_some, option_map}
@@ -31,7 +31,7 @@ pub record IsNumberOf (colours : Bool) (p : Position) (n : ℕ) : Type 0 where
   pub coloured_so : symmetry.colours ≡ colours
   pub by : IsNumberBy (has_pawn p.men) (turned_side colours p.to_move) symmetry p.men n
 
--- the least of some numbers, or none where there is none
+-- the least of some numbers, `None` if there is none
 abbrev pub IsLeast : (ℕ → Type 0) → Option ℕ → Type 0
 IsLeast S None = (m : ℕ) → S m → ⊥
 IsLeast S (Some n) = S n × ((m : ℕ) → S m → n ≤ m)
@@ -60,7 +60,7 @@ IsLeast-both S T (Some x) (Some y) h k =
     ]
     in go (nat_lt y x) refl
 
--- of like men the one on the lower square comes first in the lesser number
+-- of two like men the one on the lower square comes first in the lesser number
 least-falls : (pawns : Bool) (side : Side) (t : Symmetry) (xs : List Man) → are_like t.colours xs ≡ true
     → least (turned_number pawns side t xs) (turned_number pawns side t (last_two_exchanged xs))
     ≡ cond (descends t xs) (turned_number pawns side t (last_two_exchanged xs)) (turned_number pawns side t xs)
@@ -146,7 +146,7 @@ module _ (pawns : Bool) (side : Side) (t : Symmetry) (men xs : List Man) (m : Is
       ]
       in go (are_like t.colours xs) refl
 
--- a filling and any other begin with one man
+-- a filling and any other begin with the same man
 same_king : (c : Bool) (men : List Man) (k : Man) (rest ys : List Man) → IsMaterial c men
     → IsFilling c men (k ∷ rest) → IsFilling c men ys → (rest' : List Man) × (ys ≡ k ∷ rest')
 same_king c men k rest ys m f g = elim (fillings_of c men (k ∷ rest) ys m f g)
@@ -159,7 +159,7 @@ same_king c men k rest ys m f g = elim (fillings_of c men (k ∷ rest) ys m f g)
     head_exchanged c k (a ∷ b ∷ d ∷ []) e = (_, refl)
     head_exchanged c k (a ∷ b ∷ d ∷ g ∷ rest) e = (_, refl)
 
--- a number needs a listed square
+-- a number requires a listed square
 number-listed : (pawns : Bool) (side : Side) (t : Symmetry) (k : Man) (rest : List Man) (n : ℕ)
     → turned_number pawns side t (k ∷ rest) ≡ Some n → (q : ℕ) × (place pawns (turned_square t k.at) ≡ Some q)
 unfolding turned_number number

@@ -35,7 +35,7 @@ lists-filled c men xs p e =
         → of ws bs ≡ of (kinds_in White (slots_of c)) (kinds_in Black (slots_of c))
     both ws bs e f = rw (e, f) refl
 
--- what fills the first two slots
+-- the man that fills the first two slots
 first_slot : (s : Side) (k : Kind) → slot_number s k ≡ 0 → slot_for s k ≡ slot_for White King
 first_slot White King e = refl
 first_slot Black King e = absurd (omega arith)

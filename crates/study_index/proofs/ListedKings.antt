@@ -1,4 +1,4 @@
--- A white king on a listed square: the men stay where they are, so its place alone is new in the number.
+-- A white king on a listed square: the other men stay in place, so only its place changes the number.
 use Rattle.std.proofs.Common.{◌≡◌, ℕ, ◌+◌, ◌*◌, ◌/◌, ◌%◌, ◌<◌, Bool, true, false, not, ◌&&◌, ◌||◌, List, [], ◌∷◌, Option, Some, None, refl, sym, ap, arith}
 use Rattle.std.specs.Prelude.{is_some}
 use Rattle.std.specs.Option.{option_map}
@@ -33,7 +33,7 @@ straight_stays t c e x =
     let q = and_parts (not t.ranks) (not t.diagonal) p.1 in
     rw (c, negated t.files p.0, negated t.ranks q.0, negated t.diagonal q.1) (omega arith)
 
--- where the king's square is listed no square is turned
+-- if the king's square is listed no square is turned
 pub listed_stays : (pawns : Bool) (a q : ℕ) → a < 64 → Some q ≡ place pawns a → (x : ℕ) → turned_square (king_symmetry pawns a) x ≡ x
 unfolding king_symmetry
 listed_stays pawns a q on e =

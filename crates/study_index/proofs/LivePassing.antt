@@ -1,4 +1,4 @@
--- Positions in which a capture in passing is legal: their class, and the square that is passed.
+-- Positions in which a capture in passing is legal: their class, and the passed square.
 use Rattle.std.proofs.Common.{◌≡◌, ℕ, ◌+◌, ◌-◌, ◌≤◌, ◌==◌, suc, Bool, true, false, cond, not, ◌&&◌, inl, inr}
 use Rattle.std.proofs.Common.{List, [], ◌∷◌, Option, Some, None, refl, sym, ◌∙◌, ap, subst, arith, find}
 use Rattle.std.proofs.lemmas.Bool.{false≢true, and_parts, and_from, eqb-true}
@@ -49,7 +49,7 @@ many-has_man men side k x e =
     let r = some_among (λ m. is_man side k m && (m.at == x)) men e in
     many-among side k men r.0 r.1 (and_parts (is_man side k r.0) (r.0.at == x) r.2).0
 
--- the pawn that has just jumped
+-- the pawn that has just made a double step
 jumped_pawn : (men : List Man) (side : Side) (x : ℕ) → could_be_passed men side x ≡ true → 1 ≤ many (other_side side) Pawn men
 unfolding could_be_passed
 jumped_pawn men White x e =
@@ -83,7 +83,7 @@ both_pawns : (men : List Man) (side : Side) → 1 ≤ many side Pawn men → 1 �
 both_pawns men White a b = (a, b)
 both_pawns men Black a b = (b, a)
 
--- where a capture in passing is legal each side has a pawn, and that is all
+-- if a capture in passing is legal each side has a pawn, and no other man beside its king
 pub live_pawns : (p : Position) → IsValid p → has_legal_en_passant p ≡ true
     → (x : ℕ) × (p.passed ≡ Some x) × (could_be_passed p.men p.to_move x ≡ true) × (1 ≤ many White Pawn p.men) × (1 ≤ many Black Pawn p.men)
 live_pawns p v taken = by_passed p.passed refl taken
@@ -100,13 +100,13 @@ live_pawns p v taken = by_passed p.passed refl taken
     by_passed (Some x) e t =
         at_square x e (subst (λ q. passed_possible p.men p.to_move q ≡ true) e (IsFaultless-from_first p.men p.to_move p.passed v.faultless).possible) t
 
--- the class is that of a pawn against a pawn
+-- the class is pawn against pawn
 pub live_class : (c : Class) (p : Position) → IsValid p → IsOf c p → has_legal_en_passant p ≡ true → lists_of c ≡ of (Pawn ∷ []) (Pawn ∷ [])
 live_class c p v o taken =
     let r = live_pawns p v taken in
     o ∙ ap (λ l. ordered l) (two_pawns p.men (few_others p v) (r.3) (r.4))
 
--- the first pawn of a side is its one pawn
+-- the first pawn of a side is its only pawn
 behind-one : (side : Side) (xs : List Man) (m : Man) → IsAmong m xs → is_man side Pawn m ≡ true
     → many side Pawn xs ≤ 1 → square_behind_pawn side xs ≡ Some (square_behind side m.at)
 behind-one side [] m i e few = absurd i
@@ -124,7 +124,7 @@ behind-one side (x ∷ xs) m (inr i) e few = further (is_man side Pawn x) few (�
     further true l rest = absurd (let n = many-among side Pawn xs m i e in omega arith)
     further false l rest = rest l
 
--- a live passed square is the one behind the pawn of the side that is not to move
+-- a live passed square is the one behind the pawn of the side not to move
 pub live_behind : (p : Position) (xs : List Man) → IsValid p → IsPermutation p.men xs → has_legal_en_passant p ≡ true → p.passed ≡ square_behind_pawn (other_side p.to_move) xs
 unfolding has_man could_be_passed
 live_behind p xs v same taken =
@@ -162,7 +162,7 @@ live_behind p xs v same taken =
         let back : x ≡ x + 8 - 8 = omega arith in
         ap (λ z. Some z) back ∙ sym (among White (x + 8) parts.1 white)
 
--- whether a position is live is told by its bare form
+-- whether a position is live depends only on its bare form
 live-bare : (p : Position) → has_legal_en_passant p ≡ is_some (bare p).passed
 live-bare p = by_live (has_legal_en_passant p) refl
   where
@@ -174,7 +174,7 @@ live-bare p = by_live (has_legal_en_passant p) refl
     by_live true e = sym (some_passed p.passed e)
     by_live false e = refl
 
--- what has an image as its bare form is live where it is
+-- a position that has an image as its bare form is live exactly if the image is
 pub live_along : (s : Symmetry) (p q : Position) → bare q ≡ image s (bare p) → has_legal_en_passant q ≡ has_legal_en_passant p
 live_along s p q e = live-bare q ∙ ap (λ (r : Position). is_some r.passed) e ∙ turned s (bare p).passed ∙ sym (live-bare p)
   where
@@ -182,7 +182,7 @@ live_along s p q e = live-bare q ∙ ap (λ (r : Position). is_some r.passed) e 
     turned s None = refl
     turned s (Some x) = refl
 
--- the bare form is its own
+-- the bare form is its own bare form
 pub bare_twice : (p : Position) → bare (bare p) ≡ bare p
 bare_twice p = by_live (has_legal_en_passant p) refl
   where

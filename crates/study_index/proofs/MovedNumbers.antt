@@ -1,4 +1,4 @@
--- The number of the men that another number tells, of whom one has moved.
+-- The number of the men that another number encodes, one of which has moved.
 use Rattle.std.specs.List.Sorted.{IsPermutation}
 use Rattle.study_board.specs.Position.{IsValid}
 use Rattle.study_moves.specs.EnPassant.{has_legal_en_passant}
@@ -71,7 +71,7 @@ least_number_is c p men side r valid same filled in_slots to_move e =
         → least_of g z false men ≡ least_of h (turned_side w y) w men
     as_is w h g y z men e f k = rw (e, f, k) refl
 
--- and its index, where no capture in passing is legal
+-- and its index, if no capture in passing is legal
 pub least_index : (c : Class) (p : Position) (men : List Man) (side : Side) (r : Option ℕ) → IsValid p → IsPermutation p.men men
     → map slot_filled men ≡ slots_of c → IsInSlots false men → p.to_move ≡ side → has_legal_en_passant p ≡ false
     → r ≡ least_of (slots_have_pawn (slots_of c)) side false men → r ≡ Some (index_of p)

@@ -1,4 +1,4 @@
--- What is read off a number.
+-- The position read off a number.
 use Rattle.std.proofs.Common.{◌≡◌, ℕ, ◌+◌, ◌*◌, ◌/◌, ◌%◌, ◌<◌, ◌==◌, Bool, true, false, cond, ◌&&◌, nat_lt, eqb}
 use Rattle.std.proofs.Common.{List, [], ◌∷◌, map, Option, Some, None, refl, sym, ◌∙◌, subst, ap, arith}
 use Rattle.std.specs.List.{All, list_any}
@@ -85,7 +85,7 @@ head_parts true Black q h l e = (omega arith, (let z : h / 32 ≡ 1 = omega arit
 head_parts false White q h l e = (omega arith, (let z : h / 10 ≡ 0 = omega arith in rw z refl), (let z : h / 10 ≡ 0 = omega arith in rw z refl))
 head_parts false Black q h l e = (omega arith, (let z : h / 10 ≡ 1 = omega arith in rw z refl), (let z : h / 10 ≡ 1 = omega arith in rw z refl))
 
--- what is read off the number of men
+-- the data read off the number of men
 pub record IsRead (pawns : Bool) (side : Side) (fs : List Man) (n : ℕ) : Type 0 where
   pub men : fs ≡ men_of pawns (map slot_filled fs) n
   pub side_is : side ≡ side_numbered (head (map slot_filled fs) n / listed_count pawns)
@@ -245,14 +245,14 @@ IsOfMen-decoded slots n q a d =
       cell = subst (λ s. nat_lt (head s b / listed_count (slots_have_pawn slots)) 2 ≡ true) d.read_off.slots_are r.cell;
     }
 
--- at a number that is no cell nothing is decoded
+-- a number that is not a cell is not decoded
 pub no_cell : (slots : List Slot) (n : ℕ) → AreSlots slots → is_cell slots (without_bit n) ≡ false → (q : Position) → IsDecodedAt slots n q → ⊥
 no_cell slots n a e q d = false≢true (sym e ∙ (IsOfMen-decoded slots n q a d).cell)
 
 some_fault : (o : Option PositionFault) (f : PositionFault) → o ≡ None → o ≡ Some f → ⊥
 some_fault o f e d = (let no : None ≡ Some f = sym e ∙ d in cc)
 
--- the men and the passed square that a number encodes, and the same of a decoded position, have one fault
+-- the men and the passed square that a number encodes have the same fault as those of a decoded position
 pub told_fault : (slots : List Slot) (n : ℕ) (q : Position) → IsOfMen slots n q
     → first_fault (told_men slots (without_bit n)) (told_side slots (without_bit n))
     (passed_behind (has_bit n) (told_side slots (without_bit n)) (told_men slots (without_bit n)))
@@ -263,14 +263,14 @@ told_fault slots n q o =
     ∙ ap (λ s. first_fault q.men s (passed_behind (has_bit n) (told_side slots (without_bit n)) (told_men slots (without_bit n)))) (sym o.move)
     ∙ ap (λ r. first_fault q.men q.to_move r) (sym o.passed)
 
--- where the men are faulty nothing is decoded
+-- if the men are faulty nothing is decoded
 pub no_position : (slots : List Slot) (n : ℕ) → AreSlots slots
     → IsFaulty (told_men slots (without_bit n)) (told_side slots (without_bit n))
     (passed_behind (has_bit n) (told_side slots (without_bit n)) (told_men slots (without_bit n)))
     → (q : Position) → IsDecodedAt slots n q → ⊥
 no_position slots n a f q d = some_fault _ f.fault d.valid.faultless (sym (told_fault slots n q (IsOfMen-decoded slots n q a d)) ∙ f.is)
 
--- valid positions with the same men, the same side to move and the same passed square are one
+-- valid positions with the same men, the same side to move and the same passed square are equal
 pub same_position : (p q : Position) → IsValid p → IsValid q → IsPermutation p.men q.men → p.to_move ≡ q.to_move → p.passed ≡ q.passed → p ≡ q
 same_position p q v w same move passed = one p.men q.men p.to_move q.to_move p.passed q.passed (ascending_same p.men q.men same v.ordered w.ordered) move passed
   where
@@ -279,7 +279,7 @@ same_position p q v w same move passed = one p.men q.men p.to_move q.to_move p.p
         let q : Position = record { men = ys; to_move = t; passed = b } in p ≡ q)
     one xs ys s t a b e f g = rw (e, f, g) refl
 
--- where it has this index it is decoded
+-- if it has this index it is decoded
 pub decoded : (slots : List Slot) (n : ℕ) (p : Position) → AreSlots slots → is_cell slots (without_bit n) ≡ true
     → IsPlaced (told_men slots (without_bit n)) (told_side slots (without_bit n))
     (passed_behind (has_bit n) (told_side slots (without_bit n)) (told_men slots (without_bit n))) p → IsIndex p n

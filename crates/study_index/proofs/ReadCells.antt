@@ -1,4 +1,4 @@
--- What is read off a cell of a class, with the bit and without.
+-- The position read off a cell of a class, with the bit and without.
 use Rattle.std.proofs.Common.{◌≡◌, ℕ, ◌+◌, ◌-◌, ◌<◌, ◌≤◌, ◌⊎◌, inl, inr, Bool, true, false, ◌&&◌, ◌==◌, nat_lt}
 use Rattle.std.proofs.Common.{List, Option, Some, None, IfSome, IfNone, refl, sym, ◌∙◌, ap, subst, arith}
 use Rattle.std.proofs.lemmas.Bool.{false≢true, and_parts, eqb-true}
@@ -42,7 +42,7 @@ passing : (c : Class) (n : ℕ) → n < cells_of c → 16777216 ≤ n → (n - 1
 passing c n l m =
     (let f = few_cells c n l in omega (arith, f), (let h : has_bit n ≡ true = grind (arith, nat_tests) in sym h))
 
--- what is read off the parts of a number
+-- the position read off the parts of a number
 with_parts : (c : Class) (n m : ℕ) (b : Bool) (s : List Slot) (q : Position) → s ≡ slots_of c → m ≡ without_bit n
     → b ≡ has_bit n → Read s m b q → IsTold c n q × IsLeastTold c n
 with_parts c n m b s q e f g h = subst (λ d. Read (slots_of c) (without_bit n) d q) g (subst (λ k. Read (slots_of c) k b q) f (subst (λ t. Read t m b q) e h))

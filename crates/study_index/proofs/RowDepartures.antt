@@ -1,4 +1,4 @@
--- The numbers of a row after one of its men, not the last, has moved: each grows by what the first does.
+-- The numbers of a row after one of its men, not the last, has moved: each changes by as much as the first.
 use Rattle.std.proofs.Common.{◌≡◌, ℕ, zero, suc, ◌+◌, ◌-◌, ◌*◌, ◌/◌, ◌%◌, ◌^◌, ◌<◌, ◌≤◌, Bool, true, false, cond, not, ◌&&◌, ◌||◌, nat_lt}
 use Rattle.std.proofs.Common.{List, [], ◌∷◌, length, slice_index_or, refl, sym, ◌∙◌, subst, ap, arith}
 use Rattle.std.proofs.lemmas.Bool.{lt-ltb, le-ltb}
@@ -26,7 +26,7 @@ use Rattle.study_index.proofs.KingNumbers.{king_index}
 use Rattle.study_index.proofs.ListedKings.{listed_number}
 use Rattle.study_index.proofs.SteppedNumbers.{added_sum, added_image, told_within, image_kept}
 
--- ---- what the numbers of a row tell alike
+-- ---- the common part of the numbers of a row
 
 pub bit_in_row : (r y : ℕ) → y < 64 → without_bit (64 * r + y) ≡ 64 * (without_bit (64 * r) / 64) + y
 bit_in_row r y l = omega (arith, l)
@@ -75,7 +75,7 @@ joined t u s v w y a l e f d b =
     as_multiples : (p t v z : ℕ) → t ≡ 64 * p → 64 * v ≤ t → t + y - 64 * v + 64 * z ≡ 64 * ((t - 64 * v) / 64 + z) + y
     as_multiples p t v z q b = omega (arith, q, b)
 
--- the side to move counts a multiple of 64
+-- the weight of the side to move is a multiple of 64
 record IsTurnedInRow (k m y : ℕ) : Type 0 where
   pub grows : cond (nat_lt (64 * m + y) (64 * k)) (64 * m + y + 64 * k) (64 * m + y - 64 * k)
       ≡ cond (nat_lt (64 * m) (64 * k)) (64 * m + 64 * k) (64 * m - 64 * k) + y
@@ -139,7 +139,7 @@ sum_in_row pawns (k ∷ b ∷ x ∷ z ∷ w ∷ fs) m i y a s c one few l = absu
 
 -- ---- the last man
 
--- each number of a row tells its place there as the last man's square
+-- each number of a row encodes its place there as the last man's square
 last_in_row : (slots : List Slot) (m y : ℕ) (d : Man) → AreSlots slots → y < 64
     → (slice_index_or (told_men slots (64 * m + y)) (length slots - 1) d).at ≡ y
 last_in_row (k ∷ b ∷ []) m y d s l = omega (arith, l)
@@ -198,7 +198,7 @@ head_put [] h n s = absurd s
 head_put (k ∷ []) h n s = absurd s
 head_put (k ∷ b ∷ x ∷ w ∷ v ∷ fs) h n s = absurd s
 
--- with the king off the diagonal, or with pawns, no other image counts less
+-- with the king off the diagonal, or with pawns, no other image has a lesser number
 king_kept : (pawns like : Bool) (slots : List Slot) (side q n : ℕ) → AreSlots slots → like ≡ false → q < listed_count pawns
     → (pawns || not (is_on_diagonal q)) ≡ true
     → least_image pawns like slots (with_head slots (side * listed_count pawns + q) n) ≡ with_head slots (side * listed_count pawns + q) n
@@ -211,7 +211,7 @@ king_kept pawns true slots side q n s e l o = absurd cc
 
 -- ---- the rows of a class
 
--- a row is in the table or not as a whole
+-- a row is in the table as a whole or not at all
 pub row_below : (c : Class) (r y : ℕ) → 64 * r < cells_of c → y < 64 → 64 * r + y < cells_of c
 row_below KK r y l m = omega (arith, l, m)
 row_below KQK r y l m = omega (arith, l, m)
@@ -251,7 +251,7 @@ row_below KNKP r y l m = omega (arith, l, m)
 row_below KPKP r y l m = omega (arith, l, m)
 
 module _ (c : Class) (r : ℕ) where
-  -- the man of a slot before the last stands where he does by the first number of the row
+  -- the man of a slot before the last stands on the square on which the first number of the row puts it
   pub stands_in_row : (i x y : ℕ) → y < 64 → i + 1 < length (slots_of c)
       → ((d : Man) → (slice_index_or (told_men (slots_of c) (without_bit (64 * r))) i d).at ≡ x) → StandsOn c (64 * r + y) i x
   stands_in_row i x y l few h d =
@@ -304,7 +304,7 @@ module _ (c : Class) (r : ℕ) where
       as_terms : (u v w z : ℕ) → u ≡ w → v ≡ z → 64 * (u + a * v) + y ≡ 64 * (w + a * z) + y
       as_terms u v w z e f = rw (e, f) refl
 
-  -- where no number of the row is mirrored
+  -- if no number of the row is mirrored
   pub IsRowSum-terms : (i x : ℕ) (t : RowTerms) → 64 * r < cells_of c → 1 ≤ i → i + 1 < length (slots_of c)
       → keeps_image (slots_of c) (without_bit (64 * r)) ≡ true
       → ((d : Man) → (slice_index_or (told_men (slots_of c) (without_bit (64 * r))) i d).at ≡ x) → AreTermsOf i t → IsRowSum c r x t
@@ -315,7 +315,7 @@ module _ (c : Class) (r : ℕ) where
       (IsStepped-moved c n i x a p short (stands_in_row i x y l few stands) moved)
       ∙ sum_of_row i y a t below one few l is
 
-  -- and where some may be
+  -- and if some may be
   pub IsLeastOfRowSum-terms : (i x : ℕ) (t : RowTerms) → 64 * r < cells_of c → 1 ≤ i → i + 1 < length (slots_of c)
       → ((d : Man) → (slice_index_or (told_men (slots_of c) (without_bit (64 * r))) i d).at ≡ x) → AreTermsOf i t → IsLeastOfRowSum c r x t
   IsLeastOfRowSum-terms i x t below one few stands is a y p on l moved =

@@ -10,7 +10,7 @@ use Rattle.study_values.specs.Filling.{man_slot_number, NoneBefore, IsInSlots, I
 use Rattle.study_values.specs.Index.{put, sorted}
 use Rattle.study_index.proofs.Fillings.{NoneBefore-less}
 
--- how many men it is put after
+-- the number of men after which it is inserted
 abbrev pub before : Bool → Man → List Man → ℕ
 before c m xs = prefix_len (λ x. nat_le (man_slot_number c x) (man_slot_number c m)) xs
 
@@ -62,7 +62,7 @@ pub sorted-one : (c : Bool) (m : Man) → sorted c (m ∷ []) ≡ m ∷ []
 unfolding put
 sorted-one c m = refl
 
--- one man more is put among the others
+-- one more man is inserted among the others
 pub sorted-more : (c : Bool) (m : Man) (ms xs ys : List Man) → ys ≡ put c m xs → xs ≡ sorted c ms → ys ≡ sorted c (m ∷ ms)
 sorted-more c m ms xs ys e f = e ∙ ap (λ l. put c m l) f
 

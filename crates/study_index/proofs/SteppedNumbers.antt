@@ -1,4 +1,4 @@
--- The number of the men that another number tells, of whom one has moved: one square is replaced, and the least image taken.
+-- The number of the men that another number encodes, one of which has moved: one square is replaced, and the least image taken.
 use Rattle.std.proofs.Common.{◌≡◌, ℕ, ◌+◌, ◌-◌, ◌*◌, ◌/◌, ◌%◌, ◌<◌, ◌≤◌, ◌==◌, Bool, true, false, cond, not, ◌&&◌, ◌||◌, nat_lt, List, [], ◌∷◌, map, length}
 use Rattle.std.proofs.Common.{Some, refl, sym, ◌∙◌, subst, ap, arith, ◌⊎◌, inl, inr}
 use Rattle.std.specs.List.{All}
@@ -25,7 +25,7 @@ use Rattle.study_index.proofs.ClassSlots.{AreSlots-class, is_cell-below, number_
 use Rattle.study_index.proofs.LeastImages.{least_told}
 use Rattle.study_index.proofs.MovedNumbers.{least_index}
 
--- ---- the number of men of whom one has moved
+-- ---- the number of men, one of which has moved
 
 -- the side and the king's place, with the other side to move
 abbrev IsTurned : ℕ → ℕ → ℕ → Type 0
@@ -72,7 +72,7 @@ one_or i j l = by_test (nat_lt j i) refl
     by_test true t = inr (let g = ltb-true j i t in omega (arith, g))
     by_test false t = inl (let g : i ≤ j = grind (arith, nat_tests) in omega (arith, g, l))
 
--- what a square counts is part of the number with the other side to move
+-- the weight of a square is part of the number with the other side to move
 within_two : (places n x : ℕ) → IsTurned places (n / 64) x → square_told 2 1 n * square_weight 2 1 ≤ turned_by places 2 n
 within_two places n x h = let t = turned_two places n x h in omega (arith, t)
 
@@ -129,7 +129,7 @@ replaced_in_four : (places n x a : ℕ) → IsTurned places (n / 64 / 64 / 64) x
 unfolding stepped_by
 replaced_in_four places n x a h = let t = turned_four places n x h in (omega (arith, t), omega (arith, t), omega (arith, t))
 
--- the number of the men that a number encodes, of whom one has moved
+-- the number of the men that a number encodes, one of which has moved
 stepped_number : (pawns : Bool) (slots : List Slot) (n i a : ℕ) → AreSlots slots → nat_lt (head slots n / listed_count pawns) 2 ≡ true → 1 ≤ i → i < length slots
     → number pawns (other_side (side_numbered (head slots n / listed_count pawns))) (moved_to i a (men_of pawns slots n))
     ≡ Some (stepped_by (listed_count pawns) (length slots) n i a)
@@ -164,7 +164,7 @@ stepped_number pawns [] n i a s c l m = absurd s
 stepped_number pawns (k ∷ []) n i a s c l m = absurd s
 stepped_number pawns (k ∷ b ∷ x ∷ y ∷ z ∷ fs) n i a s c l m = absurd s
 
--- ---- what stays where one man moves
+-- ---- the men that stay when one man moves
 
 pub filled_moved : (i a : ℕ) (ms : List Man) → map slot_filled (moved_to i a ms) ≡ map slot_filled ms
 filled_moved i a [] = refl
@@ -198,7 +198,7 @@ IsInSlots-moved i a (m ∷ ms) h = by_test (i == 0) (NoneBefore-moved (man_slot_
 
 -- ---- the index
 
--- the least number of men in the order of their slots, of whom this is a number
+-- the least number of men in the order of their slots that have this number
 pub read_least : (c : Class) (men : List Man) (side : Side) (m : ℕ) → map slot_filled men ≡ slots_of c → All (λ x. x.at < 64) men
     → number (slots_have_pawn (slots_of c)) side men ≡ Some m
     → Some (least_image (slots_have_pawn (slots_of c)) (are_like_slots (slots_of c)) (slots_of c) m)
@@ -218,7 +218,7 @@ read_least c men side m filled on is =
     as_read : (w : Bool) (x y : Side) (xs ys : List Man) → x ≡ y → xs ≡ ys → least_of w x false xs ≡ least_of w y false ys
     as_read w x y xs ys e f = rw (e, f) refl
 
--- the index of what a number reads as, one man moved and the other side to move
+-- the index of the position of n, with one man moved and the other side to move
 pub stepped_index : (c : Class) (n i a : ℕ) (p : Position) → n < cells_of c → 1 ≤ i → i < length (slots_of c) → IsStepped c n i a p
     → index_of p ≡ least_image (slots_have_pawn (slots_of c)) (are_like_slots (slots_of c)) (slots_of c)
     (stepped_by (listed_count (slots_have_pawn (slots_of c))) (length (slots_of c)) (without_bit n) i a)
@@ -245,7 +245,7 @@ stepped_index c n i a p below one few t =
     the_same : (m n : ℕ) → Some m ≡ Some n → m ≡ n
     the_same m n e = cc
 
--- ---- where the number is the least of its images
+-- ---- if the number is the least of its images
 
 same_place : (h x : ℕ) → IsTurned 10 h x → x % 10 ≡ h % 10
 same_place h x (inl t) = let e = t.1 in omega (arith, e)
@@ -329,7 +329,7 @@ added_index c n i a p below one few on keeps t =
         image_kept false (are_like_slots (slots_of c)) (is_on_diagonal (head (slots_of c) (without_bit n) % 10)) (slots_of c) _ k
         (ap (λ (q : ℕ). is_on_diagonal q) (place_kept (slots_of c) (without_bit n) i a (AreSlots-class c) cell on one few))
 
--- what the square counted is taken away before what the other counts is added
+-- the weight of the old square is subtracted before that of the new one is added
 taken_first : (c : Class) (n i a : ℕ) → n < cells_of c → 1 ≤ i → i < length (slots_of c)
     → stepped_by (listed_count (slots_have_pawn (slots_of c))) (length (slots_of c)) (without_bit n) i a
     ≡ turned_by (listed_count (slots_have_pawn (slots_of c))) (length (slots_of c)) (without_bit n)

@@ -1,4 +1,4 @@
--- Which symmetries bring a square to a listed one.
+-- The symmetries that bring a square to a listed one.
 use Rattle.std.proofs.Common.{◌≡◌, ℕ, ◌<◌, zero, suc, Bool, true, false, not, ◌&&◌, ◌||◌, eqb, Some, refl, sym, arith}
 use Rattle.std.specs.Option.{is_some}
 use Rattle.std.proofs.lemmas.Bool.{false≢true}
@@ -8,7 +8,7 @@ use Rattle.study_board.specs.Symmetry.{turned_square, keeps_pawns}
 use Rattle.study_values.specs.Number.{place}
 use Rattle.study_values.specs.Canonical.{canonical_symmetry}
 
--- what symmetries men admit, with a pawn among them or not
+-- the symmetries that men admit, with a pawn among them or not
 abbrev pub admitted : Bool → Symmetry → Bool
 admitted pawns t = not pawns || keeps_pawns t
 
@@ -134,7 +134,7 @@ chosen-colours true d c s = refl
 chosen-colours false true c s = refl
 chosen-colours false false c s = refl
 
--- with pawns file and rank stay
+-- with pawns, file and rank are not exchanged
 pub chosen-pawns : (pawns d c : Bool) (s : ℕ) → pawns ≡ true → canonical_symmetry pawns d c s ≡ canonical_symmetry pawns false c s
 unfolding canonical_symmetry
 chosen-pawns true d c s e = refl

@@ -1,4 +1,4 @@
--- The men that a number encodes are few, and each side has one king among them.
+-- The men that a number encodes are few, and each side has exactly one king among them.
 use Rattle.std.proofs.Common.{◌≡◌, ℕ, ◌/◌, ◌%◌, ◌<◌, ◌&&◌, Bool, true, false, cond, List, [], ◌∷◌, refl, arith}
 use Rattle.std.specs.List.{count_by}
 use Rattle.study_board.specs.declared.men.Side.{Side}

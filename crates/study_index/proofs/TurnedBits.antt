@@ -1,4 +1,4 @@
--- The bits of a square turned are its image.
+-- The turned bits of a square are its image.
 use Rattle.std.proofs.Common.{◌≡◌, ℕ, ◌<◌, ◌==◌, Bool, true, false, ◌&&◌, nat_lt, refl}
 use Rattle.std.proofs.lemmas.Bool.{and_parts, eqb-true}
 use borrow.Author.Tests.{ltb-true}

@@ -35,7 +35,7 @@ module _ {X Y : Type 0} (f : X → Y) where
   swaps-map l [] = refl
   swaps-map l (p ∷ ps) = swap-map (apply_swaps l ps) p.0 p.1 ∙ rw (swaps-map l ps) refl
 
-  -- what elements in another order come from
+  -- the elements that elements in another order come from
   pub unmapped : (xs : List X) (ys : List Y) → IsPermutation (map f xs) ys → (zs : List X) × IsPermutation xs zs × (ys ≡ map f zs)
   unmapped xs ys p = (
     apply_swaps xs p.moves,
@@ -107,7 +107,7 @@ pub least_is : (p : Position) (xs : List Man) (r : Option ℕ) → IsValid p →
     × (r ≡ Some n) × IsLeastNumber p n
 least_is p xs r v f e = let h = IsIndex-least_of (is_swapped p.men) p xs r v f e in (h.0, h.1, IsLeastNumber-from p h.0 h.2)
 
--- the same, of what the code computes
+-- the same for the number that the code computes
 pub least_found : (p : Position) (men : List Man) (c pawns : Bool) (to_move side : Side) (r : Option ℕ)
     → men ≡ p.men → IsValid p → c ≡ is_swapped p.men → pawns ≡ has_pawn men → to_move ≡ p.to_move
     → side ≡ turned_side c to_move → r ≡ least_of pawns side c (sorted c men) → (n : ℕ) × (r ≡ Some n)

@@ -1,4 +1,4 @@
--- Not part of any public contract: the image of a square by its bits.
+-- Not part of any public contract: the image of a square, computed on its bits.
 use Rattle.std.specs.Prelude.{ℕ, ◌+◌, ◌*◌, ◌/◌, ◌%◌, Bool, true, false, cond, bit_xor}
 use Rattle.study_board.specs.declared.symmetry.Symmetry.{Symmetry}
 

@@ -1,4 +1,4 @@
--- The index and the position of a number as functions: what is computed.
+-- The index and the position of a number as functions, as they are computed.
 use Rattle.std.specs.Prelude.{ℕ, Bool, ◌&&◌, ◌==◌, nat_lt, Option, Some, None, if◌then◌else◌}
 use Rattle.std.specs.Option.{is_none}
 use Rattle.study_board.specs.Position.{Position, in_order, first_fault}
@@ -20,6 +20,6 @@ is_entry c n = nat_lt n (cells_of c)
     && is_none (first_fault (position_told c n).men (position_told c n).to_move (position_told c n).passed)
     && (index_of (position_told c n) == n)
 
--- the position that a number of the class reads as
+-- the position of a number of the class, if it is the index of one
 unfoldable pub position_numbered : Class → ℕ → Option Position
 position_numbered c n = if is_entry c n then Some (position_told c n) else None

@@ -19,7 +19,7 @@ use Rattle.study_values.specs.Canonical.{least_of}
 use Rattle.study_values.specs.Filling.{IsFilling, slot_number}
 use Rattle.study_values.specs.Number.{number, listed_count, has_pawn, has_bit, without_bit, IsIndex}
 
--- what slot a man fills
+-- the slot that a man fills
 abbrev pub slot_filled : Man → Slot
 slot_filled m = record { side = m.side; kind = m.kind }
 
@@ -30,7 +30,7 @@ slot_for side kind = record { side = side; kind = kind }
 abbrev pub slots_of : Class → List Slot
 slots_of c = slot_for White King ∷ slot_for Black King ∷ map (slot_for White) (lists_of c).white ++ map (slot_for Black) (lists_of c).black
 
--- the square behind a pawn of the side, over which it jumped if it made a double step
+-- the square behind a pawn of the side, which it passed if it made a double step
 abbrev pub square_behind : Side → ℕ → ℕ
 square_behind White x = x - 8
 square_behind Black x = x + 8
@@ -38,12 +38,12 @@ square_behind Black x = x + 8
 abbrev pub square_behind_pawn : Side → List Man → Option ℕ
 square_behind_pawn side men = option_map (λ m. square_behind side m.at) (find (λ m. is_man side Pawn m) men)
 
--- where the bit is set the square behind the pawn of the side that is not to move is passed
+-- if the bit is set, the square behind the pawn of the side not to move is passed
 abbrev pub passed_behind : Bool → Side → List Man → Option ℕ
 passed_behind true to_move men = square_behind_pawn (other_side to_move) men
 passed_behind false to_move men = None
 
--- the position whose men fill these slots so that n is their number, with the passed square that its bit gives
+-- the position whose men fill these slots so that n is their number, with the passed square that the bit encodes
 pub record IsReadOff (slots : List Slot) (n : ℕ) (q : Position) : Type 0 where
   pub filling : List Man
   pub fills : IsFilling false q.men filling
@@ -51,19 +51,19 @@ pub record IsReadOff (slots : List Slot) (n : ℕ) (q : Position) : Type 0 where
   pub is : number (has_pawn q.men) q.to_move filling ≡ Some (without_bit n)
   pub passed : q.passed ≡ passed_behind (has_bit n) q.to_move filling
 
--- a valid position that is read off the number, which is its index
+-- a valid position that is read off the number, and whose index the number is
 pub record IsDecodedAt (slots : List Slot) (n : ℕ) (q : Position) : Type 0 where
   pub valid : IsValid q
   pub read_off : IsReadOff slots n q
   pub index : IsIndex q n
 
--- the same with the slots of the class
+-- `IsDecodedAt` with the slots of the class
 abbrev pub IsDecoded : Class → ℕ → Position → Type 0
 IsDecoded c n q = IsDecodedAt (slots_of c) n q
 
--- ---- how a number is read: the men, their squares and the side that it encodes, as `position_numbered` names them
+-- ---- decoding: the men, their squares and the side that a number encodes, as `position_numbered` uses them
 
--- slots in order, two to four, the kings first
+-- the slots in order, two to four, the kings first
 abbrev pub number_of_slot : Slot → ℕ
 number_of_slot s = slot_number s.side s.kind
 
@@ -73,7 +73,7 @@ AreSlots (k ∷ b ∷ x ∷ []) = (number_of_slot k ≡ 0) × (number_of_slot b 
 AreSlots (k ∷ b ∷ x ∷ y ∷ []) = (number_of_slot k ≡ 0) × (number_of_slot b ≡ 1) × (1 < number_of_slot x) × (number_of_slot x ≤ number_of_slot y)
 AreSlots slots = ⊥
 
--- the listed square of a place
+-- the listed square at a place
 unfoldable pub listed_square : Bool → ℕ → ℕ
 listed_square true q = 8 * (q / 4) + q % 4
 listed_square false q = if nat_lt q 4 then q else (if nat_lt q 7 then q + 5 else (if nat_lt q 9 then q + 11 else 27))
@@ -125,7 +125,7 @@ pub record IsPlaced (men : List Man) (to_move : Side) (passed : Option ℕ) (q :
   pub same_side : q.to_move ≡ to_move
   pub same_passed : q.passed ≡ passed
 
--- these men are no position
+-- these men are not a valid position
 pub record IsFaulty (men : List Man) (to_move : Side) (passed : Option ℕ) : Type 0 where
   pub fault : PositionFault
   pub is : first_fault men to_move passed ≡ Some fault

@@ -18,7 +18,7 @@ use Rattle.study_index.specs.LeastImage.{is_on_diagonal, least_image}
 abbrev pub sum_with : Terms → ℕ → ℕ
 sum_with t a = t.rest + a * t.weight
 
--- the number after the man on x has moved to any square a is the sum; or the least image of the sum
+-- the number after the man on x has moved to any square a is the sum, or the least image of the sum
 abbrev pub IsAdded : Class → ℕ → ℕ → Terms → Type 0
 IsAdded c n x t = (a : ℕ) (p : Position) → a < 64 → IsMoved c n x a p → index_of p ≡ sum_with t a
 
@@ -31,12 +31,12 @@ IsLeastOfAdded c n x t =
 abbrev pub StandsOn : Class → ℕ → ℕ → ℕ → Type 0
 StandsOn c n i x = (d : Man) → (slice_index_or (told_men (slots_of c) (without_bit n)) i d).at ≡ x
 
--- the way leads to the number after the man on x has moved
+-- the number after the man on x has moved can be computed in this way
 pub record IsFoundBy (c : Class) (n x : ℕ) (way : Way) : Type 0 where
   pub sum : (t : Terms) → way ≡ Sum t → IsAdded c n x t
   pub image : (t : Terms) → way ≡ LeastImage t → IsLeastOfAdded c n x t
   pub king : way ≡ King → StandsOn c n 0 x
 
--- no two men are like, and where none is a pawn the white king does not stand on a1, b2, c3 or d4
+-- no two men are like, and if no man is a pawn, the white king does not stand on a1, b2, c3 or d4
 abbrev pub keeps_image : List Slot → ℕ → Bool
 keeps_image slots n = not (are_like_slots slots) && (slots_have_pawn slots || not (is_on_diagonal (head slots n % 10)))

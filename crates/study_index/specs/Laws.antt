@@ -1,4 +1,4 @@
--- What tables rest on: each position of a class has a number, and the position read off it has the same game.
+-- The laws on which tables rest: each position of a class has a number, and the position read off the number has the same game.
 use Rattle.std.specs.Prelude.{◌≡◌, ◌↔◌, ℕ, ◌<◌, false, Some, Contains}
 use Rattle.std.specs.List.Sorted.{IsPermutation}
 use Rattle.study_board.specs.declared.men.Man.{Man}
@@ -17,13 +17,12 @@ use Rattle.study_index.specs.Decoded.{IsDecoded, slots_of, told_men, told_side, 
 use Rattle.study_index.specs.Computed.{position_numbered}
 use Rattle.study_values.specs.Index.{index_of}
 
--- positions that are alike, the colours kept where the lists of the class are equal
+-- positions that are alike, with the colours kept if the lists of the class are equal
 pub record AreAlikeIn (c : Class) (p q : Position) : Type 0 where
   pub alike : AreAlike p q
   pub kept : (lists_of c).white ≡ (lists_of c).black → alike.images.by.colours ≡ false
 
--- what a number reads as: a position of the class in list order, without a passed square that is not live, whose
--- index is the number
+-- the position of a number: a position of the class in list order, without a passed square that is not live, whose index is the number
 pub record IsEntry (c : Class) (n : ℕ) (q : Position) : Type 0 where
   pub valid : IsValid q
   pub of_class : IsOf c q
@@ -43,8 +42,8 @@ PositionsHaveAnIndex = (p : Position) → IsValid p → HasIndex p
 abbrev pub NumbersAreRead : Type 0
 NumbersAreRead = (c : Class) (n : ℕ) (q : Position) → (position_numbered c n ≡ Some q) ↔ IsDecoded c n q
 
--- the laws of a class: the index of a position is below its cells, and what is read off it is an image of the bare position, and alike to
--- it; alike positions have one index and move alike
+-- the laws of a class: the index of a position is below the number of cells, and the position read off it is an image of the bare position, and alike to it;
+-- positions that are alike have the same index, and like moves
 pub record IsNumbered (c : Class) : Type 0 where
   pub below : (n : ℕ) (q : Position) → IsDecoded c n q → n < cells_of c
   pub decoded : (n : ℕ) (q : Position) → IsDecoded c n q → IsEntry c n q
@@ -61,7 +60,7 @@ pub record IsNumbered (c : Class) : Type 0 where
 abbrev pub ClassesAreNumbered : Type 0
 ClassesAreNumbered = (c : Class) → IsNumbered c
 
--- positions that are alike are of one class and have one game
+-- positions that are alike are of the same class and have the same game
 pub record AgreeAlike (p q : Position) : Type 0 where
   pub same_home : (c : Class) → IsOf c p → IsOf c q
   pub same_game : HasSameGame p q

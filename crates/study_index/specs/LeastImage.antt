@@ -12,7 +12,7 @@ use Rattle.study_index.specs.Stepped.{square_weight, square_told}
 abbrev pub across : ℕ → ℕ
 across x = 8 * (x % 8) + x / 8
 
--- the number with each square after the first turned so
+-- the number with each square after the first so exchanged
 unfoldable pub turned_across : List Slot → ℕ → ℕ
 turned_across (k ∷ b ∷ []) n = n / 64 * 64 + across (n % 64)
 turned_across (k ∷ b ∷ x ∷ []) n = (n / 64 / 64 * 64 + across (n / 64 % 64)) * 64 + across (n % 64)
@@ -24,7 +24,7 @@ turned_across slots n = n
 unfoldable pub exchanged : ℕ → ℕ
 exchanged n = (n / 64 / 64 * 64 + n % 64) * 64 + n / 64 % 64
 
--- the last two squares in ascending order, where they are those of like men
+-- the last two squares in ascending order, if they are squares of like men
 unfoldable pub ascending_if : Bool → ℕ → ℕ
 ascending_if like n = if like && nat_lt (n % 64) (n / 64 % 64) then exchanged n else n
 
@@ -41,7 +41,7 @@ least_image pawns like slots n =
     if not pawns && is_on_diagonal (head slots n % 10) then lesser (ascending_if like n) (ascending_if like (turned_across slots n))
     else ascending_if like n
 
--- the symmetry that brings the white king's square to a listed one, the colours as they are
+-- the symmetry that brings the white king's square to a listed one, without swapping the colours
 unfoldable pub king_symmetry : Bool → ℕ → Symmetry
 king_symmetry pawns s =
     record {
@@ -58,7 +58,7 @@ with_head (k ∷ b ∷ x ∷ []) h n = h * 4096 + n % 4096
 with_head (k ∷ b ∷ x ∷ y ∷ []) h n = h * 262144 + n % 262144
 with_head slots h n = n
 
--- one square of a number replaced, with the other side to move, where the white king has so many places
+-- one square of a number replaced, with the other side to move, for this number of places of the white king
 abbrev pub turned_by : ℕ → ℕ → ℕ → ℕ
 turned_by places count n =
     if nat_lt n (places * 64 ^ (count - 1)) then n + places * 64 ^ (count - 1) else n - places * 64 ^ (count - 1)

@@ -1,4 +1,4 @@
--- Not part of any public contract: the index as it is computed, the men in the order of their slots, then as squares alone.
+-- Not part of any public contract: the index as it is computed, first with the men in the order of their slots, then with squares alone.
 use Rattle.std.specs.Prelude.{ℕ, ◌+◌, ◌*◌, Bool, true, false, nat_lt, nat_le, List, [], ◌∷◌, map, Option, None, if◌then◌else◌}
 use Rattle.std.specs.Option.{option_map}
 use Rattle.study_board.specs.declared.men.Side.{Side}
@@ -15,7 +15,7 @@ use Rattle.study_values.specs.Canonical.{least}
 abbrev pub placed : Bool → Man → PlacedMan
 placed c m = record { slot = man_slot_number c m; square = m.at }
 
--- one put after those of no later slot
+-- a placed man inserted after those of no later slot
 unfoldable pub put_placed : PlacedMan → List PlacedMan → List PlacedMan
 put_placed k [] = k ∷ []
 put_placed k (x ∷ xs) = if nat_le x.slot k.slot then x ∷ put_placed k xs else k ∷ x ∷ xs
@@ -24,17 +24,17 @@ put_placed k (x ∷ xs) = if nat_le x.slot k.slot then x ∷ put_placed k xs els
 abbrev pub squares_placed : List PlacedMan → List ℕ
 squares_placed ks = map (λ k. k.square) ks
 
--- the symmetry that leaves the colours alone and takes squares where the chosen one takes them
+-- the symmetry that keeps the colours and has the same image of each square as the chosen one
 unfoldable pub square_symmetry : Bool → Bool → Bool → ℕ → Symmetry
 square_symmetry true diagonal colours s = record { files = nat_lt 3 (file_of s); ranks = colours; diagonal = false; colours = false }
 square_symmetry false diagonal colours s = record { files = nat_lt 3 (file_of s); ranks = nat_lt 3 (rank_of s); diagonal = diagonal; colours = false }
 
--- further squares turned, each 64 times less than what comes before
+-- appends the images of further squares as digits in base 64
 abbrev pub counted_at : (ℕ → ℕ) → ℕ → List ℕ → ℕ
 counted_at turn n [] = n
 counted_at turn n (x ∷ xs) = counted_at turn (n * 64 + turn x) xs
 
--- the number of squares that are turned
+-- the number of the images of squares
 unfoldable pub number_at : Bool → Side → (ℕ → ℕ) → List ℕ → Option ℕ
 number_at pawns to_move turn [] = None
 number_at pawns to_move turn (k ∷ rest) =
@@ -48,7 +48,7 @@ abbrev pub descends_at : (ℕ → ℕ) → List ℕ → Bool
 descends_at turn (a ∷ b ∷ x ∷ y ∷ []) = nat_lt (turn y) (turn x)
 descends_at turn xs = false
 
--- the least number by one symmetry, where the last two of four squares can be exchanged
+-- the least number by one symmetry, if the last two of four squares can be exchanged
 unfoldable pub least_turned : Bool → Side → (ℕ → ℕ) → Bool → List ℕ → Option ℕ
 least_turned pawns to_move turn like xs =
     if like then (if descends_at turn xs then number_at pawns to_move turn (exchanged_at xs) else number_at pawns to_move turn xs)

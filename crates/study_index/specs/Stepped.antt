@@ -1,4 +1,4 @@
--- What a quiet move makes of a number, where a man is a pawn: the side to move is turned, and one square is replaced by another.
+-- The effect of a quiet move on a number, if a man is a pawn: the side to move is turned, and one square is replaced by another.
 use Rattle.std.specs.Prelude.{◌≡◌, ℕ, ◌+◌, ◌-◌, ◌*◌, ◌/◌, ◌%◌, ◌^◌, ◌<◌, ◌≤◌, Bool, true, false, ◌==◌, nat_lt, List, [], ◌∷◌, length, if◌then◌else◌}
 use Rattle.std.specs.List.Sorted.{IsPermutation}
 use Rattle.study_board.specs.declared.men.Man.{Man}
@@ -11,16 +11,16 @@ use Rattle.study_values.specs.Number.{without_bit, cells_of}
 use Rattle.study_index.specs.Decoded.{slots_of, slots_have_pawn, number_of_slot, told_men, told_side}
 use Rattle.study_values.specs.Index.{index_of}
 
--- the man of one place of a list, the first at 0, on another square
+-- the man at one place of a list, counted from 0, on another square
 abbrev pub moved_to : ℕ → ℕ → List Man → List Man
 moved_to i a [] = []
 moved_to i a (m ∷ ms) = if i == 0 then record { side = m.side; kind = m.kind; at = a } ∷ ms else m ∷ moved_to (i - 1) a ms
 
--- what a square of one of so many slots counts in a number: 64 times as much for each slot after it
+-- the weight of a slot's square in a number with so many slots: 64 for each slot after it, multiplied
 abbrev pub square_weight : ℕ → ℕ → ℕ
 square_weight count i = 64 ^ (count - 1 - i)
 
--- what the side to move counts in a number of so many slots, where a man is a pawn
+-- the weight of the side to move in a number with so many slots, if a man is a pawn
 abbrev pub side_weight : ℕ → ℕ
 side_weight count = 32 * 64 ^ (count - 1)
 
@@ -32,23 +32,23 @@ square_told count i n = n / square_weight count i % 64
 abbrev pub side_turned : ℕ → ℕ → ℕ
 side_turned count n = if nat_lt n (side_weight count) then n + side_weight count else n - side_weight count
 
--- the same with the man of slot i on square a
+-- the number with the other side to move and the man of slot i on square a
 unfoldable pub stepped : ℕ → ℕ → ℕ → ℕ → ℕ
 stepped count n i a = side_turned count n + a * square_weight count i - square_told count i n * square_weight count i
 
--- the last two of four slots are of like men
+-- the last two of four slots have like men
 abbrev pub are_like_slots : List Slot → Bool
 are_like_slots (k ∷ b ∷ x ∷ y ∷ []) = number_of_slot x == number_of_slot y
 are_like_slots slots = false
 
--- p is what n reads as, with the man of slot i on square a and the other side to move, and without a capture in passing
+-- p is the position of n, with the man of slot i on square a and the other side to move, and without a capture in passing
 pub record IsStepped (c : Class) (n i a : ℕ) (p : Position) : Type 0 where
   pub valid : IsValid p
   pub men : IsPermutation p.men (moved_to i a (told_men (slots_of c) (without_bit n)))
   pub to_move : p.to_move ≡ other_side (told_side (slots_of c) (without_bit n))
   pub dead : has_legal_en_passant p ≡ false
 
--- classes with a pawn and no like men, and any man but the white king
+-- for classes with a pawn and no like men, and any man but the white king
 abbrev pub NumbersStep : Type 0
 NumbersStep =
     (c : Class) (n i a : ℕ) (p : Position) → slots_have_pawn (slots_of c) ≡ true → are_like_slots (slots_of c) ≡ false

@@ -1,4 +1,4 @@
--- Not part of any public contract: which side's list of men comes first, by weights: an earlier kind weighs more, and any two men more than one.
+-- Not part of any public contract: which side's list of men comes first, by weights: an earlier kind weighs more, and any two men weigh more than one.
 use Rattle.std.specs.Prelude.{ℕ, ◌+◌, ◌-◌, List, [], ◌∷◌, if◌then◌else◌}
 use Rattle.study_board.specs.declared.men.Side.{Side}
 use Rattle.study_board.specs.declared.men.Side.TheVariants.{White, Black}
@@ -15,7 +15,7 @@ weight Knight = 6
 weight Pawn = 5
 weight King = 4
 
--- ten, less a weight of White's or with one of Black's
+-- ten, minus the weight of a white man or plus that of a black one
 abbrev pub balanced : Side → ℕ → ℕ
 balanced White n = 10 - n
 balanced Black n = 10 + n

@@ -1,11 +1,11 @@
-//! Whether the colours are swapped to reach the class of a position, by the weights of its men.
+//! Whether the colours are swapped for the class of a position, by the weights of its men.
 ghost use Rattle.std.specs.Prelude.{◌≡◌, ◌≤◌, length};
 ghost use Rattle.study_material.specs.Lists.{is_swapped};
 ghost use Rattle.study_index.specs.Weights.{balance, balance_of};
 
 use study_board::{Kind, Man, Position, Side};
 
-/// Ten, less the weight of a white man or with that of a black one; kings have none.
+/// Ten, minus the weight of a white man or plus that of a black one; kings weigh nothing.
 #[inline]
 fn balance(m: &Man) -> u8
     ensures value { result ≡ balance m.now }

@@ -20,7 +20,7 @@ use study_material::Class;
 use study_moves::has_legal_en_passant;
 use study_values::{EN_PASSANT_BIT, cells};
 
-/// What man fills a place in the order of a class.
+/// The kind and side of the man at a place in the order of a class.
 #[derive(Clone, Copy)]
 pub struct Slot {
     pub side: Side,
@@ -72,7 +72,7 @@ pub fn head(slots: &[Slot], n: u32) -> u32
     }
 }
 
-/// The position of these men, if they are one.
+/// The position of these men, if it is valid.
 #[inline(always)]
 fn valid_position(men: &[Man], to_move: Side, passed: Option<Square>) -> Option<Position>
     requires few { length men.now ≤ 4 }
@@ -89,7 +89,7 @@ fn valid_position(men: &[Man], to_move: Side, passed: Option<Square>) -> Option<
     Some(position)
 }
 
-/// The position of these men, if they are one, the square behind the pawn of the side that is not to move being passed.
+/// The position of these men, if it is valid, with the square behind the pawn of the side not to move passed.
 fn position_with_passed(men: &[Man], to_move: Side) -> Option<Position>
     requires few { length men.now ≤ 4 }
     requires kings { (has_one_king men.now White && has_one_king men.now Black) ≡ true }
@@ -105,7 +105,7 @@ fn position_with_passed(men: &[Man], to_move: Side) -> Option<Position>
     }
 }
 
-/// The position of these men, if they are one, with a passed square or without.
+/// The position of these men, if it is valid, with a passed square or without.
 #[inline]
 fn position_if(men: &[Man], to_move: Side, passed: bool) -> Option<Position>
     requires few { length men.now ≤ 4 }
@@ -133,8 +133,7 @@ fn is_least(slots: &[Slot], pawns: bool, like: bool, n: u32) -> bool
     least_image(pawns, like, slots, n) == n
 }
 
-/// The position of the men and the side that the number encodes, if they are one and the number is their least, with a
-/// passed square or without.
+/// The position of the men and the side that the number encodes, if it is valid and the number is its least, with a passed square or without.
 #[inline]
 fn decode_slots(slots: &[Slot], pawns: bool, like: bool, n: u32, passed: bool) -> Option<Position>
     requires slots { AreSlots slots.now }
@@ -188,8 +187,7 @@ fn decode_en_passant(class: Class, n: u32) -> Option<Position>
     }
 }
 
-/// The position of the class that has this number, in list order, if there is one. It has a passed square where the
-/// number has the bit.
+/// The position of the class that has this number, in list order, if there is one. It has a passed square if the number has the bit.
 pub fn decode(class: Class, n: u32) -> Option<Position>
     ensures some { IfSome result (IsDecoded class n) }
     ensures none { IfNone result ((q : Seen) → IsDecoded class n q → ⊥) }
@@ -295,7 +293,7 @@ pub fn slots(class: Class) -> &'static [Slot]
     }
 }
 
-/// The same where each side has a man beside its king.
+/// The slots of the class, if each side has a man beside its king.
 fn slots_of_both(class: Class) -> &'static [Slot]
     requires { length (lists_of class).black ≡ 1 }
     ensures { result.now ≡ slots_of class }

@@ -1,4 +1,4 @@
-//! The numbers after one man moves from its square to any other: what they have in common is found once.
+//! The numbers after one man moves from its square to any other: their common part is computed once.
 ghost use Rattle.std.specs.Prelude.{◌≡◌, ◌<◌, ◌≤◌, length, slice_index_or, IsTrue};
 ghost use Rattle.study_board.specs.declared.men.Man.{Man as AMan};
 ghost use Rattle.study_board.specs.Position.{Position as Seen};
@@ -18,7 +18,7 @@ use study_board::Square;
 use study_material::Class;
 use study_values::EN_PASSANT_BIT;
 
-/// A number and the square of one of its men. What the numbers after the man has moved have in common is found once.
+/// A number and the square of one of its men. The common part of the numbers after the man has moved is computed once.
 #[derive(Clone, Copy)]
 pub struct Departure {
     pub class: Class,
@@ -39,7 +39,7 @@ pub fn keeps_image(class: Class, slots: &[Slot], pawns: bool, n: u32) -> bool
     !has_like_men(class) && (pawns || !is_on_diagonal(head(slots, n) % 10))
 }
 
-/// How the number is found after the man of a slot after the first has moved, which stands on the square.
+/// How to compute the number after a move of the man of a slot after the first, which stands on the square.
 #[inline(always)]
 fn way_of(class: Class, number: u32, from: Square, slot: u32) -> Way
     requires cell { number < cells_of class }
@@ -64,7 +64,7 @@ fn way_of(class: Class, number: u32, from: Square, slot: u32) -> Way
     }
 }
 
-/// Whether the man of a slot, the first at 0, stands on the square, by the number.
+/// Whether the man of a slot, counted from 0, stands on the square, by the number.
 #[inline(always)]
 pub fn stands_in(slots: &[Slot], pawns: bool, n: u32, slot: u32, from: Square) -> bool
     requires slots { AreSlots slots.now }
@@ -79,7 +79,7 @@ pub fn stands_in(slots: &[Slot], pawns: bool, n: u32, slot: u32, from: Square) -
     }
 }
 
-/// How the number is found after the man on the square has moved, where it may be the man of the slot.
+/// How to compute the number after a move of the man on the square, which may be the man of the slot.
 #[inline(always)]
 fn way_from(class: Class, number: u32, from: Square, slot: u32) -> Way
     requires { number < cells_of class }
@@ -97,8 +97,8 @@ fn way_from(class: Class, number: u32, from: Square, slot: u32) -> Way
 }
 
 impl Departure {
-    /// The departure of the man that stands on the square by the number. Where the slot, the first at 0, is not that of the man,
-    /// `number_to` searches for it each time.
+    /// The departure of the man that stands on the square by the number. If the slot, counted from 0, is not the man's,
+    /// `number_to` searches for the man each time.
     #[inline(always)]
     pub fn new(class: Class, number: u32, from: Square, slot: u32) -> Self
         requires { number < cells_of class }
@@ -115,8 +115,7 @@ impl Departure {
         }
     }
 
-    /// The number of the position with the man on another square and the other side to move, where no capture in passing
-    /// is legal: that of `number_moved`.
+    /// The number of the position with the man on another square and the other side to move, if no capture in passing is legal: the result of `number_moved`.
     #[inline(always)]
     pub fn number_to(&self, to: Square) -> u32
         ensures { (p : Seen) → IsMoved self.now.class self.now.number self.now.from to p → index_of p ≡ result }

@@ -21,7 +21,7 @@ fn pawn_of(side: Side, men: &[Man]) -> Option<Man>
     men.iter().copied().find(|m| m.is(side, Kind::Pawn))
 }
 
-/// The square behind a pawn of the side, by its number, which can be off the board.
+/// The square behind a pawn of the side, by its number, which may be off the board.
 pub fn square_behind_pawn(side: Side, men: &[Man]) -> Option<u8>
     ensures { result ≡ square_behind_pawn side men.now }
 {

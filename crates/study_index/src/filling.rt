@@ -26,7 +26,7 @@ fn slot_number(side: Side, kind: Kind) -> u8
     }
 }
 
-/// The side, or the other where the colours are swapped.
+/// The side, or the other side if the colours are swapped.
 #[inline]
 pub fn side_after(colours: bool, side: Side) -> Side
     ensures { result ≡ turned_side colours side }
@@ -52,7 +52,7 @@ pub fn square_of_man(m: Man) -> Square
     m.at
 }
 
-/// A man as what its number needs: its slot and its square.
+/// The parts of a man that its number needs: its slot and its square.
 #[derive(Clone, Copy)]
 pub struct PlacedMan {
     pub slot: u8,
@@ -80,7 +80,7 @@ fn comes_first(x: &PlacedMan, k: &PlacedMan) -> bool
     x.slot <= k.slot
 }
 
-/// One of two men: no branch is taken where both are known.
+/// One of two men, chosen without a branch.
 #[inline]
 fn select(flag: bool, x: &PlacedMan, y: &PlacedMan) -> PlacedMan
     ensures { result ≡ (if flag then x.now else y.now) }
@@ -88,7 +88,7 @@ fn select(flag: bool, x: &PlacedMan, y: &PlacedMan) -> PlacedMan
     if flag { *x } else { *y }
 }
 
-/// A man put after another of no later slot, or before it.
+/// A man inserted after another of no later slot, or before it.
 #[inline]
 #[tactic(auto, unfolding(crate::specs::Squares::put_placed))]
 pub fn with_one(k: &PlacedMan, x: &PlacedMan) -> (PlacedMan, PlacedMan)
@@ -98,7 +98,7 @@ pub fn with_one(k: &PlacedMan, x: &PlacedMan) -> (PlacedMan, PlacedMan)
     (select(first, x, k), select(first, k, x))
 }
 
-/// A man put at its place in the order of slots.
+/// A man inserted in the order of slots.
 #[inline]
 #[tactic(auto, unfolding(crate::specs::Squares::put_placed))]
 pub fn with_two(k: &PlacedMan, x: &PlacedMan, y: &PlacedMan) -> (PlacedMan, PlacedMan, PlacedMan)
@@ -113,7 +113,7 @@ pub fn with_two(k: &PlacedMan, x: &PlacedMan, y: &PlacedMan) -> (PlacedMan, Plac
     )
 }
 
-/// A man put at its place in the order of slots.
+/// A man inserted in the order of slots.
 #[inline]
 #[tactic(auto, unfolding(crate::specs::Squares::put_placed))]
 pub fn with_three(

@@ -1,29 +1,29 @@
-//! Laws over the definitions, which tables rest on: functions that do nothing.
+//! Laws over the definitions, on which tables rest: functions that do nothing.
 ghost use Rattle.study_index.specs.Laws.{PositionsHaveAnIndex, NumbersAreRead, ClassesAreNumbered, AlikeAgree, NumbersTell};
 ghost use Rattle.study_index.specs.Stepped.{NumbersStep};
 
-/// The index of a valid position is the least of its numbers, with the bit of a capture in passing, and no other is.
+/// The index of a valid position is the least of its numbers, with the bit for a capture in passing, and no other number is its index.
 pub fn positions_have_an_index()
     ensures { PositionsHaveAnIndex }
 {}
 
-/// A number reads as the one valid position in list order whose men have it and whose index it is.
+/// A number is read as the one valid position in list order whose men have it and whose index it is.
 pub fn numbers_are_read()
     ensures { NumbersAreRead }
 {}
 
-/// The number of a position of a class reads as a position that is alike, and what is alike has one number, moves that
-/// lead to what is alike, and the same mates.
+/// The number of a position of a class is read as a position that is alike. Positions that are alike have the same number and the same mates, and
+/// their moves lead to positions that are alike.
 pub fn classes_are_numbered()
     ensures { ClassesAreNumbered }
 {}
 
-/// Positions that are alike are of one class, and forced mates agree on them.
+/// Positions that are alike are of the same class, and have the same forced mates.
 pub fn alike_mates_agree()
     ensures { AlikeAgree }
 {}
 
-/// What a quiet move makes of a number, where a man is a pawn and none are like, and the white king stays: the side to
+/// The effect of a quiet move on a number, if a man is a pawn, no two men are like, and the white king stays: the side to
 /// move is turned, and one square replaced.
 pub fn numbers_step()
     ensures { NumbersStep }

@@ -16,8 +16,8 @@ use study_board::{Man, Position, Square, Symmetry};
 use study_moves::has_legal_en_passant;
 use study_values::EN_PASSANT_BIT;
 
-/// The symmetry that brings the square to a listed one, if any does, written without a swap of colours: the ranks that
-/// a swap mirrors are mirrored back where there is no pawn.
+/// The symmetry that brings the square to a listed one, if there is one, written without a swap of colours: if there is no pawn, the
+/// ranks that a swap mirrors are mirrored back.
 #[inline]
 #[tactic(auto, unfolding(crate::specs::Squares::square_symmetry))]
 fn square_symmetry(frame: Frame, diagonal: bool, s: Square) -> Symmetry
@@ -41,7 +41,7 @@ fn square_symmetry(frame: Frame, diagonal: bool, s: Square) -> Symmetry
     }
 }
 
-/// The lesser of two numbers, of those that there are.
+/// The lesser of two optional numbers, or the only one.
 #[inline]
 fn least(a: Option<u32>, b: Option<u32>) -> Option<u32>
     ensures { result ≡ least a b }
@@ -53,7 +53,7 @@ fn least(a: Option<u32>, b: Option<u32>) -> Option<u32>
     }
 }
 
-/// The least number by one symmetry, where the last two of four squares can be exchanged.
+/// The least number by one symmetry, if the last two of four squares can be exchanged.
 #[inline(always)]
 #[tactic(auto, unfolding(crate::specs::Squares::least_turned))]
 fn least_by(frame: Frame, t: Symmetry, like: bool, squares: &[Square]) -> Option<u32>
@@ -67,7 +67,7 @@ fn least_by(frame: Frame, t: Symmetry, like: bool, squares: &[Square]) -> Option
     }
 }
 
-/// Whether the last of four squares comes to a lower one than that before it.
+/// Whether the last of four squares goes to a lower one than the square before it.
 #[inline]
 fn descends(t: Symmetry, squares: &[Square]) -> bool
     ensures { result ≡ descends_at (turned_square t) squares.now }
@@ -215,7 +215,7 @@ fn least_of_four(frame: Frame, a: Man, b: Man, c: Man, d: Man) -> Option<u32>
     least_at(frame, c.slot == d.slot, &squares)
 }
 
-/// The least number of the images of a position that its class admits. The passed square is not looked at.
+/// The least number of the images of a position that its class admits. The passed square is ignored.
 fn least_number(p: &Position) -> u32
     ensures least { IsLeastNumber p.now result }
     ensures value { result ≡ least_number p.now }
@@ -235,7 +235,7 @@ fn least_number(p: &Position) -> u32
 }
 
 /// The number of a position in the tables of its class: the least number of the images that the class admits, and
-/// 16,777,216 more where a capture in passing is legal.
+/// 16,777,216 more if a capture in passing is legal.
 #[tactic(auto, unfolding(study_values::specs::Index::index_of))]
 pub fn index(p: &Position) -> u32
     ensures least { IsIndex p.now result }

@@ -15,7 +15,7 @@ fn across(square: u32) -> u32
     8 * (square % 8) + square / 8
 }
 
-/// The number with each square after the first turned so.
+/// The number with each square after the first so exchanged.
 #[inline]
 #[tactic(auto, unfolding(crate::specs::LeastImage::turned_across))]
 fn turned_across(slots: &[Slot], n: u32) -> u32
@@ -43,7 +43,7 @@ fn exchanged(n: u32) -> u32
     (n / 64 / 64 * 64 + n % 64) * 64 + n / 64 % 64
 }
 
-/// The number with the last two squares in ascending order, where they are those of like men.
+/// The number with the last two squares in ascending order, if they are squares of like men.
 #[inline]
 #[tactic(auto, unfolding(crate::specs::LeastImage::ascending_if))]
 fn ascending_if(like: bool, n: u32) -> u32

@@ -1,8 +1,8 @@
-//! The numbers of positions in the tables of their class, which are kept in files: one number for a position and all
-//! its mirror images, the least of theirs, and the position in list order that a number reads as.
+//! The numbers of positions in the tables of their class, as files keep them: one number for a position and all its mirror images, the least of theirs,
+//! and the position in list order of a number.
 //!
-//! `index` and `decode` take no memory. `classes_are_numbered` proves what tables rest on: the number of a position
-//! reads as a position that is alike, and positions that are alike have one number, like moves and one game.
+//! `index` and `decode` take no memory. `classes_are_numbered` proves the facts on which tables rest: the number of a position is read as a position that is
+//! alike, and positions that are alike have the same number, like moves and the same game.
 #![tactic(auto)]
 
 mod colour_swap;

@@ -1,4 +1,4 @@
-//! The number of the position that a move makes which takes no man and promotes none, or from which it was made.
+//! The number of the position after, or before, a move that captures no man and promotes none.
 ghost use Rattle.std.specs.Prelude.{◌≡◌, ◌<◌, ◌↔◌, false, map, length, slice_index_or, Some, IsTrue, IfSome, if◌then◌else◌};
 ghost use Rattle.study_board.specs.declared.men.Man.{Man as AMan};
 ghost use Rattle.study_board.specs.Men.{other_side};
@@ -23,7 +23,7 @@ use study_board::{Man, Side, Square, Symmetry};
 use study_material::Class;
 use study_values::EN_PASSANT_BIT;
 
-/// The man, put on `to` if it stands on `from`.
+/// The man, on `to` if it stands on `from`.
 #[inline]
 fn put(man: Man, from: Square, to: Square) -> Man
     ensures { result ≡ from_to from to man }
@@ -39,7 +39,7 @@ fn put(man: Man, from: Square, to: Square) -> Man
     }
 }
 
-/// The frame of a number as a class has it, the colours as they are.
+/// The frame of a number of a class, without a swap of colours.
 #[inline]
 fn straight_frame(has_pawns: bool, to_move: Side) -> Frame
     ensures { result ≡ record { has_pawns = has_pawns; to_move = to_move; swap_colours = false } }
@@ -51,7 +51,7 @@ fn straight_frame(has_pawns: bool, to_move: Side) -> Frame
     }
 }
 
-/// The least number of the men that a number encodes, the man on `from` put on `to` and the other side to move.
+/// The least number of the men that a number encodes, with the man on `from` put on `to` and the other side to move.
 fn least_moved(slots: &[Slot], pawns: bool, n: u32, from: Square, to: Square) -> Option<u32>
     requires slots { AreSlots slots.now }
     requires pawns { pawns ≡ slots_have_pawn slots.now }
@@ -81,7 +81,7 @@ fn least_moved(slots: &[Slot], pawns: bool, n: u32, from: Square, to: Square) ->
     }
 }
 
-/// The symmetry that brings the white king's square to a listed one, the colours as they are.
+/// The symmetry that brings the white king's square to a listed one, without swapping the colours.
 #[inline]
 #[tactic(auto, unfolding(crate::specs::LeastImage::king_symmetry))]
 fn king_symmetry(pawns: bool, s: Square) -> Symmetry
@@ -123,8 +123,7 @@ fn with_head(slots: &[Slot], head: u32, n: u32) -> u32
     }
 }
 
-/// The number of the men that a number encodes, the white king put on `to` and the other side to move, turned so that the
-/// king comes to a listed square.
+/// The number of the men that a number encodes, with the white king put on `to` and the other side to move, turned so that the king comes to a listed square.
 #[inline(always)]
 fn number_with_king_on(slots: &[Slot], pawns: bool, n: u32, to: Square) -> Option<u32>
     requires slots { AreSlots slots.now }
@@ -144,7 +143,7 @@ fn number_with_king_on(slots: &[Slot], pawns: bool, n: u32, to: Square) -> Optio
     }
 }
 
-/// The same, by the symmetry that brings the square to a listed one.
+/// `number_with_king_on`, by the symmetry that brings the square to a listed one.
 fn number_with_king_turned(
     slots: &[Slot],
     pawns: bool,
@@ -170,9 +169,8 @@ fn number_with_king_turned(
     }
 }
 
-/// The number of the position with the men of another number, the man of a slot, the first at 0, put on `to` and the other
-/// side to move, where no capture in passing is legal. Forwards it is the number after a move that takes no man and
-/// promotes none; backwards, the number before it.
+/// The number of the position with the men of another number, the man of a slot, counted from 0, put on `to` and the other side to move, if no capture in
+/// passing is legal. Forwards it is the number after a move that captures no man and promotes none; backwards, the number before it.
 #[inline(always)]
 pub fn number_stepped(class: Class, number: u32, slot: u32, to: Square) -> u32
     requires cell { number < cells_of class }
@@ -236,9 +234,8 @@ fn slot_if(here: bool, slot: u32, other: Option<u32>) -> Option<u32>
     if here { Some(slot) } else { other }
 }
 
-/// The number of the position with the men of another number, the man on `from` put on `to` and the other side to move,
-/// where no capture in passing is legal. Forwards it is the number after a move that takes no man and promotes none;
-/// backwards, the number before it.
+/// The number of the position with the men of another number, the man on `from` put on `to` and the other side to move, if no capture in passing is legal.
+/// Forwards it is the number after a move that captures no man and promotes none; backwards, the number before it.
 pub fn number_moved(class: Class, number: u32, from: Square, to: Square) -> u32
     requires { number < cells_of class }
     ensures { (p : Seen) → IsMoved class number from to p → index_of p ≡ result }

@@ -8,7 +8,7 @@ ghost use Rattle.study_index.specs.Squares.{counted_at, number_at};
 use crate::transform::turned;
 use study_board::{Kind, Man, Side, Square, Symmetry};
 
-/// What is added to a file for its square's place in the triangle a1, d1, d4.
+/// The offset of a rank in the triangle a1, d1, d4: added to the file, it gives the square's place.
 #[inline]
 fn places_before(rank: u8) -> u8
     ensures value { result ≡ places_before rank }
@@ -66,7 +66,7 @@ pub fn has_pawn(men: &[Man]) -> bool
     }
 }
 
-/// One more square, counted on.
+/// Appends one square as a digit in base 64.
 #[inline]
 fn append_square(t: Symmetry, n: u32, x: Square) -> u32
     requires { n < 2 ^ 18 }
@@ -76,7 +76,7 @@ fn append_square(t: Symmetry, n: u32, x: Square) -> u32
     n * 64 + u32::from(turned(t, x).number())
 }
 
-/// Further squares, each 64 times less than what comes before.
+/// Appends further squares as digits in base 64.
 #[inline(always)]
 fn append_squares(t: Symmetry, n: u32, squares: &[Square]) -> u32
     requires small { n < 64 }
@@ -104,7 +104,7 @@ pub fn side_number(side: Side) -> u32
     }
 }
 
-/// On how many squares the white king may stand in a number.
+/// The number of listed squares of the white king.
 #[inline]
 pub fn listed_count(pawns: bool) -> u32
     ensures value { result ≡ listed_count pawns }
@@ -114,8 +114,8 @@ pub fn listed_count(pawns: bool) -> u32
     if pawns { 32 } else { 10 }
 }
 
-/// What a number is read by beside the squares: whether some man is a pawn, the side to move, and whether the colours are
-/// swapped so that the side with more men, or earlier ones, is White.
+/// The parameters of a number beside its squares: whether some man is a pawn, the side to move, and whether the colours are swapped so that the side
+/// with more men, or earlier ones, is White.
 #[derive(Clone, Copy)]
 pub struct Frame {
     pub has_pawns: bool,
@@ -123,7 +123,7 @@ pub struct Frame {
     pub swap_colours: bool,
 }
 
-/// The number of squares in the order of their slots, turned, if the white king comes to a listed square.
+/// The number that encodes squares in the order of their slots, turned; `None` if the white king does not come to a listed square.
 #[inline(always)]
 #[tactic(auto, unfolding(crate::specs::Squares::number_at))]
 pub fn number(frame: Frame, t: Symmetry, squares: &[Square]) -> Option<u32>

@@ -11,7 +11,7 @@ use study_board::{Man, Side};
 use study_material::Class;
 use study_values::EN_PASSANT_BIT;
 
-/// What a number encodes: a man for each slot of its class, in their order, and the side to move.
+/// The contents of a number: a man for each slot of its class, in order, and the side to move.
 #[derive(Drop)]
 pub struct Setup {
     pub men: ArrayVec<Man, 4>,
@@ -30,7 +30,7 @@ pub fn class_has_pawn(class: Class) -> bool
     }
 }
 
-/// Whether the last two slots of the class are those of like men.
+/// Whether the last two slots of the class have like men.
 #[inline]
 pub fn has_like_men(class: Class) -> bool
     ensures { result ≡ are_like_slots (slots_of class) }
@@ -80,7 +80,7 @@ pub fn told(class: Class, number: u32) -> Setup
     told_by(slots, pawns, n)
 }
 
-/// The same by the slots of a class.
+/// The men and the side to move, by the slots of a class.
 #[inline(always)]
 pub fn told_by(slots: &[Slot], pawns: bool, n: u32) -> Setup
     requires slots { AreSlots slots.now }

@@ -1,5 +1,5 @@
-//! The row of the numbers after one man, not the last, moves from its square to any other: what the moves have in common
-//! is found once for all the numbers of a row. And the row after the last man moves.
+//! The row of the numbers after one man, not the last, moves from its square to any other: the common part of the moves is computed once for all the numbers
+//! of a row. Also the row after the last man moves.
 ghost use Rattle.std.specs.Prelude.{◌≡◌, ℕ, ◌+◌, ◌*◌, ◌/◌, ◌%◌, ◌^◌, ◌-◌, ◌<◌, ◌≤◌, IfSome};
 ghost use Rattle.study_board.specs.Men.{other_side};
 ghost use Rattle.study_board.specs.Position.{Position as Seen};
@@ -23,8 +23,8 @@ use study_board::Square;
 use study_material::Class;
 use study_values::EN_PASSANT_BIT;
 
-/// The numbers of a row, which differ in the square of the last man alone, and the square of one of their other men. What
-/// the rows after the man has moved have in common is found once.
+/// The numbers of a row, which differ only in the square of the last man, and the square of one of their other men. The common part of the rows
+/// after the man has moved is computed once.
 #[derive(Clone, Copy)]
 pub struct RowDeparture {
     pub class: Class,
@@ -53,7 +53,7 @@ fn terms_of(pawns: bool, count: u32, n: u32, slot: u32) -> RowTerms
     }
 }
 
-/// The same without the white king.
+/// The row of the numbers with the other side to move and without the white king.
 #[inline(always)]
 fn terms_of_king(pawns: bool, count: u32, head: u32, row: u32) -> RowTerms
     requires few { 2 ≤ count }
@@ -74,7 +74,7 @@ fn terms_of_king(pawns: bool, count: u32, head: u32, row: u32) -> RowTerms
     }
 }
 
-/// How the numbers of the row are found after the man on the square has moved, if it is the man of the slot, before the last.
+/// How to compute the numbers of the row after a move of the man on the square, if it is the man of the slot, before the last.
 #[inline(always)]
 fn way_from(class: Class, row: u32, from: Square, slot: u32) -> Option<RowWay>
     requires { 64 * row < cells_of class }
@@ -98,8 +98,7 @@ fn way_from(class: Class, row: u32, from: Square, slot: u32) -> Option<RowWay>
     }
 }
 
-/// The row with the white king on the square, if it is one: the square is listed, and not on the diagonal where no man is a
-/// pawn.
+/// The row with the white king on the square, if there is one: the square must be listed, and not on the diagonal if no man is a pawn.
 #[inline(always)]
 fn row_of_king(pawns: bool, terms: RowTerms, to: Square) -> Option<u32>
     ensures value { IfSome result (λ r. IsRowOfKing pawns terms to r) }
@@ -114,8 +113,8 @@ fn row_of_king(pawns: bool, terms: RowTerms, to: Square) -> Option<u32>
 }
 
 impl RowDeparture {
-    /// The departure of the man that stands on the square by the numbers of the row, those from 64 times the row on. There
-    /// is none where the slot, the first at 0, is not that of the man, or is the last.
+    /// The departure of the man that stands on the square by the numbers of the row, which begin at 64 times the row. `None` if the slot, counted
+    /// from 0, is not the man's, or is the last.
     #[inline(always)]
     pub fn new(class: Class, row: u32, from: Square, slot: u32) -> Option<Self>
         requires { 64 * row < cells_of class }
@@ -134,9 +133,9 @@ impl RowDeparture {
         }
     }
 
-    /// The row of the numbers after the man has moved to another square, each with the last man where it was: what
-    /// `Departure::number_to` gives for each. It is not known where two men are like; where the man is the white king and the
-    /// square is not listed, or is on the diagonal where no man is a pawn; or where it is another man and the king is there.
+    /// The row of the numbers after the man has moved to another square, each with the last man in place: the results of `Departure::number_to`.
+    /// `None` if two men are like; if the man is the white king and the square is not listed, or is on the diagonal and no man is a pawn; or if it is
+    /// another man and the king is on the diagonal.
     #[inline(always)]
     pub fn row_to(&self, to: Square) -> Option<u32>
         ensures numbers { IfSome result (λ r. (y : ℕ) (p : Seen) → y < 64
@@ -156,8 +155,7 @@ impl RowDeparture {
         }
     }
 
-    /// The number of the row's position with the last man on its square, after the man has moved to another square: what
-    /// `Departure::number_to` gives.
+    /// The number of the row's position with the last man on its square, after the man has moved to another square: the result of `Departure::number_to`.
     #[inline(always)]
     pub fn number_to(&self, to: Square, last: Square) -> u32
         ensures { (p : Seen) → IsMoved self.now.class (64 * self.now.row + last) self.now.from to p → index_of p ≡ result }
@@ -177,8 +175,7 @@ impl RowDeparture {
     }
 }
 
-/// The row of the numbers after the last man has moved, if they are known to be in one: the last man's new square is the
-/// place in it.
+/// The row of the numbers after the last man has moved, if they are known to be in one: its new square is the place in the row.
 #[inline(always)]
 pub fn row_of_last(class: Class, row: u32) -> Option<u32>
     requires { 64 * row < cells_of class }

@@ -1,8 +1,8 @@
-//! How the row of the numbers after a move of one man is found.
+//! How to compute the row of the numbers after a move of one man.
 ghost use Rattle.std.specs.Prelude.{◌≡◌, ◌+◌, ◌*◌, ◌<◌, ◌≤◌};
 
-/// How the row of the numbers after the man has moved is found: as a sum with its square; as the least images of one, which
-/// need not be a row; or as a sum with its place, where it is the white king.
+/// How to compute the row of the numbers after the man has moved: as a sum with its square; as the least images of a sum, which need not be a row; or, for
+/// the white king, as a sum with its place.
 #[derive(Clone, Copy)]
 pub enum RowWay {
     Sum(RowTerms),
@@ -10,7 +10,7 @@ pub enum RowWay {
     King(RowTerms),
 }
 
-/// The row with the other side to move and without the man, and what a square or a place of the man counts in it.
+/// The row with the other side to move and without the man, and the weight of a square or a place of the man in it.
 #[derive(Clone, Copy)]
 pub struct RowTerms {
     pub rest: u32,

@@ -6,7 +6,7 @@ ghost use Rattle.study_index.specs.LeastImage.{turned_by, stepped_by};
 
 use study_board::Square;
 
-/// What the side to move counts in a number of two, three or four slots.
+/// The weight of the side to move in a number with two, three or four slots.
 #[inline]
 fn side_weight(pawns: bool, count: u32) -> u32
     requires few { 2 ≤ count }
@@ -41,7 +41,7 @@ pub fn side_turned(pawns: bool, count: u32, number: u32) -> u32
     }
 }
 
-/// What a square of a slot counts in a number: 64 times as much for each slot after it.
+/// The weight of a slot's square in a number: 64 for each slot after it, multiplied.
 #[inline]
 pub fn square_weight(count: u32, slot: u32) -> u32
     requires many { count ≤ 4 }
@@ -73,7 +73,7 @@ pub fn square_told(count: u32, slot: u32, number: u32) -> u32
     }
 }
 
-/// The same with the man of a slot on another square.
+/// The number with the other side to move and the man of a slot on another square.
 #[inline]
 #[tactic(auto, unfolding(crate::specs::LeastImage::stepped_by))]
 pub fn stepped(pawns: bool, count: u32, number: u32, slot: u32, to: Square) -> u32

@@ -1,4 +1,4 @@
-//! The image of a square by its bits: the file in the low three, the rank in the high three.
+//! The image of a square, computed on its bits: the file in the low three, the rank in the high three.
 ghost use Rattle.std.specs.Prelude.{◌≡◌, cond};
 ghost use Rattle.study_board.specs.Symmetry.{turned_square};
 ghost use Rattle.study_index.specs.Bits.{transposed, turned_bits};
@@ -33,7 +33,7 @@ fn turned_bits(t: Symmetry, square: u8) -> u8
     transposed(t.diagonal, mirrored) ^ bits_if(t.colours, 56)
 }
 
-/// Where the symmetry takes a square.
+/// The image of a square under the symmetry.
 #[inline]
 #[tactic(auto, using(crate::proofs::TurnedBits::turned_is))]
 pub fn turned(t: Symmetry, square: Square) -> Square

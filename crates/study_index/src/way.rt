@@ -1,10 +1,10 @@
-//! How the number after a move of one man is found.
+//! How to compute the number after a move of one man.
 ghost use Rattle.std.specs.Prelude.{◌≡◌, ◌+◌, ◌*◌, ◌<◌, ◌≤◌};
 
 use study_board::Square;
 
-/// How the number after the man has moved is found: as a sum, where no other image can have a lesser number; as the least
-/// image of one; from the men with the white king elsewhere; or by a search for the man.
+/// How to compute the number after the man has moved: as a sum, if no other image can have a lesser number; as the least image of a sum; anew for another
+/// square of the white king; or by a search for the man.
 #[derive(Clone, Copy)]
 pub enum Way {
     Sum(Terms),
@@ -13,7 +13,7 @@ pub enum Way {
     Search,
 }
 
-/// The number with the other side to move and without the man, and what a square of the man counts in it.
+/// The number with the other side to move and without the man, and the weight of a square of the man in it.
 #[derive(Clone, Copy)]
 pub struct Terms {
     pub rest: u32,

@@ -1,10 +1,10 @@
--- What is told of a part of the cells is told of the cells.
+-- Facts of a part of the cells are facts of the cells.
 use Rattle.std.proofs.Common.{◌≡◌, ℕ, ◌+◌, ◌-◌, ◌*◌, ◌/◌, ◌<◌, ◌≤◌, List, length, slice_index, Bool, true, false, nat_lt, ◌⊎◌, inl, inr}
 use Rattle.std.proofs.Common.{take, drop, arith, refl, ◌∙◌, subst}
 use Rattle.std.proofs.lemmas.Bool.Decides.{nat_tests}
 use Rattle.std.proofs.lemmas.List.{get_or-drop, get_or-take, length-take-le, length-drop}
 
--- what holds of each cell of a part holds of the cells there
+-- a property of each cell of a part holds for the cells there
 pub in_part : (xs : List ℕ) (Q : ℕ → Type 0) (at end i : ℕ) → at ≤ i → i < end → end ≤ length xs
     → ((j : ℕ) → j < length (take (end - at) (drop at xs)) → Q (slice_index (take (end - at) (drop at xs)) j))
     → Q (slice_index xs i)
@@ -23,7 +23,7 @@ below_or i n = by_test (nat_lt i n) refl
     by_test true e = inl (grind (arith, nat_tests))
     by_test false e = inr (grind (arith, nat_tests))
 
--- what holds before the row of a number, in that row up to its end, and from there to another number holds below the other
+-- a property that holds before the row of a number, in that row up to its end, and from there to another number holds below the other
 pub below_row : (Q : ℕ → Type 0) (n e m : ℕ) → ((i : ℕ) → i < 64 * (n / 64) → Q i)
     → ((y : ℕ) → y < 64 → 64 * (n / 64) + y < e → Q (64 * (n / 64) + y)) → e ≤ 64 * (n / 64) + 64
     → ((i : ℕ) → e ≤ i → i < m → Q i) → (i : ℕ) → i < m → Q i

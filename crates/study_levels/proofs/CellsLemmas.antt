@@ -1,4 +1,4 @@
--- How the cells change within a level, step by step.
+-- The changes of cells within a level, step by step.
 use Rattle.std.proofs.Common.{◌≡◌, ◌≢◌, ℕ, zero, suc, [], ◌∷◌, ◌+◌, ◌<◌, ◌≤◌, ◌⊎◌, inl, inr, sym}
 use Rattle.std.proofs.Common.{◌∙◌, subst, arith, below_more, List, slice_index, slice_set, length, get_or, take, Contains}
 use Rattle.std.proofs.Common.{Option, Bool, true, false, not, IsTrue, ◌==◌, refl, ap}
@@ -60,7 +60,7 @@ module _ (k : ℕ) where
     | inr y ↦ elim (f i) [ inl e ↦ inr (sym e ∙ y.0, y.1) | inr x ↦ inr (x.0, y.1) ]
   ]
 
-  -- what holds of the numbers whose cells are not 0 holds of them still, where it holds of those that are set
+  -- a property of the numbers whose cells are not 0 still holds, if it holds for those that are set
   module _ (Has : ℕ → Type 0) (a b : List ℕ) (has : (i : ℕ) → slice_index a i ≢ 0 → Has i) where
     pub lowered-has : (Why : ℕ → Type 0) → ((i : ℕ) → Why i → Has i) → AreLowered Why k a b → (i : ℕ) → slice_index b i ≢ 0 → Has i
     lowered-has Why why f i h = elim (f i) [ inl e ↦ has i (λ z. h (e ∙ z)) | inr x ↦ why i x.0 ]
@@ -71,7 +71,7 @@ module _ (k : ℕ) where
     pub dropped-has : AreDropped k a b → (i : ℕ) → slice_index b i ≢ 0 → Has i
     dropped-has f i h = elim (f i) [ inl e ↦ has i (λ z. h (e ∙ z)) | inr x ↦ absurd (h x.1) ]
 
-  -- none of this changes what wins are told
+  -- none of this changes which wins are encoded
   module _ {P : Type 0} (leads : P → P → Type 0) (mate : P → Type 0) (position : ℕ → Option P) where
     pub tells-same : (old new : List ℕ)
         → ((i : ℕ) → (slice_index new i ≡ slice_index old i) ⊎ (IsWonCell k (slice_index old i) → ⊥)
@@ -99,7 +99,7 @@ module _ (k : ℕ) where
           | inr x ↦ inr (not_won-next k (slice_index old i) x.0, not_won-zero k (slice_index new i) x.1)
         ])
 
--- what holds of the first elements, and of one more
+-- a property of the first elements, and of one more
 pub each-more : {M : Type 0} (Q : M → Type 0) (ms : List M) (i : ℕ) (d : M) → i < length ms
     → ((m : M) → Contains (take i ms) m → Q m) → Q (get_or ms i d) → (m : M) → Contains (take (i + 1) ms) m → Q m
 each-more {M} Q ms i d b before here m c =
@@ -110,7 +110,7 @@ each-more {M} Q ms i d b before here m c =
       | inr e ↦ subst Q e here
     ]
 
--- what holds of the first cells, and of one that is set after them
+-- a property of the first cells, and of one that is set after them
 pub set_below : (Q : ℕ → ℕ → Type 0) (xs : List ℕ) (n c : ℕ) → n < length xs → ((j : ℕ) → j < n → Q j (slice_index xs j))
     → Q n c → (j : ℕ) → j < n + 1 → Q j (slice_index (slice_set xs n c) j)
 set_below Q xs n c b before here = below_more (λ j. Q j (slice_index (slice_set xs n c) j)) n
@@ -127,7 +127,7 @@ at_place (y ∷ ys) x c = by_index (λ h. at_place ys x h) c.0 c.1 c.2
     by_index f zero b e = (zero, b, e)
     by_index f (suc i) b e = let r = f (i, omega arith, e) in (suc r.0, omega (arith, r.1), r.2)
 
--- a position whose moves are these is lost where there is one, and each leads to a win
+-- a position with this list of moves is lost if there is one, and each leads to a win
 pub lost_listed : {P M : Type 0} (legal : P → M → Type 0) (after : P → M → P) (labels : P → Value) (k : ℕ) (p : P)
     (ms : List M) → ((m : M) → legal p m → Contains ms m) → ((m : M) → Contains ms m → legal p m)
     → ((m : M) → Contains ms m → (n : ℕ) × (labels (after p m) ≡ Win n) × (n ≤ k)) → (e : Bool) → e ≡ (length ms == 0)

@@ -9,13 +9,13 @@ use Rattle.study_levels.specs.BestReplies.{lost_with, won_with, drawn_with, give
 use Rattle.study_table.specs.Forced.{LeadsBy, Gives, GivesOutside}
 use Rattle.study_levels.proofs.TallyLemmas.{IsTally, IsTally-empty, IsTally-push, Gives-given_by}
 
--- xs has those of the moves that pass
+-- xs has the moves that pass
 pub record IsSieved {M : Type 0} (ok : M → Type 0) (ms xs : List M) : Type 0 where
   pub there : (m : M) → Contains xs m → Contains ms m
   pub passes : (m : M) → Contains xs m → ok m
   pub kept : (m : M) → Contains ms m → ok m → Contains xs m
 
--- a tally of those of the moves that pass
+-- a tally of the moves that pass
 abbrev pub IsTallyOf : {M : Type 0} → (M → Type 0) → (M → Value) → List M → Option ℕ → Option ℕ → Bool → Type 0
 IsTallyOf {M} ok f ms lost won drawn = (xs : List M) × IsTally f xs lost won drawn × IsSieved ok ms xs
 
@@ -77,7 +77,7 @@ Gives-leads l l' mate f p to from Draw g = record {
   holds = elim g.holds [ inl x ↦ inl (x.0, to x.0 x.1, x.2) | inr x ↦ inr (x.0, λ q k. x.1 q (from q k)) ];
 }
 
--- the values after the moves out of the class give what those moves alone give
+-- the values after the moves out of the class give the value from those moves alone
 pub GivesOutside-given_by : {P M : Type 0} (legal : P → M → Type 0) (after : P → M → P) (home : P → Bool)
     (f : P → Value) (p : P) (ms : List M) → ((m : M) → legal p m → home (after p m) ≡ false → Contains ms m)
     → ((m : M) → Contains ms m → legal p m)

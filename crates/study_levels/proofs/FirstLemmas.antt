@@ -1,4 +1,4 @@
--- What the mates, and the moves out of the class, tell before the levels.
+-- The knowledge from mates, and from the moves out of the class, before the levels.
 use Rattle.std.proofs.Common.{◌≡◌, ◌≢◌, ℕ, zero, suc, ◌+◌, ◌-◌, ◌%◌, ◌<◌, ◌≤◌, ◌⊎◌, inl, inr, sym, subst, refl, arith, Option, Some, None, Bool, true, false}
 use Rattle.study_values.specs.declared.value.Value.{Value}
 use Rattle.study_values.specs.declared.value.Value.TheVariants.{Win, Loss, Draw}
@@ -9,7 +9,7 @@ use Rattle.study_levels.specs.Propagation.{IsInitial, IsHeld, IsHeldCell}
 use Rattle.study_table.proofs.ForcedLemmas.{Mates-Mated, IsGame-unique}
 use Rattle.study_table.proofs.ParityLemmas.{odd-win, even-loss}
 
--- what a cell is worth where no mate is too far for one, it is worth where one may be
+-- the meaning of a cell if no mate is too far for one implies its meaning if one may be
 pub held-more : {P : Type 0} (leads : P → P → Type 0) (mate : P → Type 0) (home : P → Bool) {far more : Bool} → (far ≡ true → more ≡ true)
     → (o : Option P) (k c : ℕ) → IsHeldCell leads mate home far k o c → IsHeldCell leads mate home more k o c
 held-more leads mate home wider None k c h = h
@@ -41,7 +41,7 @@ module _ {P : Type 0} {leads : P → P → Type 0} {mate : P → Type 0} {known 
     is-outside : (q : P) → leads p q → home q ≡ false → IsGame leads mate q (outside q)
     is-outside q l out = outer q (laws.closed p q kp hp l) out
 
-    -- a position mated in some number of plies has only won moves
+    -- a position mated in some number of plies has only moves to won positions
     all-won : (m : ℕ) → Mated leads mate p m → (q : P) → leads p q → (n : ℕ) × Mates leads mate q n
     all-won zero x q l = absurd (unmated x)
     all-won (suc m) (inl x) q l = absurd (unmated x)

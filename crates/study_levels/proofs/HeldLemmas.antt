@@ -1,4 +1,4 @@
--- What cells before a level tell: which positions are won within so many plies, and which are lost in one more.
+-- The meaning of cells before a level: which positions are won within so many plies, and which are lost in one more.
 use Rattle.std.proofs.Common.{◌≡◌, ◌≢◌, ℕ, suc, ◌+◌, ◌-◌, ◌%◌, add-one, ◌<◌, ◌≤◌, ◌⊎◌, inl, inr, sym, ◌∙◌}
 use Rattle.std.proofs.Common.{ap, subst, arith, List, slice_index, Option, Some, Bool, true, []}
 use Rattle.study_values.specs.declared.value.Value.{Value}
@@ -26,7 +26,7 @@ even_or_odd c = grind arith
 pub le_or_above : (c k : ℕ) → (c ≤ k) ⊎ (k < c)
 le_or_above c k = grind arith
 
--- a value that tells of a win tells so by an even cell
+-- a value that is a win is encoded by an even cell
 pub won_cell : (c m : ℕ) → value_of c ≡ Win m → (c % 2 ≡ 0) × (c ≢ 0) × (c ≡ m + 1)
 won_cell c m e = elim (zero_or_not c) [
   | inl z ↦ absurd (let d : value_of c ≡ Draw = ap value_of z in let no : ⊥ = cc in no)
@@ -50,7 +50,7 @@ module _ {P : Type 0} {leads : P → P → Type 0} {mate : P → Type 0} {known 
   pub Mated-image : (n : ℕ) (p q : P) → image p q → Mated leads mate p n → Mated leads mate q n
   Mated-image n p q i h = Mated-along leads mate image (image_keeps laws []) n p q i h
 
-  -- a held cell tells whether its position is won within k plies
+  -- a cell with this meaning encodes whether its position is won within k plies
   pub held-wins : (far : Bool) (k c : ℕ) (p : P) → IsHeld leads mate home far k p c
       → (IsWonCell k c → Mates leads mate p k) × (Mates leads mate p k → IsWonCell k c)
   held-wins far k c p h = (to, from)

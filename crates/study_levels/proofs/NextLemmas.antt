@@ -1,4 +1,4 @@
--- From the cells before a level to those after it.
+-- From the cells before a level to the cells after it.
 use Rattle.std.proofs.Common.{◌≡◌, ◌≢◌, ℕ, zero, suc, ◌+◌, ◌-◌, ◌%◌, add-one, ◌<◌, ◌≤◌, ◌⊎◌, inl, inr, sym, ◌∙◌, ap}
 use Rattle.std.proofs.Common.{subst, refl, arith, List, slice_index, Option, Some, None, Bool, true, false}
 use Rattle.study_values.specs.declared.value.Value.{Value}
@@ -143,7 +143,7 @@ module _ {P : Type 0} {leads : P → P → Type 0} {mate : P → Type 0} {known 
   injective : (n : ℕ) (p q : P) → position n ≡ Some p → position n ≡ Some q → p ≡ q
   injective n p q e f = let g : Some p ≡ Some q = sym e ∙ f in cc
 
-  -- what leads to a position that is lost in exactly k plies is won in one more
+  -- the positions before one that is lost in exactly k plies are won in one more
   pub won-by : (i j : ℕ) (p : P) → k % 2 ≡ 0 → slice_index old j ≡ k + 1 → LeadsTo leads home index position i j
       → position i ≡ Some p → Mates leads mate p (k + 1)
   won-by i j p even e t f =
@@ -158,7 +158,7 @@ module _ {P : Type 0} {leads : P → P → Type 0} {mate : P → Type 0} {known 
       let w : Mates leads mate t.0 (suc k) = (t.1, t.3, Mated-image laws k o.0 t.1 o.2 m) in
       subst (λ (x : P). Mates leads mate x (k + 1)) (injective i t.0 p t.2 f) (subst (Mates leads mate t.0) (sym (add-one k)) w)
 
-  -- a cell that a level of losses leaves
+  -- a cell that a level of losses does not change
   same-even : (n c : ℕ) (p : P) → k % 2 ≡ 0 → position n ≡ Some p → slice_index old n ≡ c
       → ((j : ℕ) → j < size → slice_index old j ≡ k + 1 → LeadsTo leads home index position n j → (c ≢ 0)
       × (c ≤ k + 2)) → IsHeld leads mate home far (k + 1) p c
@@ -257,7 +257,7 @@ module _ {P : Type 0} {leads : P → P → Type 0} {mate : P → Type 0} {known 
       | inl e ↦ elim (fall n) [ inl f ↦ f ∙ e | inr x ↦ absurd (t (sym e ∙ x.0)) ]
     ]
 
-    -- what a cell was
+    -- the cell before
     was : (n : ℕ) → (slice_index new n ≡ slice_index old n)
         ⊎ ((slice_index old n ≡ 0) ⊎ (slice_index old n ≡ k + 2))
         × ((slice_index new n ≡ 0) ⊎ (slice_index new n ≡ k + 2))
@@ -270,7 +270,7 @@ module _ {P : Type 0} {leads : P → P → Type 0} {mate : P → Type 0} {known 
       h : IsHeld leads mate home far k p (slice_index old n)
       h = held-at n p e
 
-      -- a cell that is not set now was not set before, and is the same where it is above
+      -- a cell that is not set after the level was not set before, and is the same if it is above
       was-free : IsFree (k + 1) (slice_index new n) → IsFree k (slice_index old n)
       was-free (inl z) = elim (was n) [
         | inl same ↦ inl (sym same ∙ z)
@@ -297,7 +297,7 @@ module _ {P : Type 0} {leads : P → P → Type 0} {mate : P → Type 0} {known 
       now-unmated : (k' : ℕ) → k ≡ suc k' → IsFree (k + 1) (slice_index new n) → Mated leads mate p (k + 1) → ⊥
       now-unmated k' ek free m = mated-next k' ek n p e (was-free free) (subst (Mated leads mate p) (add-one k) m) no_home no_out
         where
-          -- where the cell is not 0 it is the one before
+          -- a cell that is not 0 is the one before
           above : slice_index new n ≢ 0 → k + 2 < slice_index new n
           above z = elim free [ inl y ↦ absurd (z y) | inr l ↦ omega arith ]
 

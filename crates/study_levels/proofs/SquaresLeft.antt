@@ -22,7 +22,7 @@ module _ (all rest next : ℕ) (h : AreLeft all rest next) where
     first-in = sym (h.left t first-above on) ∙ there
 
     module _ (least : (x : ℕ) → x < t → has rest x ≡ false) where
-      -- between those taken and the first that is left there is none
+      -- no square of the set is between those taken and the first that is left
       pub first-only : (x : ℕ) → next ≤ x → x < t → x < 64 → has all x ≡ false
       first-only x g l on = sym (h.left x g on) ∙ least x l
 
@@ -46,11 +46,11 @@ module _ (all rest next : ℕ) (h : AreLeft all rest next) where
           kept true = refl
           kept false = refl
 
-  -- where none is left there is none from `next` on
+  -- if none is left, no square of the set is at `next` or after it
   pub left-none : rest ≡ 0 → (x : ℕ) → next ≤ x → x < 64 → has all x ≡ false
   left-none e x g on = sym (h.left x g on) ∙ (ap (λ (s : ℕ). has s x) e ∙ has-zero x)
 
--- what holds of the squares taken holds of all where none is left
+-- a property of the squares taken holds for all if none is left
 pub taken-all : (Q : ℕ → Type 0) (all rest next : ℕ) → AreLeft all rest next → ((x : ℕ) → x < next → has all x ≡ true → Q x) → rest ≡ 0
     → (x : ℕ) → x < 64 → has all x ≡ true → Q x
 taken-all Q all rest next h before none x on e = elim (cases_lt x next) [
@@ -58,7 +58,7 @@ taken-all Q all rest next h before none x on e = elim (cases_lt x next) [
   | inr high ↦ absurd (false≢true (sym (left-none all rest next h none x high on) ∙ e))
 ]
 
--- what is in one set and not in another
+-- a member of one set and not of another
 pub in-one : (a b : Bool) → (a && not b) ≡ true → a ≡ true
 in-one true b e = refl
 in-one false b e = absurd (false≢true e)

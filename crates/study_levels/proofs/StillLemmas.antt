@@ -66,7 +66,7 @@ module _ {P : Type 0} {leads : P → P → Type 0} {mate : P → Type 0} {known 
 module _ {P : Type 0} {leads : P → P → Type 0} {mate : P → Type 0} {known : P → Type 0} {home : P → Bool} {index : P
     → ℕ} {outside : P → Value} {position : ℕ → Option P} {size : ℕ} {image : P → P → Type 0}
     (laws : IsClass leads mate known home index outside position size image) (outer : IsRightOutside leads mate known home outside) (cells : List ℕ) where
-  -- where every mate can be told, they are right
+  -- if every mate can be encoded, they are right
   pub still-right : (k : ℕ) → ((j : ℕ) → j < size → slice_index cells j ≤ k)
       → AreHeld leads mate home false k position size cells → AreRight leads mate position size cells
   still-right k near held n b = elim (some_or_none (position n)) [

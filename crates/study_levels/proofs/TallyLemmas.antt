@@ -1,4 +1,4 @@
--- What a tally of the values after some moves tells.
+-- The meaning of a tally of the values after some moves.
 use Rattle.std.proofs.Common.{◌≡◌, ◌≢◌, ℕ, zero, ◌+◌, ◌<◌, ◌≤◌, min, max, ◌⊎◌, ◌↔◌, inl, inr, Bool}
 use Rattle.std.proofs.Common.{true, false, IsTrue, List, [], ◌∷◌, ◌++◌, length, get_or, take, Contains}
 use Rattle.std.proofs.Common.{Option, Some, None, arith, sym, ◌∙◌, subst, refl, ap, add-one}
@@ -25,7 +25,7 @@ abbrev pub TellsDraw : {M : Type 0} → (M → Value) → List M → Bool → Ty
 TellsDraw f ms true = Seen f ms Draw
 TellsDraw f ms false = Seen f ms Draw → ⊥
 
--- what was seen of the values of the moves
+-- the summary of the values of the moves
 pub record IsTally {M : Type 0} (f : M → Value) (ms : List M) (lost won : Option ℕ) (drawn : Bool) : Type 0 where
   pub nearest : IsNearest f ms lost
   pub farthest : IsFarthest f ms won
@@ -132,7 +132,7 @@ module _ {M : Type 0} (f : M → Value) where
       draw = seen-last Draw e;
     }
 
--- what was seen of the labels after all of a position's moves gives the position's value
+-- the summary of the labels after all of a position's moves gives the position's value
 module _ {P M : Type 0} (legal : P → M → Type 0) (after : P → M → P) (mate : P → Type 0) (labels : P → Value) (p : P)
     (ms : List M) (all : (m : M) → legal p m → Contains ms m) (only : (m : M) → Contains ms m → legal p m) where
   abbrev Found : Value → Type 0

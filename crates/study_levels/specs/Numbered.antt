@@ -1,4 +1,4 @@
--- Not part of any public contract: a game whose positions have numbers, and what a table of its cells says of it.
+-- Not part of any public contract: a game whose positions have numbers, and the meaning of a table of its cells.
 use Rattle.std.specs.Prelude.{◌≡◌, ◌≢◌, ℕ, ◌+◌, ◌*◌, ◌<◌, Bool, true, false, IsTrue, List, slice_index, Option, Some}
 use Rattle.study_board.specs.Sets.{has}
 use Rattle.study_moves.specs.declared.moves.Move.{Move}
@@ -17,7 +17,7 @@ pub record Numbered (P : Type 0) : Type 1 where
   pub legal : P → Move → Type 0
   pub after : P → Move → P
   pub mate : P → Type 0
-  -- how many numbers there are, and the position that a number stands for
+  -- the number of numbers, and the position of a number
   pub size : ℕ
   pub position : ℕ → Option P
   -- a position of the class, and its number
@@ -25,9 +25,9 @@ pub record Numbered (P : Type 0) : Type 1 where
   pub index : P → ℕ
   -- a position of the class, or one that a move may lead to from there
   pub known : P → Type 0
-  -- the value of a known position outside of the class
+  -- the value of a known position outside the class
   pub outside : P → Value
-  -- two positions that a symmetry of the board makes one
+  -- two positions that are the same up to a symmetry of the board
   pub image : P → P → Type 0
 
 module _ {P : Type 0} where
@@ -39,15 +39,15 @@ module _ {P : Type 0} where
   abbrev pub IsNumberedClass : Numbered P → Type 0
   IsNumberedClass g = IsClass (leads_in g) g.mate g.known g.home g.index g.outside g.position g.size g.image
 
-  -- known values outside of the class are the game's
+  -- known values outside the class are the game's
   abbrev pub OutsideIsRight : Numbered P → Type 0
   OutsideIsRight g = IsRightOutside (leads_in g) g.mate g.known g.home g.outside
 
-  -- where the value of a position stands
+  -- the location of a position's value
   abbrev pub StandsAt : Numbered P → P → Location → Type 0
   StandsAt g p place = IsPlace g.home g.index g.outside g.size p place
 
-  -- the value of a position, by its cell in the class, and by what is known outside
+  -- the value of a position: from its cell if it is in the class, otherwise from the value known outside
   abbrev pub label_by : Numbered P → List ℕ → P → Value
   label_by g cells = label_of g.home g.index g.outside cells
 
@@ -55,23 +55,23 @@ module _ {P : Type 0} where
   abbrev pub StepLeads : Numbered P → ℕ → ℕ → Type 0
   StepLeads g n m = LeadsTo (leads_in g) g.home g.index g.position n m
 
-  -- a move leads from the position of n to one of a number of the row whose square is in the set
+  -- a move leads from the position of n to a position whose number is in the row and whose square is in the set
   abbrev pub LeadsIntoRow : Numbered P → ℕ → ℕ → ℕ → Type 0
   LeadsIntoRow g row set n = (y : ℕ) × (y < 64) × (has set y ≡ true) × StepLeads g n (64 * row + y)
 
-  -- a number stands for a position
+  -- a number has a position
   abbrev pub HasPosition : Numbered P → ℕ → Type 0
   HasPosition g n = (p : P) × (g.position n ≡ Some p)
 
-  -- so do the numbers of a row whose squares are in the set: 64 numbers, one for each square
+  -- the numbers of a row whose squares are in the set have positions: a row is 64 numbers, one for each square
   abbrev pub HavePositions : Numbered P → ℕ → ℕ → Type 0
   HavePositions g row set = (y : ℕ) → y < 64 → has set y ≡ true → HasPosition g (64 * row + y)
 
-  -- so does each number whose cell is not 0
+  -- each number whose cell is not 0 has a position
   abbrev pub CellsHavePositions : Numbered P → List ℕ → Type 0
   CellsHavePositions g cells = (i : ℕ) → slice_index cells i ≢ 0 → HasPosition g i
 
-  -- the side to move is mated within k plies, whatever it does
+  -- the side to move is mated within k plies, whatever it plays
   abbrev pub IsMatedWithin : Numbered P → ℕ → P → Type 0
   IsMatedWithin g k p = Mated (leads_in g) g.mate p k
 
@@ -79,30 +79,30 @@ module _ {P : Type 0} where
   abbrev pub LosesBy : Numbered P → List ℕ → ℕ → P → Type 0
   LosesBy g cells k p = IsLostBy (leads_in g) (label_by g cells) k p
 
-  -- what the cells give a position
+  -- the value of a position by the cells
   abbrev pub CellsGive : Numbered P → List ℕ → P → Value → Type 0
   CellsGive g cells p v = Gives (leads_in g) g.mate (label_by g cells) p v
 
-  -- what the moves out of the class alone give it
+  -- its value by the moves out of the class alone
   abbrev pub OutsideGives : Numbered P → P → Value → Type 0
   OutsideGives g p v = GivesOutside (leads_in g) g.home g.outside p v
 
-  -- the cell of a number has what the cells give it; or something else
+  -- the cell of a number has the value that the cells give it; or another value
   abbrev pub IsGivenAt : Numbered P → List ℕ → ℕ → Type 0
   IsGivenAt g cells n = IsGivenCell (leads_in g) g.mate (label_by g cells) (g.position n) (slice_index cells n)
 
   abbrev pub IsOtherAt : Numbered P → List ℕ → ℕ → Type 0
   IsOtherAt g cells n = IsOtherCell (leads_in g) g.mate (label_by g cells) (g.position n) (slice_index cells n)
 
-  -- the cells of wins within k plies are those of the positions won within k plies
+  -- the cells encode a win within k plies exactly for the positions won within k plies
   abbrev pub TellWins : Numbered P → ℕ → List ℕ → Type 0
   TellWins g k cells = TellsWins (leads_in g) g.mate k g.position cells
 
-  -- what cells are worth where the mates within k plies are set, and no others
+  -- the meaning of cells when the mates within k plies are set, and no others
   abbrev pub CellIsHeld : Numbered P → Bool → ℕ → ℕ → ℕ → Type 0
   CellIsHeld g far k n c = IsHeldCell (leads_in g) g.mate g.home far k (g.position n) c
 
-  -- so at the numbers of a row whose squares are in the set nothing is known: 64 numbers, one for each square
+  -- nothing is known at the numbers of a row whose squares are in the set: a row is 64 numbers, one for each square
   abbrev pub IsUnknownIn : Numbered P → ℕ → ℕ → Type 0
   IsUnknownIn g row set = OutsideIsRight g → (y : ℕ) → y < 64 → has set y ≡ true → CellIsHeld g false 0 (64 * row + y) 0
 
@@ -117,9 +117,9 @@ module _ {P : Type 0} where
   abbrev pub HasFarMate : Numbered P → Type 0
   HasFarMate g = HasFar (leads_in g) g.mate g.known g.home
 
-  -- ---- what the functions of a level promise
+  -- ---- the promises of the functions of a level
 
-  -- a claim, where what is outside of the class is right and the cells say which positions are won within k plies
+  -- a claim that holds if the values outside the class are right and the cells encode which positions are won within k plies
   abbrev pub WhereWinsAreTold : Numbered P → ℕ → List ℕ → Type 0 → Type 0
   WhereWinsAreTold g k cells Claim = OutsideIsRight g → TellWins g k cells → Claim
 
@@ -127,7 +127,7 @@ module _ {P : Type 0} where
   abbrev pub NoLossBy : Numbered P → List ℕ → ℕ → ℕ → Type 0
   NoLossBy g cells k n = (p : P) → g.position n ≡ Some p → LosesBy g cells k p → ⊥
 
-  -- a cell of n that has a mate in one ply more than k is true; and such a cell stays where it is true
+  -- a cell of n with a mate in one ply more than k is true; and such a cell stays if it is true
   abbrev pub LossIsTrue : Numbered P → ℕ → ℕ → List ℕ → Type 0
   LossIsTrue g k n cells = (p : P) → g.position n ≡ Some p → slice_index cells n ≡ k + 2 → IsMatedWithin g (k + 1) p
 
@@ -135,14 +135,14 @@ module _ {P : Type 0} where
   LossIsKept g k n old new =
       (p q : P) → g.position n ≡ Some p → leads_in g p q → slice_index old n ≡ k + 2 → IsMatedWithin g (k + 1) p → slice_index new n ≡ k + 2
 
-  -- the same of the cells of a row
+  -- `LossIsTrue` and `LossIsKept` for the cells of a row
   abbrev pub RowLossesAreTrue : Numbered P → ℕ → ℕ → List ℕ → Type 0
   RowLossesAreTrue g k row cells = (y : ℕ) → y < 64 → LossIsTrue g k (64 * row + y) cells
 
   abbrev pub RowLossesAreKept : Numbered P → ℕ → ℕ → List ℕ → List ℕ → Type 0
   RowLossesAreKept g k row old new = (y : ℕ) → y < 64 → LossIsKept g k (64 * row + y) old new
 
-  -- the same of all cells
+  -- `LossIsTrue` and `LossIsKept` for all cells
   abbrev pub LossesAreTrue : Numbered P → ℕ → List ℕ → Type 0
   LossesAreTrue g k cells = (i : ℕ) (p : P) → i < g.size → g.position i ≡ Some p → slice_index cells i ≡ k + 2 → IsMatedWithin g (k + 1) p
 
@@ -150,15 +150,15 @@ module _ {P : Type 0} where
   LossesAreKept g k old new =
       (i : ℕ) (p q : P) → g.position i ≡ Some p → leads_in g p q → slice_index old i ≡ k + 2 → IsMatedWithin g (k + 1) p → slice_index new i ≡ k + 2
 
-  -- from cells in which the mates within k plies are set to cells in which those within j are
+  -- from cells in which the mates within k plies are set to cells in which the mates within j plies are
   abbrev pub RaisesLevel : Numbered P → ℕ → ℕ → List ℕ → List ℕ → Type 0
   RaisesLevel g k j old new = OutsideIsRight g → (far : Bool) → CellsAreHeld g far k old → CellsAreHeld g far j new
 
-  -- where no cell has a mate to come, all are right
+  -- once no cell has a mate to come, all cells are right
   abbrev pub EndsRight : Numbered P → Bool → List ℕ → List ℕ → Type 0
   EndsRight g silent old new = OutsideIsRight g → CellsAreHeld g false 0 old → IsTrue silent → CellsAreRight g new
 
-  -- from each win in k plies all that leads to it is marked; from each loss in k plies all is set
+  -- the positions before each win in k plies are marked; those before each loss in k plies are set
   abbrev pub WinsGoBack : Numbered P → ℕ → List ℕ → List ℕ → Type 0
   WinsGoBack g k old new = (i j : ℕ) → j < g.size → slice_index old j ≡ k + 1 → StepLeads g i j → slice_index new i ≢ 0
 

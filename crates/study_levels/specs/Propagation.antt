@@ -1,4 +1,4 @@
--- Not part of any public contract: what a builder knows that goes back from decided positions.
+-- Not part of any public contract: the invariants of a builder that goes back from decided positions.
 use Rattle.std.specs.Prelude.{◌≡◌, ◌≢◌, ◌⊎◌, ℕ, ◌+◌, ◌-◌, ◌%◌, ◌<◌, ◌≤◌, Bool, true, false, List, slice_index, Option, Some, None}
 use Rattle.study_table.specs.Forced.{Mated, Mates, IsGame, IsWin}
 use Rattle.study_values.specs.Cells.{distance_of, value_of}
@@ -9,7 +9,7 @@ use Rattle.study_values.specs.declared.value.Value.TheVariants.{Win, Draw}
 abbrev pub LeadsTo : {P : Type 0} → (P → P → Type 0) → (P → Bool) → (P → ℕ) → (ℕ → Option P) → ℕ → ℕ → Type 0
 LeadsTo {P} leads home index position n m = (p : P) × (q : P) × (position n ≡ Some p) × leads p q × (home q ≡ true) × (index q ≡ m)
 
--- p has a move, and each leads to a position that is won within k plies by its label
+-- p has a move, and each move leads to a position that is won within k plies by its label
 pub record IsLostBy {P : Type 0} (leads : P → P → Type 0) (labels : P → Value) (k : ℕ) (p : P) : Type 0 where
   pub some : (q : P) × leads p q
   pub each : (q : P) → leads p q → (m : ℕ) × (labels q ≡ Win m) × (m ≤ k)
@@ -18,15 +18,15 @@ pub record IsLostBy {P : Type 0} (leads : P → P → Type 0) (labels : P → Va
 abbrev pub IsWonCell : ℕ → ℕ → Type 0
 IsWonCell k c = (c % 2 ≡ 0) × (c ≢ 0) × (c ≤ k + 1)
 
--- the cells of wins within k plies are those of the positions whose side to move mates within k plies
+-- the cells encode a win within k plies exactly for the positions whose side to move mates within k plies
 abbrev pub TellsWins : {P : Type 0} → (P → P → Type 0) → (P → Type 0) → ℕ → (ℕ → Option P) → List ℕ → Type 0
 TellsWins {P} leads mate k position cells =
     (n : ℕ) (p : P) → position n ≡ Some p → (IsWonCell k (slice_index cells n) → Mates leads mate p k)
     × (Mates leads mate p k → IsWonCell k (slice_index cells n))
 
--- What a cell c is worth where the mates within k plies are set, and no others. A cell of at most k + 1 is right. An even one above has a mate
--- that a move out of the class forces, though there may be a shorter one; an odd one above says for how long moves out of the class put
--- off a mate. Where `far`, some move out of the class leads to a mate that no cell can encode.
+-- The meaning of a cell c when the mates within k plies are set, and no others. A cell of at most k + 1 is right. A greater even one is a mate that a move
+-- out of the class forces, though a shorter one may exist; a greater odd one is the time for which moves out of the class put off a mate. `far`: some move
+-- out of the class leads to a mate that no cell can encode.
 pub record IsHeld {P : Type 0} (leads : P → P → Type 0) (mate : P → Type 0) (home : P → Bool) (far : Bool) (k : ℕ) (p : P) (c : ℕ) : Type 0 where
   pub set : c ≢ 0 → c ≤ k + 1 → IsGame leads mate p (value_of c)
   pub unmating : (c ≡ 0) ⊎ (k + 1 < c) → Mates leads mate p k → ⊥
@@ -45,7 +45,7 @@ IsHeldCell leads mate home far k (Some p) c = IsHeld leads mate home far k p c
 abbrev pub AreHeld : {P : Type 0} → (P → P → Type 0) → (P → Type 0) → (P → Bool) → Bool → ℕ → (ℕ → Option P) → ℕ → List ℕ → Type 0
 AreHeld leads mate home far k position size cells = (n : ℕ) → n < size → IsHeldCell leads mate home far k (position n) (slice_index cells n)
 
--- what a value makes of a cell before the levels, if a cell can encode it
+-- the cell of a value before the levels, if a cell can encode it
 abbrev pub IsInitial : Value → ℕ → Bool → Type 0
 IsInitial v c far =
     (v ≡ Draw) × (c ≡ 0) × (far ≡ false)
@@ -54,12 +54,12 @@ IsInitial v c far =
 
 -- ---- how cells change within a level
 
--- cells are set to k + 2 where they were 0 or more, for a reason
+-- cells are set to k + 2, from 0 or from a greater value, for a reason
 abbrev pub AreLowered : (ℕ → Type 0) → ℕ → List ℕ → List ℕ → Type 0
 AreLowered Why k old new =
     (i : ℕ) → (slice_index new i ≡ slice_index old i) ⊎ Why i × (slice_index new i ≡ k + 2) × ((slice_index old i ≡ 0) ⊎ (k + 2 < slice_index old i))
 
--- cells are set to k + 2 where they were 0, for a reason
+-- cells are set to k + 2, from 0, for a reason
 abbrev pub AreAdded : (ℕ → Type 0) → ℕ → List ℕ → List ℕ → Type 0
 AreAdded Why k old new = (i : ℕ) → (slice_index new i ≡ slice_index old i) ⊎ Why i × (slice_index new i ≡ k + 2) × (slice_index old i ≡ 0)
 
@@ -67,25 +67,25 @@ AreAdded Why k old new = (i : ℕ) → (slice_index new i ≡ slice_index old i)
 abbrev pub AreDropped : ℕ → List ℕ → List ℕ → Type 0
 AreDropped k old new = (i : ℕ) → (slice_index new i ≡ slice_index old i) ⊎ (slice_index old i ≡ k + 2) × (slice_index new i ≡ 0)
 
--- the cell at i is set, to c at most
+-- the cell at i is set, to at most c
 abbrev pub IsSetBy : ℕ → List ℕ → ℕ → Type 0
 IsSetBy c cells i = (slice_index cells i ≢ 0) × (slice_index cells i ≤ c)
 
--- cells are set to c for a reason, where they were 0, and if `over`, where they were more than that
+-- cells are set to c for a reason, from 0 or, if `over`, from a greater value
 abbrev pub AreSet : (ℕ → Type 0) → ℕ → Bool → List ℕ → List ℕ → Type 0
 AreSet Why c over old new =
     (i : ℕ) → (slice_index new i ≡ slice_index old i)
     ⊎ Why i × (slice_index new i ≡ c) × ((slice_index old i ≡ 0) ⊎ (over ≡ true) × (c < slice_index old i))
 
--- the cell at i is set, if `over` to c at most
+-- the cell at i is set, and if `over` to at most c
 abbrev pub IsSetWhere : ℕ → Bool → List ℕ → ℕ → Type 0
 IsSetWhere c over cells i = (slice_index cells i ≢ 0) × (over ≡ true → slice_index cells i ≤ c)
 
--- the cell at n alone is set to c, where it was 0 or more
+-- only the cell at n is set to c, from 0 or from a greater value
 abbrev pub IsLowered : ℕ → ℕ → List ℕ → List ℕ → Type 0
 IsLowered n c old new =
     (i : ℕ) → (slice_index new i ≡ slice_index old i) ⊎ (i ≡ n) × (slice_index new i ≡ c) × ((slice_index old i ≡ 0) ⊎ (c < slice_index old i))
 
--- the cell at n alone is set to c, where it was 0
+-- only the cell at n is set to c, from 0
 abbrev pub IsMarked : ℕ → ℕ → List ℕ → List ℕ → Type 0
 IsMarked n c old new = (i : ℕ) → (slice_index new i ≡ slice_index old i) ⊎ (i ≡ n) × (slice_index new i ≡ c) × (slice_index old i ≡ 0)

@@ -1,4 +1,4 @@
-//! What the values after the moves of a position come to.
+//! The value of a position from the values after its moves.
 ghost use Rattle.std.specs.Prelude.{◌≡◌, ◌<◌, None, false};
 ghost use Rattle.std.specs.Option.{ForSome};
 ghost use Rattle.study_levels.specs.BestReplies.{lost_with, won_with, drawn_with, given_by};
@@ -6,7 +6,7 @@ ghost use Rattle.study_values.specs.Cells.{distance_of};
 
 use study_values::Value;
 
-/// What the values seen so far come to: the nearest loss, the farthest win, and whether there is a draw.
+/// A summary of the values seen so far: the nearest loss, the farthest win, and whether there is a draw.
 #[derive(Clone, Copy)]
 pub struct BestReplies {
     pub lost: Option<u8>,
@@ -29,7 +29,7 @@ impl BestReplies {
         }
     }
 
-    /// Takes one more value in.
+    /// The summary with one more value.
     pub fn with(self, value: Value) -> Self
         requires { distance_of value < 255 }
         ensures lost { result.lost ≡ lost_with self.lost value }
@@ -67,7 +67,7 @@ impl BestReplies {
         }
     }
 
-    /// The value of a position whose moves lead to what was seen.
+    /// The value of a position, if these are all values after its moves.
     pub fn value(self, mate: bool) -> Value
         ensures { result ≡ given_by mate self.lost self.won self.drawn }
     {

@@ -1,16 +1,16 @@
-//! Cells looked at by blocks, all of a block at once.
+//! Searching cells by blocks, all cells of a block at once.
 ghost use Rattle.std.specs.Prelude.{◌≡◌, ◌≢◌, ◌+◌, ◌*◌, ◌/◌, ◌<◌, ◌≤◌, ◌^◌, ◌&&◌, ◌==◌, ℕ, true, false, length, slice_index};
 ghost use Rattle.study_board.specs.Sets.{has};
 
 use study_board::{Square, SquareSet};
 
-/// How many cells are folded together before the result is tested.
+/// The number of cells that are folded together before the result is tested.
 const BLOCK: usize = 64;
 
-/// How many cells of a row are compared at once.
+/// The number of cells of a row that are compared at once.
 const PART: usize = 16;
 
-/// Whether some cell is this byte. The loop has no way out, so that many cells are compared at once.
+/// Whether some cell is this byte. The loop has no early exit, so that many cells are compared at once.
 #[inline]
 fn has_byte(cells: &[u8], byte: u8) -> bool
     ensures { result ≡ false → (i : ℕ) → i < length cells.now → slice_index cells.now i ≢ byte }
@@ -38,8 +38,7 @@ fn has_above(cells: &[u8], byte: u8) -> bool
     found
 }
 
-/// A place, from one on, up to which no cell is this byte: where the first block begins that has such a cell, or where no whole
-/// block is left.
+/// The start of the first block, from one place on, that has this byte; if there is none, the place where no whole block is left.
 pub fn next_block(cells: &[u8], from: u32, byte: u8) -> u32
     requires from { from ≤ length cells.now }
     requires small { length cells.now < 2 ^ 32 }
@@ -72,7 +71,7 @@ pub fn has_later(cells: &[u8], level: u8) -> bool
     false
 }
 
-/// The square, where the byte is this one; or none.
+/// The square if the cell is this byte, otherwise the empty set.
 #[inline(always)]
 fn square_where(square: Square, cell: u8, byte: u8) -> SquareSet
     ensures { (y : ℕ) → y < 64 → has result y ≡ (cell == byte && square == y) }
@@ -84,7 +83,7 @@ fn square_where(square: Square, cell: u8, byte: u8) -> SquareSet
     }
 }
 
-/// The places of the cells that are this byte, from one on and before `end`, a square for each.
+/// The places of the cells that are this byte, from one place on and before `end`, as squares.
 #[inline(always)]
 fn squares_among(cells: &[u8], from: usize, end: usize, byte: u8) -> SquareSet
     requires from { from ≤ end }
@@ -102,7 +101,7 @@ fn squares_among(cells: &[u8], from: usize, end: usize, byte: u8) -> SquareSet
     set
 }
 
-/// The places of the cells that are this byte, a square for each. Few parts of the cells have any.
+/// The places of the cells that are this byte, as squares. Few parts of the cells have any.
 #[inline]
 fn squares_with(cells: &[u8], byte: u8) -> SquareSet
     requires { length cells.now ≤ 64 }
@@ -120,7 +119,7 @@ fn squares_with(cells: &[u8], byte: u8) -> SquareSet
     set.union(squares_among(cells, at, cells.len(), byte))
 }
 
-/// Of the 64 cells of a row, those that are this byte: a square for each, in their order.
+/// The places of the cells of a row that are this byte, as squares; a row is 64 cells.
 pub fn row_with(cells: &[u8], row: u32, byte: u8) -> SquareSet
     requires row { 64 * row ≤ length cells.now }
     requires small { length cells.now < 2 ^ 32 }
@@ -132,7 +131,7 @@ pub fn row_with(cells: &[u8], row: u32, byte: u8) -> SquareSet
     squares_with(&cells[first..end], byte)
 }
 
-/// Where the row of a number ends, or all numbers do.
+/// The end of the row of a number, or of all numbers if that comes first.
 pub fn row_end(number: u32, size: u32) -> u32
     requires { number < size }
     ensures above { number < result }

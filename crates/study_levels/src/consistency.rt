@@ -1,4 +1,4 @@
-//! The value that the cells of a table give a number, and whether its own cell has it.
+//! The value that the cells of a table give a number, and whether its own cell has that value.
 ghost use Rattle.std.specs.Prelude.{◌≡◌, ◌<◌, ◌↔◌, false, length, Some, IsTrue, IfSome, IfNone, ℕ};
 ghost use Rattle.study_values.specs.Cells.{distance_of};
 ghost use Rattle.study_levels.specs.Numbered.{CellsAreRight, CellsGive, IsGivenAt, IsNumberedClass, IsOtherAt, OutsideIsRight, label_by};
@@ -21,7 +21,7 @@ pub fn label<G: Game>(game: &G, cells: &[u8], at: &G::Position) -> Value
     }
 }
 
-/// What the labels after a position's moves give it.
+/// The value of a position from the labels after its moves.
 pub fn value_from_moves<G: LabelledGame>(
     game: &G,
     cells: &[u8],
@@ -72,7 +72,7 @@ pub fn first_inconsistent<G: LabelledGame>(game: &G, cells: &[u8]) -> Option<u32
     None
 }
 
-/// Whether cells are right, whatever they hold.
+/// Whether cells are right, whatever bytes they are.
 pub fn are_right<G: LabelledGame>(game: &G, cells: &[u8]) -> bool
     requires laws { IsNumberedClass (G.numbered game.now) }
     requires cells { length cells.now ≡ (G.numbered game.now).size }

@@ -1,4 +1,4 @@
-//! The game that a table is of: the positions of a class, by numbers.
+//! The game of a table: the positions of a class, by numbers.
 ghost use Rattle.std.specs.Prelude.{◌≡◌, ◌↔◌, ◌<◌, ℕ, true, false, IsTrue, Some, Contains};
 ghost use Rattle.study_levels.specs.Numbered.{Numbered, StandsAt, StepLeads};
 ghost use Rattle.study_values.specs.declared.value.Value.{Value};
@@ -8,7 +8,7 @@ use arrayvec::ArrayVec;
 use study_moves::{Move, MoveList};
 use study_values::Value;
 
-/// Where the value of a position stands.
+/// The location of a position's value.
 #[derive(Clone, Copy)]
 pub enum Location {
     Cell(u32),
@@ -44,7 +44,7 @@ pub trait Game {
         requires { (numbered self.now).known at.now }
         ensures { StandsAt (numbered self.now) at.now result };
 
-    /// Legal moves, with each one that leads out of the class.
+    /// Legal moves, among them each one that leads out of the class.
     fn leaving(&self, at: &Self::Position) -> MoveList
         requires numbered { (n : ℕ) × ((numbered self.now).position n ≡ Some at.now) }
         ensures all { (m : Move) → (numbered self.now).legal at.now m → (numbered self.now).home ((numbered self.now).after at.now m) ≡ false

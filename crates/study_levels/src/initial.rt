@@ -1,4 +1,4 @@
-//! What a number is worth before the levels: the mates, and what the moves out of the class alone give.
+//! The value of a number before the levels: mates, and the result of the moves out of the class alone.
 ghost use Rattle.std.specs.Prelude.{◌≡◌, ◌≢◌, ◌+◌, ◌*◌, ◌<◌, ◌≤◌, ◌⊎◌, ℕ, true, false, length, slice_index, None, Some};
 ghost use Rattle.study_board.specs.Sets.{has};
 ghost use Rattle.study_levels.specs.Propagation.{IsInitial};
@@ -13,7 +13,7 @@ use crate::stepped::SteppedGame;
 use study_board::SquareSet;
 use study_values::{MAX_DISTANCE, Value};
 
-/// Takes the value of a position out of the class into a replies.
+/// Takes the value of a position outside the class into account.
 pub fn with_conversion<G: Game>(game: &G, replies: BestReplies, at: &G::Position) -> BestReplies
     requires { (G.numbered game.now).known at.now }
     ensures in_lost { (G.numbered game.now).home at.now ≡ true → result.lost ≡ replies.lost }
@@ -29,7 +29,7 @@ pub fn with_conversion<G: Game>(game: &G, replies: BestReplies, at: &G::Position
     }
 }
 
-/// What the moves out of the class alone give a position.
+/// The value of a position from its moves out of the class alone.
 pub fn value_by_conversion<G: Game>(game: &G, at: &G::Position) -> Value
     requires laws { IsNumberedClass (G.numbered game.now) }
     requires numbered { (n : ℕ) × ((G.numbered game.now).position n ≡ Some at.now) }
@@ -48,14 +48,14 @@ pub fn value_by_conversion<G: Game>(game: &G, at: &G::Position) -> Value
     replies.value(false)
 }
 
-/// What a number begins with: its cell, and whether it has a mate that no cell can encode.
+/// The initial state of a number: its cell, and whether it has a mate that no cell can encode.
 #[derive(Clone, Copy)]
 pub struct Initial {
     pub cell: u8,
     pub far: bool,
 }
 
-/// What a value makes of a cell.
+/// The initial state for a value.
 pub fn initial_by_value(value: Value) -> Initial
     ensures { IsInitial value result.cell result.far }
 {
@@ -77,7 +77,7 @@ pub fn initial_by_value(value: Value) -> Initial
     }
 }
 
-/// What a number begins with, by its moves.
+/// The initial state of a number, computed from its moves.
 pub fn initial_by_moves<G: Game>(game: &G, number: u32) -> Initial
     requires laws { IsNumberedClass (G.numbered game.now) }
     requires number { number < (G.numbered game.now).size }
@@ -106,8 +106,7 @@ fn clear_all(cells: &mut [u8])
     cells.fill(0);
 }
 
-/// Writes the cell that a number begins with, where the class has that number, and returns whether it has a mate that no cell
-/// can encode.
+/// Writes the initial cell of a number, if the class has that number, and returns whether it has a mate that no cell can encode.
 #[inline]
 fn write_first<G: SteppedGame>(game: &G, cells: &mut [u8], number: u32) -> bool
     requires laws { IsNumberedClass (G.numbered game.now) }
@@ -125,8 +124,7 @@ fn write_first<G: SteppedGame>(game: &G, cells: &mut [u8], number: u32) -> bool
     first.far
 }
 
-/// Writes the cells that the numbers of a row begin with whose squares are in the set, and returns whether some have a mate
-/// that no cell can encode.
+/// Writes the initial cells of the numbers of a row whose squares are in the set, and returns whether some have a mate that no cell can encode.
 #[inline]
 fn write_each_first<G: SteppedGame>(
     game: &G,
@@ -160,7 +158,7 @@ fn write_each_first<G: SteppedGame>(
     far
 }
 
-/// What the numbers of a row begin with whose cells are 0, and whether some mate cannot be encoded.
+/// Writes the initial cells of the numbers of a row whose cells are 0, and returns whether some mate cannot be encoded.
 #[inline]
 fn initialise_row<G: SteppedGame>(game: &G, cells: &mut [u8], row: u32) -> bool
     requires laws { IsNumberedClass (G.numbered game.now) }
@@ -177,7 +175,7 @@ fn initialise_row<G: SteppedGame>(game: &G, cells: &mut [u8], row: u32) -> bool
     write_each_first(game, cells, row, unknown.complement())
 }
 
-/// What all numbers begin with, and whether some mate cannot be encoded.
+/// Writes the initial cells of all numbers, and returns whether some mate cannot be encoded.
 pub fn initialise<G: SteppedGame>(game: &G, cells: &mut [u8]) -> bool
     requires laws { IsNumberedClass (G.numbered game.now) }
     requires cells { length cells.old ≡ (G.numbered game.now).size }

@@ -1,4 +1,4 @@
-//! Levels: from the mates in at most so many plies to those in one more.
+//! Levels: from the mates in at most so many plies to the mates in one more.
 ghost use Rattle.std.specs.Prelude.{◌≡◌, ◌≢◌, ◌+◌, ◌*◌, ◌^◌, ◌<◌, ◌≤◌, ◌⊎◌, ◌%◌, ℕ, false, length, slice_index, IsTrue};
 ghost use Rattle.study_levels.specs.Propagation.{AreAdded, AreDropped, AreLowered};
 ghost use Rattle.study_levels.specs.Numbered.{CellsAreRight, CellsHavePositions, EndsRight, HasFarMate, IsNumberedClass};
@@ -35,7 +35,7 @@ pub fn propagate_losses<G: SteppedGame>(game: &G, cells: &mut [u8], level: u8) -
     examined
 }
 
-/// Marks all that leads to a position won in `level` plies, where it has no mate yet: it may be lost in one more.
+/// Marks all positions before one that is won in `level` plies and that have no mate yet: they may be lost in one more.
 pub fn propagate_wins<G: SteppedGame>(game: &G, cells: &mut [u8], level: u8) -> u64
     requires laws { IsNumberedClass (G.numbered game.now) }
     requires level { level < 254 }
@@ -58,7 +58,7 @@ pub fn propagate_wins<G: SteppedGame>(game: &G, cells: &mut [u8], level: u8) -> 
     examined
 }
 
-/// Looks at the numbers of a row that may be lost in `level + 1` plies: their cells stay where they are, and else are 0.
+/// Tests the numbers of a row that may be lost in `level + 1` plies: the cells of those that are lost stay, the others are set to 0.
 fn confirm_row<G: SteppedGame>(game: &G, cells: &mut [u8], row: u32, level: u8) -> u64
     requires laws { IsNumberedClass (G.numbered game.now) }
     requires level { level < 254 }
@@ -77,8 +77,7 @@ fn confirm_row<G: SteppedGame>(game: &G, cells: &mut [u8], row: u32, level: u8) 
     u64::from(candidates.len())
 }
 
-/// Looks at all numbers that may be lost in `level + 1` plies: those that are marked, and those that moves out of the class
-/// make due. Each is tested once.
+/// Tests all numbers that may be lost in `level + 1` plies: the marked ones, and those that moves out of the class make due. Each is tested once.
 pub fn confirm_losses<G: SteppedGame>(game: &G, cells: &mut [u8], level: u8) -> u64
     requires laws { IsNumberedClass (G.numbered game.now) }
     requires level { level < 254 }
@@ -116,7 +115,7 @@ pub fn step<G: SteppedGame>(game: &G, cells: &mut [u8], level: u8) -> u64
     }
 }
 
-/// The result of the levels: whether they ended with no mate left to come, and how much they examined.
+/// The result of the levels: whether they ended with no mate left to come, and the number of positions examined.
 #[derive(Clone, Copy)]
 pub struct LevelsDone {
     pub silent: bool,
@@ -149,14 +148,14 @@ pub fn all_levels<G: SteppedGame>(game: &G, cells: &mut [u8]) -> LevelsDone
     }
 }
 
-/// What filling came to: whether every distance fits a cell, and how many numbers were decoded and positions gone back to.
+/// The result of filling a table: whether every distance fits a cell, and the number of numbers decoded and positions gone back to.
 #[derive(Clone, Copy)]
 pub struct Filled {
     pub fits: bool,
     pub examined: u64,
 }
 
-/// Fills cells with the values of a class, whatever they held.
+/// Fills cells with the values of a class, whatever bytes they were.
 pub fn fill<G: SteppedGame>(game: &G, cells: &mut [u8]) -> Filled
     requires laws { IsNumberedClass (G.numbered game.now) }
     requires cells { length cells.old ≡ (G.numbered game.now).size }

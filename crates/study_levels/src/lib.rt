@@ -1,8 +1,7 @@
 //! Tables built level by level and checked, over any game whose positions have numbers.
 //!
-//! `fill` writes into each cell the least forced mate of the position of its number; `are_right` answers yes exactly to such cells, whatever
-//! made them. What a game has to grant for that is in the traits `Game`, `LabelledGame` and `SteppedGame`. Chess as such a game is
-//! `study_retro`.
+//! `fill` writes into each cell the least forced mate of the position of its number; `are_right` returns true exactly for such cells, however they were made.
+//! The traits `Game`, `LabelledGame` and `SteppedGame` say what a game must provide for that. Chess as such a game is `study_retro`.
 #![tactic(auto)]
 
 mod best_replies;

@@ -10,7 +10,7 @@ use crate::stepped::LabelledGame;
 use study_board::SquareSet;
 use study_values::Value;
 
-/// Sets a cell, unless it has a mate as near.
+/// Sets a cell, unless it has as near a mate already.
 pub fn lower_cell(cells: &mut [u8], number: u32, cell: u8)
     requires number { number < length cells.old }
     requires cell { 0 < cell }
@@ -23,7 +23,7 @@ pub fn lower_cell(cells: &mut [u8], number: u32, cell: u8)
     }
 }
 
-/// Sets a cell, unless it has a mate.
+/// Sets a cell, unless it has a mate already.
 pub fn mark_cell(cells: &mut [u8], number: u32, cell: u8)
     requires number { number < length cells.old }
     requires cell { 0 < cell }
@@ -44,7 +44,7 @@ fn clear_cell(cells: &mut [u8], number: u32)
     cells[number as usize] = 0;
 }
 
-/// Sets the cells of a row to 0 whose squares are in the set.
+/// Sets to 0 the cells of a row whose squares are in the set.
 pub fn clear_in_row(cells: &mut [u8], row: u32, squares: SquareSet)
     requires row { 64 * row ≤ length cells.old }
     requires small { length cells.old < 2 ^ 32 }
@@ -63,7 +63,7 @@ pub fn clear_in_row(cells: &mut [u8], row: u32, squares: SquareSet)
     }
 }
 
-/// A position that is lost in `level` plies: what leads to it is won in one more.
+/// For a position that is lost in `level` plies: the positions before it are won in one more.
 pub fn lower_by_moves<G: Game>(game: &G, cells: &mut [u8], number: u32, level: u8) -> u64
     requires laws { IsNumberedClass (G.numbered game.now) }
     requires level { level < 254 }
@@ -79,7 +79,7 @@ pub fn lower_by_moves<G: Game>(game: &G, cells: &mut [u8], number: u32, level: u
     before.len() as u64
 }
 
-/// A position that is won in `level` plies: what leads to it is marked, unless it has a mate.
+/// For a position that is won in `level` plies: the positions before it are marked, unless they have a mate.
 pub fn mark_by_moves<G: Game>(game: &G, cells: &mut [u8], number: u32, level: u8) -> u64
     requires laws { IsNumberedClass (G.numbered game.now) }
     requires level { level < 254 }
@@ -95,7 +95,7 @@ pub fn mark_by_moves<G: Game>(game: &G, cells: &mut [u8], number: u32, level: u8
     before.len() as u64
 }
 
-/// Whether a position has a move, and each leads to a win within `level` plies.
+/// Whether a position has a move, and each move leads to a win within `level` plies.
 pub fn is_lost<G: LabelledGame>(
     game: &G,
     cells: &[u8],
@@ -128,7 +128,7 @@ pub fn is_won(value: Value, level: u8) -> bool
     }
 }
 
-/// Whether a cell has a win within `level` plies: without a value made of it, so that many are looked at fast.
+/// Whether a cell has a win within `level` plies, without decoding its value, so that many are tested fast.
 #[inline]
 pub fn tells_win(cell: u8, level: u8) -> bool
     ensures { IsTrue result ↔ ((m : ℕ) × (value_of cell ≡ Value.Win m) × (m ≤ level)) }
@@ -136,7 +136,7 @@ pub fn tells_win(cell: u8, level: u8) -> bool
     cell != 0 && cell % 2 == 0 && cell - 1 <= level
 }
 
-/// Whether the position of a number has a move, and each leads to a win within `level` plies.
+/// Whether the position of a number has a move, and each move leads to a win within `level` plies.
 pub fn is_lost_by_moves<G: LabelledGame>(game: &G, cells: &[u8], number: u32, level: u8) -> bool
     requires laws { IsNumberedClass (G.numbered game.now) }
     requires number { number < (G.numbered game.now).size }

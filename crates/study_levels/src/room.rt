@@ -21,7 +21,7 @@ impl<'a, A: Allocator> Model for BuildRoom<'a, A> {
 }
 
 impl<'a, A: Allocator> BuildRoom<'a, A> {
-    /// Room for a table of so many cells.
+    /// Room for a table with so many cells.
     pub fn new(alloc: &'a A, cells: u32) -> Result<Self, AllocError>
         ensures { IfOk result (λ room. room ≡ cells) }
     {
@@ -29,7 +29,7 @@ impl<'a, A: Allocator> BuildRoom<'a, A> {
         Ok(BuildRoom { cells })
     }
 
-    /// For how many cells there is room.
+    /// The number of cells for which there is room.
     pub fn cells(&self) -> u32
         ensures { result ≡ self.now }
     {

@@ -32,7 +32,7 @@ use Rattle.study_marks.proofs.MarksShown.{AllAreTold-right, right-told, AreTold-
 abbrev pub bare : {L : Type 0} → Plain L → Plain (Unit {0})
 bare t = mapped_tree (λ _. tt) t
 
--- the marks that are shown change no node
+-- showing marks changes no node
 bare-shown : (a : Aim) (d : ℕ) (q : Told) (f : Forest Label) → mapped (λ (x : Mark). tt {0}) (shown a d q f) ≡ mapped (λ (l : Label). tt {0}) f
 bare-shown a d q none = refl
 bare-shown a d q (more m l b r) =
@@ -42,11 +42,11 @@ bare-shown a d q (more m l b r) =
 pub bare-marked : (k : BenchState) → (plain_study (marked k)).tree ≡ bare k.study.tree
 bare-marked k = ap (λ f. record { label = tt; below = f }) (bare-shown (aim_of k.study) 0 k.study.tree.label.told k.study.tree.below)
 
--- what is told and not the faults decides the nodes
+-- the evaluations without the faults determine the nodes
 pub bare-told : (t : Plain Label) → bare (told_tree t) ≡ bare t
 bare-told t = ap (λ f. record { label = tt; below = f }) (mapped-mapped (λ (l : Label). l.told) (λ (x : Told). tt {0}) t.below)
 
--- edits keep a study one
+-- edits keep the invariants of a study
 IsPlayable-place : {L : Type 0} (e : ℕ → Forest L → Forest L) → ((p : Position) (k : ℕ) (f : Forest L) → IsPlayable p f → IsPlayable p (e k f))
     → (p : Position) (f : Forest L) (k : ℕ) (ks : List ℕ) → IsPlayable p f → IsPlayable p (place_edited e f k ks)
 IsPlayable-place e keeps p f k [] h = keeps p k f h
@@ -147,7 +147,7 @@ fits-moved_up p t (k ∷ ks) h = record {
   shallow = IsWithin-place raised_at IsWithin-raised_at 256 t.below k ks h.shallow;
 }
 
--- the nodes, from what is told
+-- the nodes, from the evaluations
 bare-removed : (t u : Plain Label) (ks : List ℕ) → told_tree u ≡ without (told_tree t) ks → bare u ≡ without (bare t) ks
 bare-removed t u ks e = sym (bare-told u) ∙ ap bare e ∙ mapped-without (λ (x : Told). tt {0}) (told_tree t) ks ∙ ap (λ x. without x ks) (bare-told t)
 
@@ -266,7 +266,7 @@ counted-later n old new e = ap counted e ∙ sym (counted_times-counted n old)
 abbrev err_of : {A : Type 0} → Refusal A → Result (Unit {0}) (Refusal A)
 err_of r = Err r
 
--- what the answer to a call says of the refusal
+-- the refusal, from the result of a call
 match-err : {A : Type 0} (o : Option (Refusal A)) (r : Result (Unit {0}) (Refusal A)) (f : Refusal A) → o ≡ Some f
     → IsErrAnd r (λ x. x ≡ f) → MatchOption o (IsOk r) (λ fault. r ≡ Err fault)
 match-err o (Ok x) f e h = absurd h
@@ -309,7 +309,7 @@ promote-ok {A = A} b k steps path r u same way e h =
 pub match-ok : {A : Type 0} (o : Option (Refusal A)) (P : Type 0) (Q : Refusal A → Type 0) → o ≡ None → P → MatchOption o P Q
 match-ok o P Q e h = subst (λ p. MatchOption p P Q) (sym e) h
 
--- the marks that are shown stand on a study
+-- the marks are those of a study
 pub study-marked : (b k : BenchState) → b ≡ k → IsStudy b.study → IsStudy (marked k)
 study-marked b k e h =
     subst (λ (x : BenchState). IsStudy (marked x)) e

@@ -1,4 +1,4 @@
--- A bench with the same nodes, and labels written anew.
+-- A bench with the same nodes and new labels.
 use Rattle.std.proofs.Common.{◌≡◌, ℕ, ◌+◌, List, [], ◌++◌, refl, sym, ap, ◌∙◌, subst}
 use Rattle.study_board.specs.Position.{Position, IsValid}
 use Rattle.study_moves.specs.Rules.{after}
@@ -49,7 +49,7 @@ stipulated-right k stipulation u n e s h =
     right-told (record { study = restipulated k.study stipulation u; relabelled = n }) s
     (subst (AllAreTold k.study.start.position) (sym e) (AllAreTold-right k h))
 
--- what an empty list tells
+-- an empty list keeps the evaluations
 retold-none : (n : ℕ) (f : Forest Told) → retold [] n f ≡ f
 retold-none n none = refl
 retold-none n (more m t b r) = ap (λ x. more m t x (retold [] (n + 1 + nodes_in b) r)) (retold-none (n + 1) b)
@@ -58,7 +58,7 @@ retold-none n (more m t b r) = ap (λ x. more m t x (retold [] (n + 1 + nodes_in
 pub told-kept : (t u : Plain Label) → told_tree u ≡ retold_tree [] (told_tree t) → told_tree u ≡ told_tree t
 told-kept t u e = e ∙ ap (λ f. record { label = t.label.told; below = f }) (retold-none 1 (told_tree t).below)
 
--- what any list tells changes no node
+-- no list of evaluations changes a node
 bare-retold : (all : List Told) (n : ℕ) (f : Forest Told) → mapped (λ (x : Told). tt {0}) (retold all n f) ≡ mapped (λ (x : Told). tt {0}) f
 bare-retold all n none = refl
 bare-retold all n (more m t b r) =
@@ -98,7 +98,7 @@ module _ (all : List Told) (k : BenchState) (start : Start) (u : Plain Label) (n
       → IsKeptRight (record { study = restarted k.study start u; relabelled = n })
   shifted-right s h = right-told (record { study = restarted k.study start u; relabelled = n }) s (subst (AllAreTold start.position) (sym e) h)
 
--- what is probed for a study with this start
+-- the probes for a study with this start
 asked-mapped : {L M : Type 0} (g : L → M) (p : Position) (f : Forest L) → asked_below p (mapped g f) ≡ asked_below p f
 asked-mapped g p none = refl
 asked-mapped g p (more m l b r) =
@@ -117,7 +117,7 @@ asked-shifted b k start same =
 pub asked-plain : (s : Study Mark) → positions_asked (plain_study s) ≡ positions_asked s
 asked-plain s = ap (λ x. asked_at s.start.position ++ x) (asked-mapped (λ (x : Mark). tt {0}) s.start.position s.tree.below)
 
--- an answer that hands a refusal on
+-- a result that passes a refusal on
 pub same-refusal : {T A : Type 0} (r : Result T (Refusal A)) (f : Refusal A) (held : Class → Bool)
     (asked : List Position) → IsErrAnd r (λ x. x ≡ f) → IsOutside held asked f → IfErr r (IsOutside held asked)
 same-refusal (Ok x) f held asked e h = absurd e

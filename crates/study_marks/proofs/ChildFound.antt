@@ -73,7 +73,7 @@ module _ {L : Type 0} where
       later ∙ ap (λ j. place_from j m (skipped j f)) n
       ∙ sym (ap (place_from k m) x.3 ∙ ap (λ b. if b then Some k else place_from (suc k) m (skipped (suc k) f)) (ap (same_move m) same ∙ h))
 
-  -- a spot tells how many children there are
+  -- a spot shows its number of children
   node-children : (f : Forest L) (k : ℕ) (ks : List ℕ) (s : Spot L) → twig_spot (node_in f k ks) ≡ Some s → s.children ≡ children_at f (k ∷ ks)
   node-children none k ks s e = let no : ⊥ = cc in absurd no
   node-children (more m l b r) zero [] s e =

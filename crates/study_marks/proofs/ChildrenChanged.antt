@@ -1,4 +1,4 @@
--- A child more, one less, or two exchanged: how the faults of the parent change.
+-- One more child, one less, or two exchanged: the change of the parent's faults.
 use Rattle.std.proofs.Common.{◌≡◌, ℕ, ◌+◌, ◌<◌, List, [], ◌∷◌, ◌++◌, length, Bool, true, false, Some, None, refl, sym, ap, ◌∙◌, arith, zero, suc, subst, IsTrue}
 use Rattle.std.specs.Prelude.{if◌then◌else◌, Result, Ok, Err, IsOk, MatchOption, not, nat_eq, nat_le}
 use Rattle.study_moves.specs.declared.moves.Move.{Move}
@@ -19,7 +19,7 @@ use Rattle.study_marks.specs.FaultSums.{told_at, counted_faults, faults_newly_fi
 use Rattle.study_marks.proofs.FaultSums.{AddUpBut-edited}
 use Rattle.study_marks.proofs.PathRenewed.{has_spot-front, twig-of}
 
--- the faults at place k of nodes side by side
+-- the faults at place k of sibling nodes
 abbrev pub nth_faults : ℕ → Forest Label → ℕ
 nth_faults k none = 0
 nth_faults zero (more m l b r) = l.faults
@@ -37,12 +37,12 @@ faults_of-deep (more m l b r) zero (i ∷ is) k = faults_of-deep b i is k
 faults_of-deep (more m l b r) (suc j) [] k = faults_of-deep r j [] k
 faults_of-deep (more m l b r) (suc j) (i ∷ is) k = faults_of-deep r j (i ∷ is) k
 
--- what is read at a path's end
+-- the node at a path's end
 pub faults_of-spot : (t : Plain Label) (front : List ℕ) (k : ℕ) → faults_of (spot_at t (front ++ k ∷ [])) ≡ nth_faults k (below_at t.below front)
 faults_of-spot t [] k = faults_of-twig t.below k
 faults_of-spot t (j ∷ js) k = faults_of-deep t.below j js k
 
--- what is below the path's node, after an edit there
+-- the forest below the path's node, after an edit there
 pub below_at-edited : (e : Forest Label → Forest Label) (f : Forest Label) (ks : List ℕ) → IsTrue (has_node f ks)
     → below_at (below_edited e f ks) ks ≡ e (below_at f ks)
 below_at-edited e f [] h = refl
@@ -159,7 +159,7 @@ sum-raised false (suc (suc k)) (more m l b r) =
     let sum : l.faults + all_faults (raised_at (suc k) r) + 0 ≡ l.faults + all_faults r + 0 =
     omega (arith, all-raised (suc k) r) in sum
 
--- an edit of what is below the path's node: then that node is off
+-- an edit of the forest below the path's node: then the faults of that node are off
 pub IsOff-edited : (a : Aim) (t : Plain Label) (e : Forest Label → Forest Label) (ks : List ℕ) (minus plus : ℕ)
     → ((s : Forest Label) → AddUp a (length ks) (told_at t.label.told t.below ks) s → AddUp a (length ks) (told_at t.label.told t.below ks) (e s))
     → faults_below (hero_moves a (length ks)) (e (below_at t.below ks)) + minus ≡ faults_below (hero_moves a (length ks)) (below_at t.below ks) + plus
@@ -242,7 +242,7 @@ off-raised a t front k there h =
     (subst (λ n. IsOff a new front (faults_of_first g k n) (faults_of_first g k (faults_of (spot_at t (front ++ k ∷ []))))) now
     (subst (λ n. IsOff a new front (faults_of_first g k (nth_faults k (raised_at k (below_at t.below front)))) (faults_of_first g k n)) was off))
 
--- the path's front leads to a node still
+-- the path's front still leads to a node
 kept-front : {L : Type 0} (e : Forest L → Forest L) (f : Forest L) (ks : List ℕ) → IsTrue (has_node f ks) → IsTrue (has_node (below_edited e f ks) ks)
 kept-front e f [] h = refl
 kept-front e none (k ∷ ks) h = h
@@ -304,7 +304,7 @@ raised-off a t new steps front k raised lowered minus plus path e er el em ep h 
     let four = subst (λ n. IsOff a new front n (faults_of_first g k (faults_of (spot_at t steps)))) (ap (faults_of_first g k) (sym el) ∙ sym em) three in
     subst (λ n. IsOff a new front minus n) (ap (faults_of_first g k) (sym er) ∙ sym ep) four
 
--- what is told at the path's node is what is shown there
+-- the evaluation at the path's node is the one shown there
 told-spot-in : (q : Told) (f : Forest Label) (k : ℕ) (ks : List ℕ) (w : Twig Label) → node_in f k ks ≡ Some w → told_at q f (k ∷ ks) ≡ w.label.told
 told-spot-in q none k ks w e = let no : ⊥ = cc in absurd no
 told-spot-in q (more m l b r) zero [] w e = ap (λ (u : Twig Label). u.label.told) (let s : record { played = m; label = l; below = b } ≡ w = cc in s)

@@ -28,7 +28,7 @@ use Rattle.study_marks.specs.Laws.{others_that_hold, DualCountsOthers}
 use Rattle.study_marks.proofs.StudyEdits.{same_move-refl}
 use Rattle.study_marks.proofs.OneAnnotation.{one-value}
 
--- two moves that are one
+-- two moves that are the same
 both : (b c : Bool) → (b && c) ≡ true → (b ≡ true) × (c ≡ true)
 both true c h = (refl, h)
 both false c h = absurd (false≢true h)
@@ -59,11 +59,11 @@ in-least lo [] m h i = absurd i
 in-least lo (n ∷ ms) m h (inl e) = omega (arith, h.0, ap move_place e)
 in-least lo (n ∷ ms) m h (inr i) = omega (arith, h.0, in-least (move_place n + 1) ms m h.1 i)
 
--- 1 where a truth value says so
+-- 1 if the truth value is true
 abbrev one_if : Bool → ℕ
 one_if b = if b then 1 else 0
 
--- what one of the moves counts
+-- the count for one of the moves
 abbrev counts : Bool → Bool → ℕ
 counts same held = if same then 0 else (if held then 1 else 0)
 

@@ -26,7 +26,7 @@ use Rattle.study_marks.specs.EditLists.{IsStopped, asked_after_edits, HasAskedUp
 use Rattle.study_marks.proofs.ValuesAsked.{missing-same, unread-same}
 use Rattle.study_marks.proofs.PositionsListed.{AreTablesHeld-same, take-one}
 
--- tables that are held at one time are held at another
+-- tables that are loaded in one state are loaded in another
 outside-same : {A : Type 0} (held now : Class → Bool) (ps : List Position) (r : Refusal A)
     → ((c : Class) → now c ≡ held c) → IsOutside now ps r → IsOutside held ps r
 outside-same held now ps OutOfMemory same h = h
@@ -65,7 +65,7 @@ refusal-same held now s (edits.Tag name text) r same h = h
 accepted-same : {A : Type 0} (held now : Class → Bool) (s : Plainly) (e : Edit A) → ((c : Class) → now c ≡ held c) → IsAccepted now s e → IsAccepted held s e
 accepted-same held now s e same h = record { allowed = h.allowed; found = record { each = AreTablesHeld-same held now (questions_of s e) same h.found.each } }
 
--- one edit more
+-- one more edit
 module _ {A : Type 0} where
   edited-more : (s : Plainly) (es : List (Edit A)) (e : Edit A) → edited_by s (es ++ e ∷ []) ≡ edited (edited_by s es) e
   edited-more s [] e = refl
@@ -114,7 +114,7 @@ module _ {A : Type 0} where
   tells-at gives may_fail asked_of mid new s (x ∷ es) (suc i) e r short is h = tells-at gives may_fail asked_of mid new (edited s x) es i e r
       (omega (arith, short)) is h
 
--- What these edits, all accepted, did.
+-- The effect of these edits, all accepted.
 pub record IsRun {A : Type 0} (held held_now : Class → Bool) (honest honest_now : Type 0)
     (asked asked_now failed failed_now : ℕ) (old new : BenchState) (es : List (Edit A)) : Type 0 where
   pub accepted : AreAccepted held (plain_study (marked old)) es

@@ -1,4 +1,4 @@
--- `==` of moves, as it is derived, and the comparison that the contracts name.
+-- The derived `==` of moves, and the comparison that the contracts name.
 use Rattle.std.proofs.Common.{◌≡◌, Bool, true, false, ◌&&◌, ◌==◌, refl, ap, ◌∙◌}
 use Rattle.std.specs.Option.{option_eq}
 use Rattle.study_board.specs.contracts.men.KindPartialEq.TheImpl.{eq-value as kind_eq}

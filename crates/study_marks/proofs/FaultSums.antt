@@ -1,4 +1,4 @@
--- How the faults of a node change with those of its children.
+-- The change of a node's faults with those of its children.
 use Rattle.std.proofs.Common.{◌≡◌, ℕ, ◌+◌, List, [], ◌∷◌, length, Bool, refl, sym, ap, ◌∙◌, arith, zero, suc, subst}
 use Rattle.std.specs.Prelude.{if◌then◌else◌}
 use Rattle.study_tree.specs.Forest.{Forest, none, more}
@@ -22,7 +22,7 @@ below-edited hero edit (more m l b r) zero ks = refl
 below-edited hero edit (more m l b r) (suc k) ks = ap (λ s. l.faults + (if hero then 0 else s)) (all-edited edit r k ks)
 
 module _ (a : Aim) where
-  -- an edit of what is below the path's node leaves all right but that node
+  -- an edit of the forest below the path's node leaves all faults right except that node's
   pub AddUpBut-edited : (edit : Forest Label → Forest Label) (hero : Bool) (d at : ℕ) (q : Told) (f : Forest Label)
       (ks : List ℕ) (minus plus : ℕ) → at ≡ d + length ks → hero ≡ hero_moves a at
       → ((s : Forest Label) → AddUp a at (told_at q f ks) s → AddUp a at (told_at q f ks) (edit s))

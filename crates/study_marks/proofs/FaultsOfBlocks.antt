@@ -20,7 +20,7 @@ use Rattle.study_marks.specs.Annotated.{AreAnnotated}
 use Rattle.study_marks.specs.Blocks.{is_solution_step, fault_at, joined_faults, block_faults}
 use Rattle.study_marks.specs.Laws.{FaultsAreOfRows}
 
--- the depth of the last of these rows, or p where there is none
+-- the depth of the last of these rows, or p if there is none
 last_of : ℕ → ℕ → Forest Mark → ℕ
 last_of p e none = p
 last_of p e (more m x b r) = last_of (last_of e (suc e) b) e r
@@ -30,7 +30,7 @@ unfolding last_of
 last-least c p e none h k = h
 last-least c p e (more m x b r) h k = last-least c (last_of e (suc e) b) e r (last-least c e (suc e) b k (omega (arith, k))) k
 
--- the rows go on at most at depth c
+-- the rows continue at depth c or above
 GoesOn : ℕ → List (Row Mark) → Type 0
 GoesOn c [] = Unit {0}
 GoesOn c (x ∷ xs) = x.depth ≤ c
@@ -46,7 +46,7 @@ goes-higher c e [] k h = tt
 goes-higher c e (x ∷ xs) k h = omega (arith, k, h)
 
 module _ (a : Aim) where
-  -- what is below a step that is no solution step is over
+  -- the rows below a step that is not a solution step have ended
   over : (c d : ℕ) (rest : List (Row Mark)) → GoesOn c rest → joined_faults a d (Some c) rest ≡ joined_faults a d None rest
   unfolding GoesOn
   over c d [] h = refl
@@ -55,7 +55,7 @@ module _ (a : Aim) where
       else (if is_solution_step a d x.depth then fault_at a x.depth x.label.on_move + joined_faults a x.depth None
       xs else joined_faults a x.depth (Some x.depth) xs)) (le-ltb c x.depth h)
 
-  -- nothing counts below it
+  -- nothing below it counts
   skip : (c p e : ℕ) (f : Forest Mark) (rest : List (Row Mark)) → c < e
       → joined_faults a p (Some c) (rows_in e f ++ rest) ≡ joined_faults a (last_of p e f) (Some c) rest
   unfolding last_of
@@ -69,7 +69,7 @@ module _ (a : Aim) where
       ∙ ap (joined_faults a e (Some c)) (append_assoc (rows_in (suc e) b) (rows_in e r) rest)
       ∙ skip c e (suc e) b (rows_in e r ++ rest) (omega (arith, h)) ∙ skip c (last_of e (suc e) b) e r rest h
 
-  -- nor a later child, where the hero moves
+  -- nor does a later child, if the hero moves
   later : (d p : ℕ) (f : Forest Mark) (rest : List (Row Mark)) → hero_moves a d ≡ true → d < p → GoesOn d rest
       → joined_faults a p None (rows_in (suc d) f ++ rest) ≡ joined_faults a (last_of p (suc d) f) None rest
   unfolding last_of
@@ -86,7 +86,7 @@ module _ (a : Aim) where
       (let least : suc d ≤ last_of (suc d) (suc (suc d)) b = last-least (suc d) (suc d) (suc (suc d)) b
       (omega arith) (omega arith) in let z : d < last_of (suc d) (suc (suc d)) b = omega (arith, least) in z) g
 
-  -- the first child, and each child where the opponent moves, joins what is below it
+  -- the first child, and each child if the opponent moves, joins the rows below it
   join-child : (d p : ℕ) (m : Move) (x : Mark) (b r : Forest Mark) (rest : List (Row Mark)) → is_solution_step a p (suc d) ≡ true
       → joined_faults a (suc d) None (rows_in (suc (suc d)) b ++ (rows_in (suc d) r ++ rest)) ≡ faults_in a (suc d)
       b + joined_faults a (last_of (suc d) (suc (suc d)) b) None (rows_in (suc d) r ++ rest)

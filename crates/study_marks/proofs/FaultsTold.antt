@@ -63,7 +63,7 @@ module _ {V : Type 0} (gives : V → Position → ProbeAnswer → Type 0) (may_f
       (first-back old mid new (asked_each (take i ps)) (asked_at p ++ asked_each (drop (suc i) ps)) f h
       (first-front mid new (asked_at p) (asked_each (drop (suc i) ps)) f k))
 
-  -- an answer that hands a refusal on
+  -- a result that passes a refusal on
   pub same-first : {A T : Type 0} (old : V) (asked : List Position) (new : V) (r : Result T (Refusal A)) (f : Refusal A)
       → IsErrAnd r (λ x. x ≡ f) → TellsFirstFault gives may_fail asked_of old asked new f → IfErr r (TellsFirstFault gives may_fail asked_of old asked new)
   same-first old asked new (Ok x) f e h = absurd e

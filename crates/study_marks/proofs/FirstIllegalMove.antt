@@ -25,11 +25,11 @@ skipped-nth (more m l b r) zero t e =
     ≡ t = cc in s)
 skipped-nth (more m l b r) (suc k) t e = skipped-nth r k t e
 
--- all before place k are legal, with all below them
+-- all nodes before place k are legal, with all nodes below them
 abbrev pub IsWhole : Position → Forest Label → ℕ → Type 0
 IsWhole p f k = broken_from 0 p f ≡ broken_from k p (skipped k f)
 
--- the node at place k is there
+-- there is no node at place k
 pub no-child : {L : Type 0} (f : Forest L) (k : ℕ) → k < width f → node_in f k [] ≡ None → ⊥
 no-child none k h e = omega (arith, h)
 no-child (more m l b r) zero h e = let no : ⊥ = cc in no
@@ -83,7 +83,7 @@ whole-all p f k all h = h ∙ ap (broken_from k p) (skipped-all k f all)
 pub longer : (ks push path new : List ℕ) (k : ℕ) → push ≡ ks ++ k ∷ [] → new ≡ push ++ path → new ≡ ks ++ (k ∷ path)
 longer ks push path new k e h = h ∙ ap (λ xs. xs ++ path) e ∙ append_assoc ks (k ∷ []) path
 
--- where no move is broken, all are legal
+-- if no move is broken, all are legal
 pub whole-playable : (k : ℕ) (p : Position) (f : Forest Label) → broken_from k p f ≡ None → IsPlayable p f
 whole-playable k p none h = tt
 whole-playable k p (more m l b r) h = go (is_legal p m) refl h (λ eb. whole-playable 0 (after p m) b eb) (λ er. whole-playable (suc k) p r er)

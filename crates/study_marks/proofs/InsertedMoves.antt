@@ -34,7 +34,7 @@ use Rattle.study_marks.proofs.StudyEdits.{IsPlayable-add_last, AreDistinct-add_l
 use Rattle.study_marks.proofs.MarksShown.{AllAreTold-right, right-told, AreTold-add_last}
 use Rattle.study_marks.proofs.BenchEdits.{bare, bare-marked, bare-told, Fits, fits, study, with_tree, same-plain, counted-later}
 
--- no node is deeper than the study is
+-- no node is deeper than the limit of the study
 pub deep-none : {L : Type 0} (n : ℕ) (f : Forest L) (ks : List ℕ) → IsWithin n f → n < length ks → has_node f ks ≡ false
 deep-none n f [] h w = absurd (omega (arith, w))
 deep-none n none (k ∷ ks) h w = refl
@@ -42,7 +42,7 @@ deep-none zero (more m l b r) (k ∷ ks) h w = absurd h
 deep-none (suc n) (more m l b r) (zero ∷ ks) h w = deep-none n b ks h.0 (let z : n < length ks = omega (arith, w) in z)
 deep-none (suc n) (more m l b r) (suc k ∷ ks) h w = deep-none (suc n) r (k ∷ ks) h.1 w
 
--- what a look at a node tells
+-- the consequences of looking up a node
 pub node-gone : {L N : Type 0} (t : Plain L) (ks : List ℕ) (o : Option N) (g : N → Spot L)
     → MatchOption o (spot_at t ks ≡ None) (λ n. spot_at t ks ≡ Some (g n)) → is_some o ≡ false → has_spot t ks ≡ false
 node-gone t ks None g h e = go (has_spot t ks) refl
@@ -57,7 +57,7 @@ pub node-found : {L N : Type 0} (t : Plain L) (ks : List ℕ) (o : Option N) (g 
 node-found t ks None g h e = absurd (false≢true e)
 node-found t ks (Some n) g h e = there-spot t ks (g n) h
 
--- the first reason, by what is asked in turn
+-- the first reason, checked in order
 abbrev pub chosen : {A : Type 0} → Bool → Bool → Option ℕ → Bool → Bool → Option (Refusal A)
 chosen found legal place deep full =
     if not found then Some refusal.NoSuchNode
@@ -229,7 +229,7 @@ asked-answer {A = A} n old new f (Err x) e h = subst (λ (y : Refusal A). HasSto
     go (probe.TableRead x) = h
     go (probe.PageDamaged c k) = h
 
--- the same node of the marks that are shown
+-- the same node with the marks shown
 pub children-marked : (b k : BenchState) (steps path : List ℕ) → b ≡ k → steps ≡ path → children_at b.study.tree.below steps
     ≡ children_at (marked k).tree.below path
 children-marked b k steps path same way =
@@ -285,6 +285,6 @@ inserted-right k u n ks m x e s g h =
     right-told (record { study = with_tree k.study u; relabelled = n }) s
     (subst (AllAreTold p) (sym e) (old.0, AreTold-add_last p (told_tree k.study.tree).below ks m x old.1 here))
 
--- how many labels were written
+-- the number of labels written
 pub inserted-count : (n old mid new : ℕ) → mid ≡ old → new ≡ counted_times n mid → counted new ≡ counted_times n (counted old)
 inserted-count n old mid new same e = counted-later n old new (e ∙ ap (counted_times n) same)

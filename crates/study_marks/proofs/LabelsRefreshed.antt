@@ -1,4 +1,4 @@
--- All labels written in one walk: they are those refreshed.
+-- All labels written in one walk are the refreshed labels.
 use Rattle.std.proofs.Common.{◌≡◌, ℕ, ◌+◌, ◌≤◌, List, Bool, true, false, refl, sym, ap, ◌∙◌, arith, zero, suc, subst}
 use Rattle.std.specs.Prelude.{if◌then◌else◌, ◌-◌, ◌^◌, min}
 use Rattle.study_moves.specs.declared.moves.Move.{Move}
@@ -15,7 +15,7 @@ use Rattle.study_marks.specs.Relabelled.{told_in, retold_tree, refreshed, refres
 use Rattle.study_marks.proofs.PathRenewed.{own≤1}
 use Rattle.study_marks.proofs.LabelsWritten.{told-refreshed, adds-refreshed, few-refreshed}
 
--- what nodes from place k on count for their parent
+-- the faults that nodes from place k on count for their parent
 abbrev counts_from : Bool → ℕ → Forest Label → ℕ
 counts_from hero zero f = faults_below hero f
 counts_from hero (suc k) f = if hero then 0 else all_faults f
@@ -37,7 +37,7 @@ counted≤ true (suc k) n = omega arith
 counted≤ false (suc k) n = omega arith
 
 module _ (all : List Told) (a : Aim) where
-  -- the evaluation of the node and of those below it, and what they are to the parent
+  -- the evaluation of the node and of those below it, and their faults for the parent
   step : (d k n : ℕ) (q : Told) (x : ℕ) (m : Move) (l : Label) (b r : Forest Label) (t : Told) (below later : Forest Label) (own_count : ℕ)
       → x + 1 + nodes_in b + nodes_in r ≤ 4096 → own_count ≤ 1
       → faults_below (hero_moves a (d + 1)) below ≤ nodes_in b

@@ -23,7 +23,7 @@ module _ {L : Type 0} where
   firsts-all (suc k) (more m l b r) h = ap (more m l b) (firsts-all k r (omega arith))
 
 module _ (all : List Told) (a : Aim) where
-  -- what is told comes from the list
+  -- the evaluations come from the list
   pub told-refreshed : (d n : ℕ) (q : Told) (f : Forest Label)
       → mapped (λ (l : Label). l.told) (refreshed all a d n q f) ≡ retold all n (mapped (λ l. l.told) f)
   told-refreshed d n q none = refl

@@ -25,7 +25,7 @@ use Rattle.study_marks.specs.BenchState.{BenchState, count_holding, kept_mark, s
 use Rattle.study_marks.specs.BenchState.{own, all_faults, faults_below, AddUp, AllAddUp, told_tree}
 use Rattle.study_marks.specs.Told.{IsToldOf, AreTold, AllAreTold}
 
--- edits keep what is told
+-- edits keep the evaluations
 AreTold-with_last : (p : Position) (f : Forest Told) (m : Move) (x : Told) → AreTold p f → IsToldOf (after p m) x → AreTold p (with_last m x f)
 AreTold-with_last p none m x h k = (k, tt, tt)
 AreTold-with_last p (more n t b r) m x h k = (h.0, h.1, AreTold-with_last p r m x h.2 k)
@@ -66,7 +66,7 @@ AreTold-dropped = AreTold-place_edited dropped_at AreTold-dropped_at
 pub AreTold-raised : (p : Position) (f : Forest Told) (k : ℕ) (ks : List ℕ) → AreTold p f → AreTold p (place_edited raised_at f k ks)
 AreTold-raised = AreTold-place_edited raised_at AreTold-raised_at
 
--- from marks that are right to what is told
+-- from right marks to right evaluations
 AreTold-annotated : (a : Aim) (d : ℕ) (p : Position) (v : Value) (q : Told) (f : Forest Label)
     → AreAnnotated a d p v (shown a d q f) → AreTallied p f → AreTold p (mapped (λ l. l.told) f)
 AreTold-annotated a d p v q none h t = tt
@@ -110,7 +110,7 @@ turn a d h = go (d % 2 == 0) refl a.hero_first h
         flip true e = sym e
         flip false e = refl
 
--- the tally counts what holds, where the opponent is to move
+-- the tally counts the moves that hold, if the opponent is to move
 held-counted : (goal : Goal) (first : Bool) (d : ℕ) (vs : List Value) → count_holding goal first d (tally_of vs)
     ≡ count_by (λ v. keeps_goal goal first d false v) vs
 held-counted Win first d [] = refl
@@ -176,7 +176,7 @@ held-counted (MateIn k) first d (values.Draw ∷ vs) =
     let sum : count_by (λ n. nat_le (d + n) (plies_of first k)) (tally_of vs).mates
     ≡ count_by (λ v. keeps_goal (MateIn k) first d false v) (values.Draw ∷ vs) = omega (arith, rest, step) in sum
 
--- the mark by what is kept is the one by all values
+-- the mark from the evaluation is the one from all values
 mark_of-opponent : (before after : Bool) (n k : ℕ) → mark_of false before after n ≡ mark_of false before after k
 mark_of-opponent true after n k = refl
 mark_of-opponent false true n k = refl
@@ -227,7 +227,7 @@ AreAnnotated-told a d p q (more m l b r) s h t = (
   AreAnnotated-told a d p q r s.2 h t.2,
 )
 
--- from what is told, and faults that add up, to marks that are right
+-- from right evaluations, and faults that add up, to right marks
 pub right-told : (k : BenchState) → AllAddUp (aim_of k.study) k.study.tree → AllAreTold k.study.start.position (told_tree k.study.tree) → IsKeptRight k
 right-told k s t = record {
   marks = record {

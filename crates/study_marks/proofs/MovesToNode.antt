@@ -1,4 +1,4 @@
--- The moves on the way to a node.
+-- The moves on the path to a node.
 use Rattle.std.proofs.Common.{◌≡◌, ℕ, List, [], ◌∷◌, ◌++◌, length, true, Option, Some, None, refl, sym, ap, ◌∙◌, arith, zero, suc, subst, IsTrue}
 use Rattle.study_board.specs.Position.{Position}
 use Rattle.study_moves.specs.declared.moves.Move.{Move}
@@ -32,7 +32,7 @@ module _ {L : Type 0} where
   move_at-spot t [] = refl
   move_at-spot t (k ∷ ks) = move_at-node t.below k ks
 
-  -- where there is a node, there is a move
+  -- a node has a move
   move-there : (f : Forest L) (k : ℕ) (ks : List ℕ) → IsTrue (has_node f (k ∷ ks)) → (m : Move) × (move_at f (k ∷ ks) ≡ Some m)
   move-there none k ks h = let no : ⊥ = cc in absurd no
   move-there (more m l b r) zero [] h = (m, refl)
@@ -47,7 +47,7 @@ module _ {L : Type 0} where
       nothing (j ∷ js) path = cc
   some-move t (j ∷ js) front k path h e = let m = move-there t.below j js h in let no : Some m.0 ≡ None = sym m.1 ∙ sym (move_at-spot t (j ∷ js)) ∙ e in cc
 
-  -- it is the last of the moves on the way, and legal there
+  -- it is the last of the moves on the path, and legal there
   last-move : (p : Position) (f : Forest L) (front : List ℕ) (k : ℕ) (m : Move) → move_at f (front ++ k ∷ []) ≡ Some m → IsPlayable p f
       → (moves_to f (front ++ k ∷ []) ≡ moves_to f front ++ m ∷ []) × (is_legal (position_after p (moves_to f front)) m ≡ true)
   last-move p none [] k m e h = let no : ⊥ = cc in absurd no

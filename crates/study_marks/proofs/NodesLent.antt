@@ -1,4 +1,4 @@
--- A child with its mark, by the child with what is kept.
+-- A child with its mark, from the child with its label.
 use Rattle.std.proofs.Common.{◌≡◌, ℕ, ◌+◌, [], Option, Some, None, zero, suc, refl, sym, ap, ◌∙◌}
 use Rattle.study_tree.specs.Forest.{Forest, none, more, Twig}
 use Rattle.study_tree.specs.Edits.{node_in}
@@ -9,7 +9,7 @@ use Rattle.study_marks.specs.declared.mark.MoveMark.{MoveMark}
 use Rattle.study_marks.specs.declared.mark_rules.Aim.{Aim}
 use Rattle.study_marks.specs.BenchState.{kept_mark, shown_mark, shown}
 
--- a child as it is shown, at a node of depth d that keeps q
+-- a child as it is shown, at a node of depth d with the evaluation q
 abbrev pub child_shown : Aim → ℕ → Told → Option (Twig Label) → Option (Twig Mark)
 child_shown a d q None = None
 child_shown a d q (Some t) = Some (record { played = t.played; label = shown_mark a d q t.label; below = shown a (d + 1) t.label.told t.below })
@@ -36,6 +36,6 @@ child-made a d q f k t mark e em =
     node_in-shown a d q f k ∙ ap (child_shown a d q) e
     ∙ ap (λ m. Some (record { played = t.played; label = m; below = shown a (d + 1) t.label.told t.below })) em
 
--- there is none
+-- there is no such child
 pub child-missing : (a : Aim) (d : ℕ) (q : Told) (f : Forest Label) (k : ℕ) → node_in f k [] ≡ None → node_in (shown a d q f) k [] ≡ None
 child-missing a d q f k e = node_in-shown a d q f k ∙ ap (child_shown a d q) e

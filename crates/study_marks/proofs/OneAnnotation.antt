@@ -1,4 +1,4 @@
--- A plain study has one annotation.
+-- A plain study has exactly one annotation.
 use Rattle.std.proofs.Common.{◌≡◌, ℕ, ◌+◌, List, [], ◌∷◌, Option, Some, refl, sym, ap, ◌∙◌, subst}
 use Rattle.study_board.specs.Position.{Position}
 use Rattle.study_moves.specs.declared.moves.Move.{Move}
@@ -20,7 +20,7 @@ use Rattle.study_marks.specs.Marks.{move_mark, own_faults, faults_in}
 use Rattle.study_marks.specs.Laws.{AnnotationsAreUnique}
 use Rattle.study_marks.specs.Annotated.{AreValuesAfter, IsMoveMark, AreAnnotated}
 
--- the game has one value
+-- a position has at most one value
 pub one-value : EachHasAtMostOneValue → (p : Position) (v w : Value) → IsValueOf p v → IsValueOf p w → v ≡ w
 one-value law p (Win n) (Win k) h j = ap Win ((law p).won_once n k h j)
 one-value law p (Win n) (Loss k) h j = absurd ((law p).won_not_lost n k h j)

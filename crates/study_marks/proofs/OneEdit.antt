@@ -147,7 +147,7 @@ module _ {A : Type 0} (held held_now : Class → Bool) (honest honest_now : Type
       sized (Ok x) h = h ∙ ap (λ n. counted_times n old.relabelled) (same-size old)
       sized (Err x) h = tt
 
-  -- a new position, whose values alone may refuse it
+  -- a new position, which only its values may refuse
   pub position-applied : (e : Edit A) (start copied : Start) (r : Result (Unit {0}) (Refusal A)) → e ≡ edits.Position start → copied ≡ start
       → IfErr r (IsOutside held (asked_at copied.position)) → IfErr r (λ f. is_of_tables f ≡ true)
       → OnOk r (AllHeld held (asked_at copied.position)) → OnOk r (plain_study (marked new) ≡ positioned (plain_study (marked old)) copied)

@@ -21,7 +21,7 @@ use Rattle.study_marks.specs.BenchState.{own, all_faults, faults_below, AddUp, A
 use Rattle.study_marks.specs.FaultSums.{AddUpBut, IsOff, counts_all, counted_from, faults_moved, label_moved}
 use Rattle.study_marks.proofs.PathRenewed.{below≤all, all≤nodes, own≤1}
 
--- a count, one up or so many
+-- a count, increased by one or by so many
 counted_by-one : (k n : ℕ) → counted_by k (counted n) ≡ counted_by (suc k) n
 counted_by-one k n = omega arith
 
@@ -31,7 +31,7 @@ counted_by-times (suc k) n h =
     let few : counted n < 2 ^ 64 = omega arith in
     sym (counted_by-one k n) ∙ counted_by-times k (counted n) few
 
--- at least one up
+-- increased by at least one
 pub counted_by-more : (k n : ℕ) → counted_by (k + 1) n ≡ counted_times (k + 1) n
 counted_by-more k n =
     let few : counted n < 2 ^ 64 = omega arith in
@@ -43,7 +43,7 @@ counted_by-size t n =
     let size : nodes_in t.below + 1 ≡ size_of t = omega arith in
     subst (λ k. counted_by k n ≡ counted_times k n) size (counted_by-more (nodes_in t.below) n)
 
--- from which depth on a change is counted
+-- the depth from which on a change is counted
 from≥ : (a : Aim) (d : ℕ) (ks : List ℕ) → d ≤ counted_from a d ks
 from≥ a d [] = omega arith
 from≥ a d (k ∷ ks) = go (nat_le (counted_from a (d + 1) ks) (d + 1) && counts_all (hero_moves a d) k) (from≥ a (d + 1) ks)
@@ -52,7 +52,7 @@ from≥ a d (k ∷ ks) = go (nat_le (counted_from a (d + 1) ks) (d + 1) && count
     go true h = omega arith
     go false h = omega (arith, h)
 
--- the same of the rest of the path, and whether the first node counts all its faults
+-- the same for the rest of the path, and whether the first node counts all its faults
 record IsNext (a : Aim) (from d k : ℕ) (ks : List ℕ) : Type 0 where
   pub rest : counted_from a (d + 1) ks ≡ d + 1 + (from - (d + 1))
   pub here : from ≤ d → counts_all (hero_moves a d) k ≡ true
@@ -83,7 +83,7 @@ next-from a from d k ks h =
     }
 
 module _ (a : Aim) (from minus plus : ℕ) where
-  -- a number of faults that is changed where the change is counted at depth d
+  -- a number of faults that is changed if the change is counted at depth d
   record IsMoved (d n new : ℕ) : Type 0 where
     pub here : from ≤ d → new + minus ≡ n + plus
     pub beyond : d < from → new ≡ n
@@ -125,7 +125,7 @@ module _ (a : Aim) (from minus plus : ℕ) where
   told-moved d (more m l b r) (suc k ∷ ks) =
       ap (more m l.told (mapped (λ (y : Label). y.told) b)) (told-moved d r (k ∷ ks))
 
-  -- nodes side by side at depth d + 1, of which one and those on the path below it are changed
+  -- siblings at depth d + 1, of which one and the nodes on the path below it are changed
   record AreMoved (d : ℕ) (q : Told) (f new : Forest Label) : Type 0 where
     pub adds : AddUp a d q new
     pub all : IsMoved (d + 1) (all_faults f) (all_faults new)
@@ -133,7 +133,7 @@ module _ (a : Aim) (from minus plus : ℕ) where
   adds-told : (d : ℕ) (q p : Told) (f : Forest Label) → q ≡ p → AddUp a d q f → AddUp a d p f
   adds-told d q p f e h = subst (λ (x : Told). AddUp a d x f) e h
 
-  -- one node and what is below it
+  -- one node and the forest below it
   moved-node : (d right : ℕ) (q : Told) (m : Move) (l : Label) (b new r : Forest Label)
       → AddUp a (d + 1) l.told new → AddUp a d q r → nodes_in new ≤ 4095 → right ≤ 1
       → right ≡ own a d q l.told.value
@@ -163,7 +163,7 @@ module _ (a : Aim) (from minus plus : ℕ) where
       faults : (move (d + 1) l).faults ≡ right + faults_below (hero_moves a (d + 1)) new
       faults = go (nat_le from (d + 1)) refl
 
-  -- what the nodes count for their parent
+  -- the faults that the nodes count for their parent
   below-moved : (hero : Bool) (d : ℕ) (f : Forest Label) (k : ℕ) (ks : List ℕ) → IsTrue (has_node f (k ∷ ks))
       → (from ≤ d → counts_all hero k ≡ true) → (d < from → counts_all hero k ≡ true → d + 1 < from)
       → IsMoved (d + 1) (all_faults f) (all_faults (changed_along move (d + 1) f (k ∷ ks)))
@@ -242,7 +242,7 @@ module _ (a : Aim) (from minus plus : ℕ) where
       ap (λ x. record { label = x; below = mapped (λ (l : Label). l.told) (changed_along move 1 t.below ks) }) (moved-told 0 t.label)
       ∙ ap (λ x. record { label = t.label.told; below = x }) (told-moved 1 t.below ks)
 
--- what is changed where there is a node
+-- the change at a node that exists
 pub changed-there : (t : Plain Label) (ks : List ℕ) (r : Result (Unit {0}) TreeFault) (P : Type 0)
     → IsTrue (has_spot t ks) → MatchOption (label_refusal t ks) (IsOk r) (λ f. r ≡ Err f) → OnOk r P → P
 changed-there t ks r P found h k = go r (subst (λ b. MatchOption (if not b then Some NoSuchNode else None) (IsOk r) (λ f. r ≡ Err f)) found h) k

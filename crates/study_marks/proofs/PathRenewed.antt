@@ -1,4 +1,4 @@
--- Faults renewed along a path of a whole tree.
+-- Faults updated along a path of a whole tree.
 use Rattle.std.proofs.Common.{◌≡◌, ℕ, ◌+◌, ◌≤◌, List, [], ◌∷◌, ◌++◌, Bool, true, false, Option}
 use Rattle.std.proofs.Common.{Some, None, refl, sym, ap, ◌∙◌, arith, zero, suc, IsTrue}
 use Rattle.study_tree.specs.Forest.{Forest, none, more, Twig, nodes_in}
@@ -24,7 +24,7 @@ twig-of (Some t) s e = (
       (let same : record { played = Some t.played; label = t.label; children = width t.below } ≡ s = cc in same),
 )
 
--- a path has a node where a node is shown
+-- a path leads to a node exactly if a node is shown
 has-node : {L : Type 0} (f : Forest L) (k : ℕ) (ks : List ℕ) (t : Twig L) → node_in f k ks ≡ Some t → IsTrue (has_node f (k ∷ ks))
 has-node none k ks t e = let no : ⊥ = cc in absurd no
 has-node (more m l b r) zero [] t e = refl
@@ -54,7 +54,7 @@ all≤nodes a d q none h = omega arith
 all≤nodes a d q (more m l b r) h =
     omega (arith, h.0, own≤1 a d q l.told.value, below≤all (hero_moves a (d + 1)) b, all≤nodes a (d + 1) l.told b h.1, all≤nodes a d q r h.2)
 
--- a path within a path leads to a node too
+-- a prefix of a path leads to a node, too
 has_node-front : {L : Type 0} (f : Forest L) (front rest : List ℕ) → IsTrue (has_node f (front ++ rest)) → IsTrue (has_node f front)
 has_node-front f [] rest h = refl
 has_node-front none (k ∷ ks) rest h = h
@@ -64,7 +64,7 @@ has_node-front (more m l b r) (suc k ∷ ks) rest h = has_node-front r (k ∷ ks
 pub has_spot-front : {L : Type 0} (t : Plain L) (front rest : List ℕ) → IsTrue (has_spot t (front ++ rest)) → IsTrue (has_spot t front)
 has_spot-front t front rest h = has_node-front t.below front rest h
 
--- where there is a node, it is shown
+-- a node that exists is shown
 twig-there : {L : Type 0} (f : Forest L) (k : ℕ) (ks : List ℕ) → IsTrue (has_node f (k ∷ ks)) → (t : Twig L) × (node_in f k ks ≡ Some t)
 twig-there none k ks h = let no : ⊥ = cc in absurd no
 twig-there (more m l b r) zero [] h = (record { played = m; label = l; below = b }, refl)

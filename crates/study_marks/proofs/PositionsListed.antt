@@ -1,4 +1,4 @@
--- Positions listed in written order, what is asked of them, and what is told.
+-- Positions listed in written order, their probes, and their evaluations.
 use Rattle.std.proofs.Common.{◌≡◌, ℕ, ◌+◌, ◌<◌, ◌≤◌, List, [], ◌∷◌, ◌++◌, length, get_or, take, drop}
 use Rattle.std.proofs.Common.{Bool, true, false, Some, Result, Ok, Err, is_ok, refl, sym, ap, ◌∙◌}
 use Rattle.std.proofs.Common.{arith, zero, suc, subst, inl, inr, append_assoc, length-append}
@@ -68,7 +68,7 @@ module _ (p : Position) (f : Forest Label) (k : ℕ) where
   pub listed-all : (old all : List Position) → width f ≤ k → all ≡ old ++ positions_in p (firsts k f) → all ≡ old ++ positions_in p f
   listed-all old all full h = h ∙ ap (λ (x : Forest Label). old ++ positions_in p x) (firsts-all k f full)
 
--- what is probed for a list of positions
+-- the probes for a list of positions
 pub asked_each-append : (ps qs : List Position) → asked_each (ps ++ qs) ≡ asked_each ps ++ asked_each qs
 asked_each-append [] qs = refl
 asked_each-append (p ∷ ps) qs = ap (λ x. asked_at p ++ x) (asked_each-append ps qs) ∙ sym (append_assoc (asked_at p) (asked_each ps) (asked_each qs))
@@ -82,7 +82,7 @@ asked-positions p (more m l b r) =
 pub asked-tree : (p : Position) (f : Forest Label) (ps : List Position) → ps ≡ p ∷ positions_in p f → asked_each ps ≡ asked_at p ++ asked_below p f
 asked-tree p f ps e = ap asked_each e ∙ ap (λ x. asked_at p ++ x) (asked-positions p f)
 
--- tables that are held, and the first that is not
+-- tables that are loaded, and the first that is not
 AreTablesHeld-append : (held : Class → Bool) (xs ys : List Position) → AreTablesHeld held xs → AreTablesHeld held ys → AreTablesHeld held (xs ++ ys)
 AreTablesHeld-append held [] ys h k = k
 AreTablesHeld-append held (x ∷ xs) ys h k = (h.0, AreTablesHeld-append held xs ys h.1 k)
@@ -128,7 +128,7 @@ AreToldOf-append [] qs (t ∷ ts) us h k = absurd h
 AreToldOf-append (p ∷ ps) qs [] us h k = absurd h
 AreToldOf-append (p ∷ ps) qs (t ∷ ts) us h k = (h.0, AreToldOf-append ps qs ts us h.1 k)
 
--- The answers when all these positions were probed: by tables that are held, over the counts of questions and of failures, at the beginning and now.
+-- The results when all these positions were probed: loaded tables, and the counts of probes and of failures, before and after.
 pub record IsAsked (held now : Class → Bool) (asked asked_now failed failed_now : ℕ) (honest honest_now : Type 0)
     (ps : List Position) (was all : List Told) : Type 0 where
   pub tables : (c : Class) → now c ≡ held c
@@ -176,7 +176,7 @@ take-one {X = X} xs i x h e = ap (λ n. take n xs) (let z : i + 1 ≡ suc i = om
     go (y ∷ ys) zero h e = ap (λ z. z ∷ []) (sym e)
     go (y ∷ ys) (suc i) h e = ap (λ z. y ∷ z) (go ys i (omega (arith, h)) e)
 
--- where one is not read
+-- if a value could not be read
 module _ (held mid : Class → Bool) (asked asked_mid failed failed_mid : ℕ) (honest honest_mid : Type 0)
     (xs : List Position) (i : ℕ) (p : Position) (was all : List Told)
     (h : IsAsked held mid asked asked_mid failed failed_mid honest honest_mid (take i xs) was all) (short : i < length xs) (is : p ≡ get_or xs i p) where
@@ -199,7 +199,7 @@ module _ (held mid : Class → Bool) (asked asked_mid failed failed_mid : ℕ) (
       let count = k.2 ∙ ap (counted_times (suc k.0)) h.counts ∙ sym (counted_times-sum n (suc k.0) asked) in
       (n + k.0, omega (arith, k.1, long), subst (λ m. new ≡ counted_times m asked) sum count)
 
--- an answer that hands a fault on
+-- a result that passes a fault on
 pub same-fault : {T : Type 0} (r : Result T ProbeFault) (f : ProbeFault) (P : ProbeFault → Type 0) → IsErrAnd r (λ x. x ≡ f) → P f → IfErr r P
 same-fault (Ok x) f P e h = absurd e
 same-fault (Err x) f P e h = subst P (sym e) h

@@ -1,4 +1,4 @@
--- Other labels leave the shape.
+-- Other labels keep the shape.
 use Rattle.std.proofs.Common.{◌≡◌, ℕ, List, [], ◌∷◌, Some, refl, ap, ◌∙◌, arith, zero, suc}
 use Rattle.std.specs.Prelude.{if◌then◌else◌}
 use Rattle.study_board.specs.Position.{Position}

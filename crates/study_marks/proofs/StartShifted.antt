@@ -26,7 +26,7 @@ broken-mapped g k p (more m l b r) =
     ap (λ x. if is_legal p m then first_path k x (broken_from (suc k) p (mapped g r)) else Some (k ∷ [])) (broken-mapped g 0 (after p m) b)
     ∙ ap (λ x. if is_legal p m then first_path k (broken_from 0 (after p m) b) x else Some (k ∷ [])) (broken-mapped g (suc k) p r)
 
--- the first broken move is that of the study which is shown
+-- the first broken move is that of the shown study
 pub broken-shown : (b k : BenchState) (p : Position) → b ≡ k
     → broken_from 0 p b.study.tree.below ≡ broken_from 0 p (plain_study (marked k)).tree.below
 broken-shown b k p same =
@@ -41,7 +41,7 @@ pub legal-shifted : (b k : BenchState) (p : Position) → b ≡ k
 legal-shifted b k p same h =
     subst (λ (x : BenchState). IsPlayable p x.study.tree.below) same (whole-playable 0 p b.study.tree.below h)
 
--- the root that is lent shows the tree
+-- the borrowed root shows the tree
 pub at-root : {root tree : Plain Label} (p : Position) → root ≡ tree → broken_from 0 p tree.below ≡ broken_from 0 p root.below
 at-root p e = ap (λ (t : Plain Label). broken_from 0 p t.below) (sym e)
 
@@ -50,7 +50,7 @@ pub within-root : {tree : Plain Label} (root : Plain Label) (steps : List ℕ) �
 within-root root steps none_yet e h =
     subst (λ (xs : List ℕ). IsWithin (256 - length xs) root.below) (sym none_yet) (subst (λ (t : Plain Label). IsWithin 256 t.below) (sym e) h)
 
--- refused for a broken move, and for anything else
+-- refused for a broken move, and for any other reason
 module _ {A : Type 0} (held : Class → Bool) (asked : List Position) (b k : BenchState) (start : Start) (same : b ≡ k) where
   pub shift-broken : (steps path found now : List ℕ) (r : Refusal A) → steps ≡ []
       → broken_from 0 start.position b.study.tree.below ≡ Some path → found ≡ steps ++ path

@@ -33,7 +33,7 @@ use Rattle.study_marks.proofs.Readers.{shown-spot}
 use Rattle.study_marks.proofs.InsertedMoves.{position-marked, chosen}
 use Rattle.study_marks.specs.Bench.{on_move_of}
 
--- the first reason, by what is asked in turn
+-- the first reason, checked in order
 abbrev pub tried : {A : Type 0} → Bool → Bool → Option (Refusal A)
 tried found legal = if not found then Some refusal.NoSuchNode else (if not legal then Some refusal.IllegalMove else None)
 
@@ -50,7 +50,7 @@ trial-reason {A = A} b k steps m found legal same e l =
     ∙ tried-same _ found _ legal (has_node-mapped (λ (x : Label). tt {0}) b.study.tree.below steps ∙ e)
     (ap (λ ms. is_legal (position_after p ms) m) (moves_to-mapped (λ (x : Label). tt {0}) b.study.tree.below steps) ∙ l)
 
--- a reason told at the steps of a path is one at the path
+-- a reason at the steps of a path is one at the path
 pub refused-first : {A T U : Type 0} (reason : List ℕ → Option (Refusal A)) (steps path : List ℕ) (r : Result T (Refusal A)) (f : Refusal A)
     (answer : Result U (Refusal A)) (P : Type 0) → steps ≡ path → r ≡ Err f → MatchOption (reason steps) (IsOk r) (λ g. r ≡ Err g)
     → IsErrAnd answer (λ x. x ≡ f) → MatchOption (reason path) P (λ g. answer ≡ Err g)
@@ -96,7 +96,7 @@ refused-next {A = A} {U = U} (Some g) next r f answer P on e h a =
     told x (Ok u) k = absurd k
     told x (Err y) k = ap Err k
 
--- what is told at a node is of its position
+-- the evaluation at a node is that of its position
 told-node : (p : Position) (q : Told) (f : Forest Label) (ks : List ℕ) → IsToldOf p q → AreTold p (mapped (λ l. l.told) f) → IsTrue (has_node f ks)
     → IsToldOf (position_after p (moves_to f ks)) (told_at q f ks)
 told-node p q f [] h t n = h
@@ -104,7 +104,7 @@ told-node p q none (k ∷ ks) h t n = absurd (false≢true n)
 told-node p q (more m l b r) (zero ∷ ks) h t n = told-node (after p m) l.told b ks t.0 t.1 n
 told-node p q (more m l b r) (suc k ∷ ks) h t n = told-node p q r (k ∷ ks) h t.2 n
 
--- the mark of the move, by what is kept at the node
+-- the mark of the move, from the evaluation of the node
 pub tried-mark : (k : BenchState) (steps : List ℕ) (m : Move) (w : Value) (mark : Mark) (s : Spot Label) → spot_at k.study.tree steps ≡ Some s
     → mark ≡ moved_mark (aim_of k.study) (length steps) s.label.told w → IsValueOf (after (position_at (marked k) steps) m) w → IsKeptRight k
     → IsMarkOf (marked k) steps m mark

@@ -21,7 +21,7 @@ use Rattle.study_values.specs.Values.{page_number}
 use Rattle.study_marks.specs.Queries.{IsTableHeld, IsFirstMissing, IsFirstUnread, counted_times}
 use Rattle.study_marks.specs.Told.{IsUntold, WasAsked}
 
--- one value more, counted before or after
+-- one more value, counted before or after
 joined-with : (t u : Tally) (v : Value) → tallies_joined (with_last_value t v) u ≡ tallies_joined t (with_value v u)
 joined-with t u (Win n) = refl
 joined-with t u (Loss n) = ap (λ ms. record { mates = ms; draws = t.draws + u.draws }) (append_assoc t.mates (n ∷ []) u.mates)
@@ -41,7 +41,7 @@ counted-more p m ms rest v old mid new (Ok x) e g t h =
     (v ∷ h.0, (g, h.1), h.2 ∙ ap (λ u. tallies_joined u (tally_of h.0)) t ∙ joined-with old (tally_of h.0) v)
 counted-more p m ms rest v old mid new (Err f) e g t h = tt
 
--- tables that are held
+-- tables that are loaded
 pub held-told : {V : Type 0} (held : Class → Bool) (p : Position) (r : Result V ProbeFault) (v : V) → r ≡ Ok v
     → ((c : Class) → IsErrOf r (probe.NoTable c) ↔ (IsOf c p × (held c ≡ false))) → IsTableHeld held p
 held-told held p r v e h c o = go (held c) refl
@@ -67,7 +67,7 @@ unread-same held now (p ∷ ps) f same h = (
   elim h.1 [ inl here ↦ inl here | inr there ↦ inr (unread-same held now ps f same there) ],
 )
 
--- a fault that is not a missing table is of a table that is held
+-- a fault other than a missing table is of a table that is loaded
 unread-held : {V : Type 0} (held : Class → Bool) (p : Position) (r : Result V ProbeFault) (f : ProbeFault) → r ≡ Err f
     → ((c : Class) → f ≡ probe.NoTable c → ⊥)
     → ((c : Class) → IsErrOf r (probe.NoTable c) ↔ (IsOf c p × (held c ≡ false))) → IsTableHeld held p
@@ -80,7 +80,7 @@ unread-held held p r f e other h c o = go (held c) refl
         let two : Err f ≡ Err (probe.NoTable c) = sym e ∙ one in
         let three : f ≡ probe.NoTable c = cc in absurd (other c three)
 
--- the first of some values is not told
+-- the first of some values could not be read
 pub untold-here : {V : Type 0} (held : Class → Bool) (p : Position) (ps : List Position) (r : Result V ProbeFault)
     (f : ProbeFault) → r ≡ Err f → ((c : Class) → IsErrOf r (probe.NoTable c) ↔ (IsOf c p × (held c ≡ false)))
     → ((c : Class) (n : ℕ) → IsErrOf r (probe.PageDamaged c n) → IsOf c p × (n ≡ page_number p))
@@ -105,12 +105,12 @@ pub untold-more : {T V : Type 0} (held now : Class → Bool) (p : Position) (ps 
 untold-more held now p ps a v (Ok x) e k same h = tt
 untold-more held now p ps a v (Err f) e k same h = untold-later held now p ps f (held-told held p a v e k) same h
 
--- how many were probed
+-- the number of probes
 pub asked-more : (n : ℕ) (b : Bool) (old mid new : ℕ) → mid ≡ counted old → WasAsked n b mid new → WasAsked (suc n) b old new
 asked-more n true old mid new e h = h ∙ ap (counted_times n) e
 asked-more n false old mid new e h = (suc h.0, (let z : suc h.0 < suc n = omega (arith, h.1) in z), h.2 ∙ ap (counted_times (suc h.0)) e)
 
--- the moves that are left are legal
+-- the remaining moves are legal
 pub legal-rest : (p : Position) (m : Move) (ms rest : List Move) → ms ≡ m ∷ rest → All (λ n. is_legal p n ≡ true) ms → All (λ n. is_legal p n ≡ true) rest
 legal-rest p m ms rest e h = λ k d i. subst (λ l. All (λ n. is_legal p n ≡ true) l) e h (suc k) d (let z : suc k < length (m ∷ rest) = omega (arith, i) in z)
 

@@ -1,4 +1,4 @@
--- A study whose marks are those of annotating it from scratch.
+-- A study whose marks are the result of annotating it from scratch.
 use Rattle.std.specs.Prelude.{◌≡◌, ℕ, ◌+◌, List, [], ◌∷◌, Some, None}
 use Rattle.study_board.specs.Position.{Position}
 use Rattle.study_moves.specs.declared.moves.Move.{Move}
@@ -25,7 +25,7 @@ AreValuesAfter p (m ∷ ms) (v ∷ vs) = IsValueOf (after p m) v × AreValuesAft
 abbrev pub IsMoveMark : Aim → ℕ → Position → Value → Value → MoveMark → Type 0
 IsMoveMark a d p v w mark = (all : List Value) × AreValuesAfter p (legal_list p) all × (mark ≡ move_mark a d v all w)
 
--- the marks of nodes that stand side by side: their moves are made in p, at depth d and with the value v
+-- the marks of sibling nodes: their moves are made in p, at depth d and with the value v
 abbrev pub AreAnnotated : Aim → ℕ → Position → Value → Forest Mark → Type 0
 AreAnnotated a d p v none = Unit {0}
 AreAnnotated a d p v (more m x b r) =

@@ -1,4 +1,4 @@
--- What values answered, one question after the other.
+-- The answers of values, probe after probe.
 use Rattle.std.specs.Prelude.{◌≡◌, ℕ, ◌⊎◌, List, [], ◌∷◌, Ok, Err, IsErrOf}
 use Rattle.study_board.specs.Position.{Position, IsValid}
 use Rattle.study_text.specs.Counts.{counted}
@@ -15,8 +15,8 @@ use Rattle.study_marks.specs.declared.refusal.Refusal.TheVariants.{AlreadyThere,
 use Rattle.study_marks.specs.declared.refusal.Refusal.TheVariants.{OutOfMemory, NoTable, TableRead}
 
 module _ {V : Type 0} where
-  -- values answer so to the question for a position, and are as they are then: an answer that they may give there, counted; a table that
-  -- cannot be read is one that may fail so, and what may fail then could before
+  -- the answer of values to a probe, and their next state: the answer is a possible one and is counted; an unreadable table is one that may fail so, and a
+  -- table that may fail in the next state may fail in this one
   pub record Answers (gives : V → Position → ProbeAnswer → Type 0) (may_fail : V → Class → SourceFault → Type 0)
       (asked_of : V → ℕ) (old : V) (p : Position) (answer : ProbeAnswer) (new : V) : Type 0 where
     pub valid : IsValid p
@@ -25,20 +25,20 @@ module _ {V : Type 0} where
     pub failed_so : (c : Class) (f : SourceFault) → IsOf c p → IsErrOf answer (probe.TableRead f) → may_fail old c f
     pub fails_as_before : (c : Class) (f : SourceFault) → may_fail new c f → may_fail old c f
 
-  -- these positions were probed in their order, and the value of each was read
+  -- these positions were probed in order, and each value was read
   abbrev pub WereTold : (V → Position → ProbeAnswer → Type 0) → (V → Class → SourceFault → Type 0) → (V → ℕ) → V → List Position → V → Type 0
   WereTold gives may_fail asked_of old [] new = new ≡ old
   WereTold gives may_fail asked_of old (p ∷ ps) new = (v : Value) × (mid : V) × Answers gives may_fail asked_of old p (Ok v) mid
       × WereTold gives may_fail asked_of mid ps new
 
-  -- these positions were probed in their order, up to the first whose value could not be read: its answer was this fault
+  -- these positions were probed in order, up to the first whose value could not be read; its answer was this fault
   abbrev pub IsFirstFault : (V → Position → ProbeAnswer → Type 0) → (V → Class → SourceFault → Type 0) → (V → ℕ) → V → List Position → ProbeFault → V → Type 0
   IsFirstFault gives may_fail asked_of old [] f new = ⊥
   IsFirstFault gives may_fail asked_of old (p ∷ ps) f new =
       Answers gives may_fail asked_of old p (Err f) new
       ⊎ ((v : Value) × (mid : V) × Answers gives may_fail asked_of old p (Ok v) mid × IsFirstFault gives may_fail asked_of mid ps f new)
 
-  -- a refusal that is of the values reports the fault of the first of these that could not be read
+  -- a refusal that comes from the values reports the fault of the first of these that could not be read
   abbrev pub TellsFirstFault : {A : Type 0} → (V → Position → ProbeAnswer → Type 0) → (V → Class → SourceFault → Type 0) → (V → ℕ) → V → List Position → V
       → Refusal A → Type 0
   TellsFirstFault gives may_fail asked_of old asked new (NoTable c) = IsFirstFault gives may_fail asked_of old asked (probe.NoTable c) new

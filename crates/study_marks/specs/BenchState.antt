@@ -1,4 +1,4 @@
--- What a bench keeps at each node, and what a contract sees of a bench.
+-- The labels of a bench, and a bench as contracts see it.
 use Rattle.std.specs.Prelude.{◌≡◌, ℕ, ◌+◌, Bool, true, nat_le, List, length, Option, Some, None, if◌then◌else◌}
 use Rattle.std.specs.List.{count_by, All}
 use Rattle.study_board.specs.Position.{Position, IsValid}
@@ -22,26 +22,26 @@ use Rattle.study_marks.specs.Marks.{mark_of, own_faults}
 use Rattle.study_marks.specs.Annotated.{AreValuesAfter, IsAnnotated}
 use Rattle.study_marks.specs.Edits.{is_tag_text}
 
--- what a contract sees of a bench: the study with what is kept at each node, and how many labels were written
+-- a bench as contracts see it: the study with the labels of its nodes, and the number of labels written
 pub record BenchState : Type 0 where
   pub study : Study Label
   pub relabelled : ℕ
 
--- what is kept at the nodes, without the faults
+-- the labels of the nodes without the faults: the evaluations
 abbrev pub told_tree : Plain Label → Plain Told
 told_tree t = mapped_tree (λ l. l.told) t
 
--- how many of the tallied moves lead to a position at depth d that holds, where the hero makes them
+-- the number of tallied moves that lead to a position at depth d that holds, if the hero makes them
 abbrev pub count_holding : Goal → Bool → ℕ → Tally → ℕ
 count_holding Win first d t = length t.mates
 count_holding Draw first d t = length t.mates + t.draws
 count_holding (MateIn k) first d t = count_by (λ n. nat_le (d + n) (plies_of first k)) t.mates
 
--- the mark of a move to a position with the value w, by what is kept at the node before it, which is at depth d
+-- the mark of a move to a position with the value w, from the evaluation q of the node before it, which is at depth d
 abbrev pub kept_mark : Aim → ℕ → Told → Value → MoveMark
 kept_mark a d q w = mark_of (hero_moves a d) (holds a d q.value) (holds a (d + 1) w) (count_holding a.goal a.hero_first (d + 1) q.tally)
 
--- the marks that a bench shows: of nodes side by side, whose moves are made at depth d at the node that keeps q
+-- the marks that a bench shows: of sibling nodes, whose moves are made at depth d at the node with the evaluation q
 abbrev pub shown_mark : Aim → ℕ → Told → Label → Mark
 shown_mark a d q l = record { value = l.told.value; on_move = Some (kept_mark a d q l.told.value); faults = l.faults }
 
@@ -59,7 +59,7 @@ shown_tree a t = record { label = shown_root t.label; below = shown a 0 t.label.
 abbrev pub marked : BenchState → Study Mark
 marked k = record { start = k.study.start; stipulation = k.study.stipulation; tags = k.study.tags; tree = shown_tree (aim_of k.study) k.study.tree }
 
--- the tally is that of the game's values after each legal move
+-- the tally of the game's values after each legal move
 abbrev pub IsTallied : Position → Tally → Type 0
 IsTallied p t = (all : List Value) × AreValuesAfter p (legal_list p) all × (t ≡ tally_of all)
 
@@ -67,7 +67,7 @@ abbrev pub AreTallied : Position → Forest Label → Type 0
 AreTallied p none = Unit {0}
 AreTallied p (more m l b r) = IsTallied (after p m) l.told.tally × AreTallied (after p m) b × AreTallied p r
 
--- The marks are those of annotating from scratch, and so is what is kept to find them.
+-- The marks are those of annotating from scratch, and the evaluations from which they are computed are right.
 pub record IsKeptRight (k : BenchState) : Type 0 where
   pub marks : IsAnnotated (marked k)
   pub root : IsTallied k.study.start.position k.study.tree.label.told.tally
@@ -78,7 +78,7 @@ abbrev pub all_faults : Forest Label → ℕ
 all_faults none = 0
 all_faults (more m l b r) = l.faults + all_faults r
 
--- of each child where the opponent moves, of the first alone where the hero does
+-- the faults of each child if the opponent moves, of the first alone if the hero does
 abbrev pub faults_below : Bool → Forest Label → ℕ
 faults_below hero none = 0
 faults_below hero (more m l b r) = l.faults + (if hero then 0 else all_faults r)
@@ -86,7 +86,7 @@ faults_below hero (more m l b r) = l.faults + (if hero then 0 else all_faults r)
 abbrev pub own : Aim → ℕ → Told → Value → ℕ
 own a d q v = own_faults (hero_moves a d) (Some (kept_mark a d q v))
 
--- the mark of a new node, by what is kept at the node before it
+-- the mark of a new node, from the evaluation of the node before it
 abbrev pub moved_mark : Aim → ℕ → Told → Value → Mark
 moved_mark a d q v = record { value = v; on_move = Some (kept_mark a d q v); faults = own a d q v }
 
@@ -102,7 +102,7 @@ abbrev pub IsTag : Option (List ℕ) → Type 0
 IsTag None = Unit {0}
 IsTag (Some text) = is_tag_text text ≡ true
 
--- what is true of every study that a bench holds
+-- the invariants of the study of a bench
 pub record IsStudy {L : Type 0} (s : Study L) : Type 0 where
   pub valid : IsValid s.start.position
   pub playable : IsPlayable s.start.position s.tree.below

@@ -7,13 +7,13 @@ use Rattle.study_marks.specs.declared.mark_rules.Aim.{Aim}
 use Rattle.study_marks.specs.Goals.{hero_moves}
 use Rattle.study_marks.specs.Marks.{own_faults}
 
--- the step to a row of this depth, where the row before it has depth d, is a solution step: the opponent makes it,
--- or the row is a first child, which follows its parent at once
+-- the step to a row of this depth, from a row before it of depth d, is a solution step: the opponent makes it, or the row is a
+-- first child, which follows its parent at once
 abbrev pub is_solution_step : Aim → ℕ → ℕ → Bool
 is_solution_step a d zero = true
 is_solution_step a d (suc e) = if hero_moves a e then nat_eq d e else true
 
--- 1 where the move that led to a row of this depth is the hero's, and a dual or a mistake
+-- 1 if the move that led to a row of this depth is the hero's, and a dual or a mistake
 abbrev pub fault_at : Aim → ℕ → Option MoveMark → ℕ
 fault_at a zero mark = 0
 fault_at a (suc e) mark = own_faults (hero_moves a e) mark
@@ -23,8 +23,8 @@ abbrev pub is_below : Option ℕ → ℕ → Bool
 is_below None e = false
 is_below (Some c) e = nat_lt c e
 
--- How many of these rows are faults that solution steps join to the first row of their block. The row before them
--- has depth d; the last step that is no solution step, if what is below it may go on, led to depth c.
+-- The number of faults, among these rows, that solution steps join to the first row of their block. The row before them has depth d; the last step that is
+-- not a solution step, if the rows may still be below it, led to depth c.
 abbrev pub joined_faults : Aim → ℕ → Option ℕ → List (Row Mark) → ℕ
 joined_faults a d c [] = 0
 joined_faults a d c (x ∷ xs) =

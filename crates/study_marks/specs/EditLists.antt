@@ -1,4 +1,4 @@
--- A list of edits: what each accepted one asks, finds and writes, and where the list stops.
+-- A list of edits: the probes, results and labels of each accepted one, and the end of the list.
 use Rattle.std.specs.Prelude.{◌≡◌, ℕ, ◌+◌, ◌⊎◌, Bool, true, List, [], ◌∷◌, length, take, zero, suc, MatchOption}
 use Rattle.std.specs.Prelude.{Option, None, Result, Ok, Err, IfErr, OnOk, OnErr, if◌then◌else◌}
 use Rattle.study_board.specs.Position.{Position}
@@ -32,11 +32,11 @@ module _ {A : Type 0} where
   questions_of s (edits.Promote steps) = []
   questions_of s (edits.Tag name text) = []
 
-  -- a shift is refused for a broken move, or where there is no memory for that move's path
+  -- a shift is refused for a broken move, or if there is no memory for that move's path
   abbrev pub IsShiftRefusal : (Class → Bool) → List Position → Option (Refusal A) → Refusal A → Type 0
   IsShiftRefusal held asked reason r = MatchOption reason (IsOutside held asked r) (λ fault. (r ≡ fault) ⊎ (r ≡ OutOfMemory))
 
-  -- the edit of this study may be refused so; a new position takes no memory
+  -- the edit of this study may be refused with r; a new position needs no memory
   abbrev pub IsRefusalOf : (Class → Bool) → Plainly → Edit A → Refusal A → Type 0
   IsRefusalOf held s (edits.Position start) r = IsOutside held (asked_at start.position) r × (is_of_tables r ≡ true)
   IsRefusalOf held s (edits.Shift start) r = IsShiftRefusal held (positions_asked (shifted s start)) (shift_refusal s start) r
@@ -47,7 +47,7 @@ module _ {A : Type 0} where
   IsRefusalOf held s (edits.Promote steps) r = MatchOption (promote_refusal s steps) ⊥ (λ fault. r ≡ fault)
   IsRefusalOf held s (edits.Tag name text) r = MatchOption (tag_refusal text.bytes) ⊥ (λ fault. r ≡ fault)
 
-  -- the edit of this study has no reason to be refused, and a table of each position that it probes is held
+  -- the edit of this study has no reason to be refused, and a table of each position that it probes is loaded
   pub record IsAccepted (held : Class → Bool) (s : Plainly) (e : Edit A) : Type 0 where
     pub allowed : edit_refusal s e ≡ None
     pub found : AllHeld held (questions_of s e)
@@ -56,7 +56,7 @@ module _ {A : Type 0} where
   AreAccepted held s [] = Unit {0}
   AreAccepted held s (e ∷ es) = IsAccepted held s e × AreAccepted held (edited s e) es
 
-  -- the count of labels after an edit of this study: a new position begins it anew
+  -- the count of labels after an edit of this study: a new position resets it
   abbrev pub labels_after : Plainly → Edit A → ℕ → ℕ
   labels_after s (edits.Position start) n = 1
   labels_after s (edits.Shift start) n = counted_times (size_of s.tree) n
@@ -70,8 +70,8 @@ module _ {A : Type 0} where
   labels_by s [] n = n
   labels_by s (e ∷ es) n = labels_by (edited s e) es (labels_after s e n)
 
-  -- What is kept at the nodes after an edit, right or not: the nodes that stay keep theirs. A new position and a shift ask all
-  -- of it anew, and so does an insertion at its node.
+  -- The evaluations of the nodes after an edit, right or not: nodes that stay keep their evaluation. A new position and a shift evaluate all nodes
+  -- anew, and an insertion evaluates its node.
   abbrev pub IsKeptAfter : Plain Told → Edit A → Plain Told → Type 0
   IsKeptAfter old (edits.Position start) new = Unit {0}
   IsKeptAfter old (edits.Shift start) new = Unit {0}
@@ -85,13 +85,13 @@ module _ {A : Type 0} where
   AreKeptAfter old [] new = new ≡ old
   AreKeptAfter old (e ∷ es) new = (mid : Plain Told) × IsKeptAfter old e mid × AreKeptAfter mid es new
 
-  -- after so many of the edits, the next is refused so
+  -- after n of the edits, the next is refused with r
   abbrev pub IsStopped : (Class → Bool) → Plainly → List (Edit A) → ℕ → Refusal A → Type 0
   IsStopped held s [] n r = ⊥
   IsStopped held s (e ∷ es) zero r = IsRefusalOf held s e r
   IsStopped held s (e ∷ es) (suc n) r = IsStopped held (edited s e) es n r
 
-  -- how many values were probed: all of each accepted edit, and up to one that could not be read of the refused one
+  -- the number of probes: all of each accepted edit, and those of the refused edit up to one that could not be read
   abbrev pub asked_after_edits : Plainly → List (Edit A) → ℕ → ℕ
   asked_after_edits s [] n = n
   asked_after_edits s (e ∷ es) n = asked_after_edits (edited s e) es (counted_times (length (questions_of s e)) n)
@@ -105,19 +105,19 @@ module _ {A : Type 0} where
   HasAskedBy s es (Ok x) old new = new ≡ asked_after_edits s es old
   HasAskedBy s es (Err stop) old new = HasAskedUpTo s es stop.done stop.refusal old new
 
-  -- the count of failures rises exactly where a device is refused
+  -- the count of failures rises exactly if the refusal is a device's
   abbrev pub failures_stopped : Result (Unit {0}) (Stopped A) → ℕ → ℕ
   failures_stopped (Ok x) old = old
   failures_stopped (Err s) old = if is_of_device s.refusal then counted old else old
 
-  -- after so many of the edits, the next is refused with the fault of the first value that could not be read, of values as they were then
+  -- after n of the edits, the next is refused with the fault of the first value that could not be read, of the values in their state then
   abbrev pub StopsAtFault : {V : Type 0} → (V → Position → ProbeAnswer → Type 0) → (V → Class → SourceFault → Type 0) → (V → ℕ) → V → Plainly → List (Edit A)
       → ℕ → V → Refusal A → Type 0
   StopsAtFault gives may_fail asked_of mid s [] n new r = ⊥
   StopsAtFault gives may_fail asked_of mid s (e ∷ es) zero new r = TellsFirstFault gives may_fail asked_of mid (questions_of s e) new r
   StopsAtFault gives may_fail asked_of mid s (e ∷ es) (suc n) new r = StopsAtFault gives may_fail asked_of mid (edited s e) es n new r
 
-  -- the values of the accepted edits were probed, and then those of the refused one, up to the first that could not be read
+  -- the values of the accepted edits were probed, then those of the refused one, up to the first that could not be read
   pub record TellsStop {V : Type 0} (gives : V → Position → ProbeAnswer → Type 0) (may_fail : V → Class → SourceFault → Type 0)
       (asked_of : V → ℕ) (old new : V) (s : Plainly)
       (es : List (Edit A)) (stop : Stopped A) : Type 0 where
@@ -126,8 +126,8 @@ module _ {A : Type 0} where
     pub fails_as_before : (c : Class) (f : SourceFault) → may_fail mid c f → may_fail old c f
     pub first : StopsAtFault gives may_fail asked_of mid s es stop.done new stop.refusal
 
-  -- Not part of any public contract: what one edit of a bench does, over tables that are held, values that are
-  -- honest, and the counts of questions and of failures, before and now.
+  -- Not part of any public contract: the effect of one edit of a bench, with loaded tables, honest values, and the counts of
+  -- probes and of failures, before and after.
   pub record IsApplied (held held_now : Class → Bool) (honest honest_now : Type 0)
       (asked asked_now failed failed_now : ℕ) (old new : BenchState) (e : Edit A) (r : Result (Unit {0}) (Refusal A))
       : Type 0 where

@@ -1,4 +1,4 @@
--- Not part of any public contract: faults that are renewed along a path.
+-- Not part of any public contract: faults that are updated along a path.
 use Rattle.std.specs.Prelude.{◌≡◌, ℕ, ◌+◌, ◌-◌, ◌^◌, min, nat_le, not, ◌&&◌, Bool, true, List, [], ◌∷◌, Option, Some, None, zero, suc, if◌then◌else◌}
 use Rattle.study_tree.specs.Forest.{Forest, none, more}
 use Rattle.study_tree.specs.Tree.{Plain, Spot}
@@ -8,14 +8,14 @@ use Rattle.study_marks.specs.declared.mark_rules.Aim.{Aim}
 use Rattle.study_marks.specs.Goals.{hero_moves}
 use Rattle.study_marks.specs.BenchState.{own, faults_below, AddUp}
 
--- what is kept of the path's node, where q is kept at the path's start
+-- the evaluation of the path's node, if q is the evaluation of the path's start
 abbrev pub told_at : Told → Forest Label → List ℕ → Told
 told_at q f [] = q
 told_at q none (k ∷ ks) = q
 told_at q (more m l b r) (zero ∷ ks) = told_at l.told b ks
 told_at q (more m l b r) (suc k ∷ ks) = told_at q r (k ∷ ks)
 
--- what a child at place k with n faults counts for its parent; the truth value says that the hero moves there
+-- the faults that a child at place k with n faults counts for its parent; `hero`: the hero moves there
 abbrev pub counted_faults : Bool → ℕ → ℕ → ℕ
 counted_faults hero zero n = n
 counted_faults hero (suc k) n = if hero then 0 else n
@@ -25,21 +25,21 @@ abbrev pub counts_all : Bool → ℕ → Bool
 counts_all hero zero = true
 counts_all hero (suc k) = not hero
 
--- the least depth from which on a change of the faults of the path's node is counted at each node of the path; the path begins at depth d
+-- the least depth from which on a change of the faults of the path's node counts at each node of the path; the path begins at depth d
 abbrev pub counted_from : Aim → ℕ → List ℕ → ℕ
 counted_from a d [] = d
 counted_from a d (k ∷ ks) =
     if nat_le (counted_from a (d + 1) ks) (d + 1) && counts_all (hero_moves a d) k then d else counted_from a (d + 1) ks
 
--- n faults of which `minus` are gone and `plus` are new
+-- n faults with `minus` removed and `plus` added
 abbrev pub faults_moved : ℕ → ℕ → ℕ → ℕ
 faults_moved minus plus n = min (n + plus - minus) (2 ^ 32 - 1)
 
--- what becomes of the label of a path's node at depth d, where the change is counted from depth `from` on
+-- the new label of a path's node at depth d, if the change counts from depth `from` on
 abbrev pub label_moved : ℕ → ℕ → ℕ → ℕ → Label → Label
 label_moved from minus plus d l = if nat_le from d then record { told = l.told; faults = faults_moved minus plus l.faults } else l
 
--- the faults of a node are right, but those of the path's node: there `minus` is still counted and `plus` is not yet
+-- the faults of a node are right, except at the path's node: there `minus` is still counted and `plus` is not yet
 abbrev pub AddsUp : ℕ → ℕ → List ℕ → ℕ → ℕ → Type 0
 AddsUp n right [] minus plus = n + plus ≡ right + minus
 AddsUp n right (k ∷ ks) minus plus = n ≡ right
@@ -58,12 +58,12 @@ abbrev pub IsOff : Aim → Plain Label → List ℕ → ℕ → ℕ → Type 0
 IsOff a t ks minus plus =
     AddsUp t.label.faults (faults_below (hero_moves a 0) t.below) ks minus plus × AddUpBut a 0 t.label.told t.below ks minus plus
 
--- the faults of a node, if it is there
+-- the faults of a node, 0 if it does not exist
 abbrev pub faults_of : Option (Spot Label) → ℕ
 faults_of None = 0
 faults_of (Some s) = s.label.faults
 
--- what is below the path's node
+-- the forest below the path's node
 abbrev pub below_at : {L : Type 0} → Forest L → List ℕ → Forest L
 below_at f [] = f
 below_at none (k ∷ ks) = none
@@ -76,12 +76,12 @@ skipped zero f = f
 skipped (suc k) none = none
 skipped (suc k) (more m l b r) = skipped k r
 
--- of the faults of the node that comes to the place of one that is gone, those that are new to the parent
+-- when a node is deleted: the faults of its successor that the parent did not count before
 abbrev pub faults_newly_first : Bool → ℕ → ℕ → ℕ
 faults_newly_first hero zero n = if hero then n else 0
 faults_newly_first hero (suc k) n = 0
 
--- of the faults of two nodes that are exchanged, the second from this place, those by which the parent's change
+-- when a node is exchanged with the one before it: its faults, if the parent's count changes by them
 abbrev pub faults_of_first : Bool → ℕ → ℕ → ℕ
 faults_of_first hero zero n = 0
 faults_of_first hero (suc zero) n = if hero then n else 0

@@ -1,4 +1,4 @@
--- What the public laws say.
+-- The statements of the public laws.
 use Rattle.std.specs.Prelude.{◌≡◌, ◌==◌, ℕ, ◌+◌, true, List, [], ◌∷◌, take, Some, None, if◌then◌else◌}
 use Rattle.study_board.specs.Position.{Position, IsValid}
 use Rattle.study_moves.specs.declared.moves.Move.{Move}
@@ -19,13 +19,12 @@ use Rattle.study_marks.specs.Annotated.{AreValuesAfter, IsAnnotated}
 use Rattle.study_marks.specs.Blocks.{block_faults}
 use Rattle.study_marks.specs.Edits.{Plainly, positioned, shifted, inserted, deleted, promoted}
 
--- a plain study has one annotation
+-- a plain study has exactly one annotation
 abbrev pub AnnotationsAreUnique : Type 0
 AnnotationsAreUnique = (s t : Study Mark) → IsAnnotated s → IsAnnotated t → plain_study s ≡ plain_study t → s ≡ t
 
--- The edits of a plain study are edits of its rows in written order: another position keeps the root's row alone,
--- another start keeps all rows, an inserted move is a row after the block of its parent,
--- a deleted one takes its block away, and a promoted one lets its block change places with that of the sibling before it.
+-- The edits of a plain study are edits of its rows in written order: another position keeps only the root's row, another start keeps all rows, an inserted
+-- move is a row after the block of its parent, a deletion deletes the block, and a promotion exchanges the block with that of the sibling before it.
 abbrev pub StudyEditsAreOfRows : Type 0
 StudyEditsAreOfRows =
     ((s : Plainly) (start : Start) → rows (positioned s start).tree ≡ take 1 (rows s.tree))
@@ -40,15 +39,15 @@ FaultsAreOfRows =
     (s : Study Mark) → IsAnnotated s → (steps : List ℕ) (x : Spot Mark) → spot_at s.tree steps ≡ Some x
     → x.label.faults ≡ block_faults (aim_of s) (cut_at (rows s.tree) steps).block
 
--- how many of these moves, other than m, lead to a position at depth d that holds, by the values after them
+-- the number of these moves, other than m, that lead to a position at depth d that holds, by the values after them
 abbrev pub others_that_hold : Aim → ℕ → Move → List Move → List Value → ℕ
 others_that_hold a d m [] vs = 0
 others_that_hold a d m (n ∷ ms) [] = 0
 others_that_hold a d m (n ∷ ms) (v ∷ vs) =
     (if same_move m n then 0 else (if holds a d v then 1 else 0)) + others_that_hold a d m ms vs
 
--- A move of the hero from a position that holds to one that does is the only one, or a dual with the number of the
--- other legal moves that lead to a position that holds.
+-- A move of the hero from a position that holds to another is the only one, or a dual with the number of the other legal
+-- moves that lead to a position that holds.
 abbrev pub DualCountsOthers : Type 0
 DualCountsOthers =
     (a : Aim) (d : ℕ) (p : Position) (m : Move) (v : Value) (all : List Value) (w : Value) → IsValid p

@@ -1,4 +1,4 @@
--- The values that an edit probes, and what a refusal says of them.
+-- The values that an edit probes, and the refusals that come from them.
 use Rattle.std.specs.Prelude.{◌≡◌, ℕ, ◌<◌, Bool, true, false, ◌⊎◌, List, [], ◌∷◌, ◌++◌, map, zero, suc, Result, Ok, Err, if◌then◌else◌}
 use Rattle.study_board.specs.Position.{Position}
 use Rattle.study_moves.specs.Rules.{after}
@@ -16,12 +16,12 @@ use Rattle.study_marks.specs.declared.refusal.Refusal.TheVariants.{AlreadyThere,
 use Rattle.study_marks.specs.declared.refusal.Refusal.TheVariants.{OutOfMemory, NoTable, TableRead}
 use Rattle.study_marks.specs.Study.{Study}
 
--- the position, and then those after its legal moves in their order
+-- the position, then the positions after its legal moves, in order
 abbrev pub asked_at : Position → List Position
 asked_at p = p ∷ map (after p) (legal_list p)
 
 module _ {L : Type 0} where
-  -- the same for each node, in written order
+  -- the positions probed for each node, in written order
   abbrev pub asked_below : Position → Forest L → List Position
   asked_below p none = []
   asked_below p (more m l b r) = asked_at (after p m) ++ (asked_below (after p m) b ++ asked_below p r)
@@ -29,7 +29,7 @@ module _ {L : Type 0} where
   abbrev pub positions_asked : Study L → List Position
   positions_asked s = asked_at s.start.position ++ asked_below s.start.position s.tree.below
 
--- a table of the position's class is held
+-- a table of the position's class is loaded
 abbrev pub IsTableHeld : (Class → Bool) → Position → Type 0
 IsTableHeld held p = (c : Class) → IsOf c p → held c ≡ true
 
@@ -37,28 +37,28 @@ abbrev pub AreTablesHeld : (Class → Bool) → List Position → Type 0
 AreTablesHeld held [] = Unit {0}
 AreTablesHeld held (p ∷ ps) = IsTableHeld held p × AreTablesHeld held ps
 
--- tables of the classes of all these positions are held
+-- tables of the classes of all these positions are loaded
 pub record AllHeld (held : Class → Bool) (asked : List Position) : Type 0 where
   pub each : AreTablesHeld held asked
 
--- the class of the first position of which no table is held
+-- the class of the first position whose table is not loaded
 abbrev pub IsFirstMissing : (Class → Bool) → List Position → Class → Type 0
 IsFirstMissing held [] c = ⊥
 IsFirstMissing held (p ∷ ps) c = (IsOf c p × (held c ≡ false)) ⊎ (IsTableHeld held p × IsFirstMissing held ps c)
 
--- what can be told of a position in place of its value: a device's fault, or damage of the page in which its cell stands
+-- a fault that is possible instead of a position's value: a device's fault, or damage of the page with its cell
 abbrev pub IsFaultAt : Position → ProbeFault → Type 0
 IsFaultAt p (probe.NoTable c) = ⊥
 IsFaultAt p (probe.TableRead f) = Unit {0}
 IsFaultAt p (probe.PageDamaged c n) = IsOf c p × (n ≡ page_number p)
 
--- the fault of the first position whose value cannot be read; its table, and those of all before it, are held
+-- the fault of the first position whose value cannot be read; its table, and the tables of all positions before it, are loaded
 abbrev pub IsFirstUnread : (Class → Bool) → List Position → ProbeFault → Type 0
 IsFirstUnread held [] f = ⊥
 IsFirstUnread held (p ∷ ps) f = IsTableHeld held p × (IsFaultAt p f ⊎ IsFirstUnread held ps f)
 
 module _ {A : Type 0} where
-  -- what is refused after the plain study's own reasons: for want of memory, or of the first of these values that could not be read
+  -- the refusals after the plain study's own reasons: for want of memory, or of the first of these values that could not be read
   abbrev pub IsOutside : (Class → Bool) → List Position → Refusal A → Type 0
   IsOutside held asked OutOfMemory = Unit {0}
   IsOutside held asked (NoTable c) = IsFirstMissing held asked c
@@ -103,24 +103,23 @@ module _ {A : Type 0} where
   is_of_device TagText = false
   is_of_device OutOfMemory = false
 
--- a count, so many up
+-- a count, increased k times
 abbrev pub counted_times : ℕ → ℕ → ℕ
 counted_times zero n = n
 counted_times (suc k) n = counted_times k (counted n)
 
--- values were probed up to one that could not be read, after some that were, or none was asked
+-- values were probed up to one that could not be read, after some that were; or none was probed
 abbrev pub HasStopped : Bool → ℕ → ℕ → ℕ → Type 0
 HasStopped true n old new = (k : ℕ) × (k < n) × (new ≡ counted_times (suc k) old)
 HasStopped false n old new = new ≡ old
 
 module _ {T A : Type 0} where
-  -- how many values were probed: as many as there are; at least one and at most these where one could not be read; none where the
-  -- edit was refused before
+  -- the number of probes: all n; or at least one and at most n if a value could not be read; or none if the edit was refused before
   abbrev pub HasAsked : ℕ → Result T (Refusal A) → ℕ → ℕ → Type 0
   HasAsked n (Ok x) old new = new ≡ counted_times n old
   HasAsked n (Err e) old new = HasStopped (is_of_tables e) n old new
 
-  -- the count of failures rises exactly where a device is refused
+  -- the count of failures rises exactly if the refusal is a device's
   abbrev pub failures_after : Result T (Refusal A) → ℕ → ℕ
   failures_after (Ok x) old = old
   failures_after (Err e) old = if is_of_device e then counted old else old

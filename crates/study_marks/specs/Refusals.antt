@@ -1,4 +1,4 @@
--- How the refusal of an edit tells of a fault of a tree or of values.
+-- The refusal of an edit for a fault of a tree or of values.
 use Rattle.study_values.specs.declared.values.ProbeFault.{ProbeFault}
 use Rattle.study_values.specs.declared.values.ProbeFault.TheVariants as probe
 use Rattle.study_tree.specs.declared.fault.TreeFault.{TreeFault}

@@ -1,4 +1,4 @@
--- Not part of any public contract: the evaluations of all nodes anew, and the faults that are counted anew from it. Nodes are numbered in written order.
+-- Not part of any public contract: the new evaluations of all nodes, and the faults that are counted from them. Nodes are numbered in written order.
 use Rattle.std.specs.Prelude.{ℕ, ◌+◌, ◌-◌, ◌^◌, min, List, [], ◌∷◌, ◌++◌, zero, suc, slice_index_or}
 use Rattle.study_board.specs.Position.{Position}
 use Rattle.study_moves.specs.Rules.{after}
@@ -14,20 +14,20 @@ use Rattle.study_marks.specs.FaultSums.{counted_faults}
 use Rattle.study_marks.specs.Queries.{asked_at}
 use Rattle.study_marks.specs.Told.{IsToldOf}
 
--- the list's evaluation of node n; where the list is shorter, the node's present one
+-- the list's evaluation of node n; the node's present one if the list is shorter
 abbrev pub told_in : List Told → ℕ → Told → Told
 told_in all n t = slice_index_or all n t
 
--- the same nodes, side by side, with the list's evaluations of them; the first of them is node n
+-- the same sibling nodes with the list's evaluations; the first of them is node n
 abbrev pub retold : List Told → ℕ → Forest Told → Forest Told
 retold all n none = none
 retold all n (more m t b r) = more m (told_in all n t) (retold all (n + 1) b) (retold all (n + 1 + nodes_in b) r)
 
--- the tree with the list's evaluations of its nodes, the root being node 0
+-- the tree with the list's evaluations of its nodes; the root is node 0
 abbrev pub retold_tree : List Told → Plain Told → Plain Told
 retold_tree all t = record { label = told_in all 0 t.label; below = retold all 1 t.below }
 
--- the same nodes with their faults; their moves are made at depth d at the node that keeps q
+-- the same nodes with their faults; their moves are made at depth d at the node with the evaluation q
 abbrev pub refreshed : List Told → Aim → ℕ → ℕ → Told → Forest Label → Forest Label
 refreshed all a d n q none = none
 refreshed all a d n q (more m l b r) =
@@ -39,7 +39,7 @@ refreshed all a d n q (more m l b r) =
     })
     (refreshed all a (d + 1) (n + 1) (told_in all n l.told) b) (refreshed all a d (n + 1 + nodes_in b) q r)
 
--- the same as labels are written one after the other: a node begins with its own faults, and each child adds what it counts
+-- `refreshed`, as labels are written one after the other: a node begins with its own faults, and each child adds its count
 abbrev pub refreshing : List Told → Aim → Pass Label
 refreshing all a = record {
   begun = λ l. record { told = told_in all 0 l.told; faults = 0 };
@@ -47,18 +47,18 @@ refreshing all a = record {
   joined = λ d k q l. record { told = q.told; faults = min (q.faults + counted_faults (hero_moves a d) k l.faults) (2 ^ 32 - 1) };
 }
 
--- the first k of nodes side by side
+-- the first k siblings
 abbrev pub firsts : {L : Type 0} → ℕ → Forest L → Forest L
 firsts zero f = none
 firsts (suc k) none = none
 firsts (suc k) (more m l b r) = more m l b (firsts k r)
 
--- the positions of nodes side by side, and of all below them, in written order; their moves are made in p
+-- the positions of sibling nodes, and of all nodes below them, in written order; their moves are made in p
 abbrev pub positions_in : {L : Type 0} → Position → Forest L → List Position
 positions_in p none = []
 positions_in p (more m l b r) = after p m ∷ (positions_in (after p m) b ++ positions_in p r)
 
--- what is probed for these positions, one after the other
+-- the probes for these positions, one position after the other
 abbrev pub asked_each : List Position → List Position
 asked_each [] = []
 asked_each (p ∷ ps) = asked_at p ++ asked_each ps

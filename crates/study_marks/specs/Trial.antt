@@ -1,4 +1,4 @@
--- A move tried at a node, and not inserted.
+-- A move tried at a node, without inserting it.
 use Rattle.std.specs.Prelude.{◌≡◌, ℕ, not, List, length, Option, Some, None, if◌then◌else◌}
 use Rattle.study_moves.specs.declared.moves.Move.{Move}
 use Rattle.study_moves.specs.Rules.{is_legal}
@@ -12,13 +12,13 @@ use Rattle.study_marks.specs.Goals.{aim_of}
 use Rattle.study_marks.specs.Annotated.{AreAnnotated}
 use Rattle.study_marks.specs.Edits.{Plainly}
 
--- the first reason not to try a move, the outside apart
+-- the first reason not to try a move, apart from tables and memory
 abbrev pub trial_refusal : {A : Type 0} → Plainly → List ℕ → Move → Option (Refusal A)
 trial_refusal s steps m =
     if not (has_spot s.tree steps) then Some NoSuchNode
     else (if not (is_legal (position_at s steps) m) then Some IllegalMove else None)
 
--- a new node with this move, and none below it, would have this mark below the node
+-- a new node with this move, and without children, would have this mark below the node
 abbrev pub IsMarkOf : Study Mark → List ℕ → Move → Mark → Type 0
 IsMarkOf s steps m mark =
     (x : Spot Mark) → spot_at s.tree steps ≡ Some x

@@ -42,7 +42,7 @@ use study_tree::{MAX_DEPTH, MAX_NODES, Path, Tree};
 use study_values::Values;
 
 impl<'a, A: Allocator> Bench<'a, A> {
-    /// A study with the root alone, and no tag known.
+    /// A study with the root alone and no tags.
     pub fn new<V: Values>(
         alloc: &'a A,
         start: Start,
@@ -78,7 +78,7 @@ impl<'a, A: Allocator> Bench<'a, A> {
         })
     }
 
-    /// Another start, and the root alone.
+    /// Sets another start, and keeps the root alone.
     pub fn set_position<V: Values>(
         &mut self,
         start: Start,
@@ -105,7 +105,7 @@ impl<'a, A: Allocator> Bench<'a, A> {
         Ok(())
     }
 
-    /// Another start, and the same tree, each move of which has to be legal.
+    /// Sets another start, and keeps the tree, each move of which must be legal.
     pub fn shift_position<V: Values>(
         &mut self,
         start: Start,
@@ -136,7 +136,7 @@ impl<'a, A: Allocator> Bench<'a, A> {
         self.annotate(start, values)
     }
 
-    /// One more child of the node, the last, by a move that is legal there and that no child has; says its place.
+    /// Adds a last child to the node, by a move that is legal there and that no child has; returns its place.
     pub fn insert<V: Values>(
         &mut self,
         path: &Path<'a, A>,
@@ -173,7 +173,7 @@ impl<'a, A: Allocator> Bench<'a, A> {
         Ok(place)
     }
 
-    /// Another stipulation.
+    /// Sets another stipulation.
     pub fn set_stipulation(&mut self, stipulation: Stipulation)
         ensures edited { plain_study (marked self.new) ≡ stipulated (plain_study (marked self.old)) stipulation }
         ensures kept { told_tree self.new.study.tree ≡ told_tree self.old.study.tree }
@@ -185,7 +185,7 @@ impl<'a, A: Allocator> Bench<'a, A> {
         self.stipulation = stipulation;
     }
 
-    /// The node taken out, with all below it.
+    /// Removes the node, with all nodes below it.
     pub fn delete(&mut self, path: &Path<'a, A>) -> Result<(), Refusal<'a, A>>
         ensures refusal { MatchOption (delete_refusal (plain_study (marked self.old)) path.now) (IsOk result) (λ fault. result ≡ Err fault) }
         ensures edited { OnOk result (plain_study (marked self.new) ≡ deleted (plain_study (marked self.old)) path.now) }
@@ -199,7 +199,7 @@ impl<'a, A: Allocator> Bench<'a, A> {
         Ok(())
     }
 
-    /// The node exchanged with the one before it.
+    /// Exchanges the node with the one before it.
     pub fn promote(&mut self, path: &Path<'a, A>) -> Result<(), Refusal<'a, A>>
         ensures refusal { MatchOption (promote_refusal (plain_study (marked self.old)) path.now) (IsOk result) (λ fault. result ≡ Err fault) }
         ensures edited { OnOk result (plain_study (marked self.new) ≡ promoted (plain_study (marked self.old)) path.now) }
@@ -213,7 +213,7 @@ impl<'a, A: Allocator> Bench<'a, A> {
         Ok(())
     }
 
-    /// Another text of a tag.
+    /// Sets another text of a tag.
     pub fn set_tag(&mut self, name: TagName, text: &str) -> Result<(), Refusal<'a, A>>
         ensures refusal { MatchOption (tag_refusal text.now) (IsOk result) (λ fault. result ≡ Err fault) }
         ensures edited { OnOk result (plain_study (marked self.new) ≡ tagged (plain_study (marked self.old)) name text.now) }
@@ -234,7 +234,7 @@ impl<'a, A: Allocator> Bench<'a, A> {
         }
     }
 
-    /// Asks every value anew.
+    /// Probes every value anew.
     pub fn reannotate<V: Values>(&mut self, values: &mut V) -> Result<(), Refusal<'a, A>>
         ensures refusal { IfErr result (IsOutside (V.held values.old) (positions_asked (marked self.old))) }
         ensures study { OnOk result (plain_study (marked self.new) ≡ plain_study (marked self.old)) }
@@ -254,7 +254,7 @@ impl<'a, A: Allocator> Bench<'a, A> {
         self.annotate(start, values)
     }
 
-    /// The edits in order, up to the first that is refused.
+    /// Applies the edits in order, up to the first that is refused.
     pub fn apply_all<V: Values>(
         &mut self,
         edits: &[Edit<'a, A>],
@@ -303,8 +303,7 @@ impl<'a, A: Allocator> Bench<'a, A> {
         Ok(before)
     }
 
-    /// Another start, from which each move of the tree is legal, and the same tree: probes every value, and then writes
-    /// all labels.
+    /// Sets another start, from which each move of the tree is legal, and keeps the tree: probes every value, then writes all labels.
     fn annotate<V: Values>(&mut self, start: Start, values: &mut V) -> Result<(), Refusal<'a, A>>
         requires playable { IsPlayable start.position self.old.study.tree.below }
         ensures refusal { IfErr result (IsOutside (V.held values.old) (positions_asked (shifted (plain_study (marked self.old)) start))) }
@@ -330,7 +329,7 @@ impl<'a, A: Allocator> Bench<'a, A> {
         Ok(())
     }
 
-    /// One edit.
+    /// Applies one edit.
     fn apply<V: Values>(&mut self, edit: &Edit<'a, A>, values: &mut V) -> Result<(), Refusal<'a, A>>
         ensures applied { IsApplied (V.held values.old) (V.held values.new) (V.is_honest values.old) (V.is_honest values.new)
             (V.asked_of values.old) (V.asked_of values.new) (V.failed_of values.old) (V.failed_of values.new)
@@ -358,14 +357,14 @@ impl<'a, A: Allocator> Bench<'a, A> {
     }
 }
 
-/// Writes one of the tags.
+/// Sets the text of a tag.
 fn set_tag_text(tags: &mut [Option<ArrayString<64>>; 6], name: TagName, text: ArrayString<64>)
     ensures { map text_of tags.new ≡ slice_set (map text_of tags.old) (place_of_tag name) (Some text.bytes) }
 {
     tags[tag_place(name)] = Some(text);
 }
 
-/// The refusal of a shift that breaks the move at the path.
+/// The refusal of a shift that makes the move at the path illegal.
 fn shift_broken_at<'a, A: Allocator>(alloc: &'a A, steps: &[u16]) -> Refusal<'a, A>
     ensures { (result ≡ Refusal.ShiftBroken steps.now) ⊎ (result ≡ Refusal.OutOfMemory) }
 {
@@ -378,7 +377,7 @@ fn shift_broken_at<'a, A: Allocator>(alloc: &'a A, steps: &[u16]) -> Refusal<'a,
     Refusal::ShiftBroken(path)
 }
 
-/// Whether these are 1 to 60 bytes that print.
+/// Whether these are 1 to 60 printable bytes.
 fn is_tag_text(text: &[u8]) -> bool
     ensures { result ≡ is_tag_text text.now }
 {

@@ -32,7 +32,7 @@ fn child_move<'a, A: Allocator>(
     }
 }
 
-/// The place of the first child with the move, of those from a place on.
+/// The place of the first child with the move, from a place on.
 fn find_from<'a, A: Allocator>(
     tree: &Tree<'a, Label, A>,
     steps: &[u16],

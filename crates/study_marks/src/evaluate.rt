@@ -1,4 +1,4 @@
-//! Values that are probed.
+//! Probing values.
 ghost use Rattle.std.specs.Prelude.{◌≡◌, ◌+◌, ◌≤◌, true, List, length, map, is_ok, OnOk, IfOk, IfErr};
 ghost use Rattle.std.specs.List.{All};
 ghost use Rattle.study_material.specs.declared.class.Class.{Class as AClass};
@@ -18,7 +18,7 @@ use study_board::Position;
 use study_moves::{MAX_MOVES, Move, legal_moves, played};
 use study_values::{ProbeFault, Values};
 
-/// Asks the values after these moves, and adds them to the tally.
+/// Probes the values after these moves, and adds them to the tally.
 fn tally_moves<V: Values>(
     p: &Position,
     moves: &[Move],
@@ -55,7 +55,7 @@ fn tally_moves<V: Values>(
     }
 }
 
-/// Asks what a label keeps of a position: its value, and the values after its legal moves.
+/// Evaluates a position: its value, and the values after its legal moves.
 pub fn evaluate<V: Values>(p: &Position, values: &mut V) -> Result<Told, ProbeFault>
     ensures game { V.is_honest values.old → IfOk result (IsToldOf p.now) }
     ensures untold { IfErr result (IsUntold (V.held values.old) (asked_at p.now)) }
@@ -69,7 +69,7 @@ pub fn evaluate<V: Values>(p: &Position, values: &mut V) -> Result<Told, ProbeFa
     ensures fails_as_before { (c : AClass) (f : ASourceFault) → V.may_fail values.new c f → V.may_fail values.old c f }
     ensures tables { (c : AClass) → V.held values.new c ≡ V.held values.old c }
 {
-    // (the position is valid, as the clauses on its answer say)
+    // (the clauses of `men` say that the position is valid)
     let _men = p.men();
     match values.value(p) {
         Err(fault) => Err(fault),

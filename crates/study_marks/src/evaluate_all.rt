@@ -21,7 +21,7 @@ use study_moves::played;
 use study_tree::{Branch, Tree};
 use study_values::{ProbeFault, Values};
 
-/// Puts one more position last.
+/// Appends a position to the list.
 fn push_position<'a, A: Allocator>(
     all: &mut Vec<Position, &'a A>,
     position: &Position,
@@ -34,7 +34,7 @@ fn push_position<'a, A: Allocator>(
     }
 }
 
-/// Lists the positions of all below the node, which has this position, in written order.
+/// Lists the positions of all nodes below the node, which has this position, in written order.
 fn list_positions_below<'t, 'a, A: Allocator>(
     node: &Branch<'t, 'a, Label, A>,
     position: &Position,
@@ -57,7 +57,7 @@ fn list_positions_below<'t, 'a, A: Allocator>(
     Ok(())
 }
 
-/// The positions of all nodes in written order, where this is the root's.
+/// The positions of all nodes in written order; this is the root's.
 fn list_positions<'a, A: Allocator>(
     alloc: &'a A,
     tree: &Tree<'a, Label, A>,
@@ -122,8 +122,7 @@ fn evaluate_each<'a, A: Allocator, V: Values>(
     Ok(())
 }
 
-/// Evaluates all nodes of the tree, whose root has this position, in written order. All memory is found
-/// before the first value is probed.
+/// Evaluates all nodes of the tree, whose root has this position, in written order. All memory is allocated before the first value is probed.
 pub fn evaluate_all<'a, A: Allocator, V: Values>(
     alloc: &'a A,
     tree: &Tree<'a, Label, A>,

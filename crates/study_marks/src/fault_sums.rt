@@ -1,4 +1,4 @@
-//! Faults renewed along a path to the root.
+//! Faults updated along a path to the root.
 ghost use Rattle.std.specs.Prelude.{◌≡◌, ◌+◌, ◌<◌, ◌^◌, IsTrue, length};
 ghost use Rattle.study_tree.specs.Tree.{plain_tree, has_spot};
 ghost use Rattle.study_marks.specs.Queries.{counted_times};
@@ -12,7 +12,7 @@ use crate::mark_rules::{Aim, hero_moves};
 use std::alloc::Allocator;
 use study_tree::{LabelChange, Tree};
 
-/// What a child with these faults counts for its parent at this depth, where it stands at this place.
+/// The faults that a child at this place, with these faults, counts for its parent at this depth.
 pub fn counted_faults(aim: &Aim, depth: usize, place: u16, faults: u32) -> u32
     ensures { result ≡ counted_faults (hero_moves aim.now depth) place faults }
 {
@@ -23,7 +23,7 @@ pub fn counted_faults(aim: &Aim, depth: usize, place: u16, faults: u32) -> u32
     }
 }
 
-/// Where a node is gone from this place: the faults of the one that came there, if they are new to the parent.
+/// After a node at this place was deleted: the faults of its successor, if they are new to the parent.
 pub fn faults_newly_first(aim: &Aim, depth: usize, place: u16, faults: u32) -> u32
     ensures { result ≡ faults_newly_first (hero_moves aim.now depth) place faults }
 {
@@ -34,7 +34,7 @@ pub fn faults_newly_first(aim: &Aim, depth: usize, place: u16, faults: u32) -> u
     }
 }
 
-/// Where a node at this place is exchanged with the one before it: the faults, if the parent's change by them.
+/// When a node at this place is exchanged with the one before it: its faults, if the parent's change by them.
 pub fn faults_of_first(aim: &Aim, depth: usize, place: u16, faults: u32) -> u32
     ensures { result ≡ faults_of_first (hero_moves aim.now depth) place faults }
 {
@@ -52,8 +52,7 @@ fn counts_all(aim: &Aim, depth: usize, place: u16) -> bool
     place == 0 || !hero_moves(aim, depth)
 }
 
-/// The least depth from which on a change of the faults of the path's node is counted at each node of the path, which
-/// begins at this depth.
+/// The least depth from which on a change of the faults of the path's node counts at each node of the path, which begins at this depth.
 fn counted_from(aim: &Aim, depth: usize, steps: &[u16]) -> usize
     requires short { depth + length steps.now < 2 ^ 64 }
     ensures { result ≡ counted_from aim.now depth steps.now }
@@ -71,7 +70,7 @@ fn counted_from(aim: &Aim, depth: usize, steps: &[u16]) -> usize
     }
 }
 
-/// So many faults less and so many more, at each node of a path from this depth on.
+/// A change of faults, by so many removed and so many added, at each node of a path from this depth on.
 #[derive(Clone, Copy)]
 struct FaultChange {
     from: usize,
@@ -91,7 +90,7 @@ impl LabelChange<Label> for FaultChange {
     }
 }
 
-/// These faults, of which `minus` are gone and `plus` are new.
+/// These faults with `minus` removed and `plus` added.
 fn faults_moved(faults: u32, minus: u32, plus: u32) -> u32
     ensures { result ≡ faults_moved minus plus faults }
 {
@@ -99,8 +98,8 @@ fn faults_moved(faults: u32, minus: u32, plus: u32) -> u32
     now.min(u32::MAX as u64) as u32
 }
 
-/// Writes the faults of the path's node, of which `minus` are gone and `plus` are new; then those of its parent, as
-/// far as the node counts for it; and so on up to the root.
+/// Writes the faults of the path's node, with `minus` removed and `plus` added; then those of its parent, as far as the node
+/// counts for it; and so on up to the root.
 pub fn update_faults<'a, A: Allocator>(
     aim: &Aim,
     tree: &mut Tree<'a, Label, A>,

@@ -3,7 +3,7 @@ ghost use Rattle.study_marks.specs.Laws.{AnnotationsAreUnique, DualCountsOthers,
 
 use study_moves::values_are_unique;
 
-/// Two annotated studies with one plain study are one.
+/// Two annotations of the same plain study are equal.
 pub fn annotations_are_unique()
     ensures { AnnotationsAreUnique }
 {
@@ -17,8 +17,8 @@ pub fn edits_in_rows()
     study_tree::edits_in_rows::<()>();
 }
 
-/// The faults of a node in an annotated study are the rows of its block that solution steps join to the block's first,
-/// and whose moves are the hero's and duals or mistakes.
+/// The faults of a node in an annotated study are the rows of its block that solution steps join to the block's first row, and whose
+/// moves are the hero's and duals or mistakes.
 pub fn faults_in_rows()
     ensures { FaultsAreOfRows }
 {}

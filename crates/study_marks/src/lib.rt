@@ -1,8 +1,8 @@
-//! A study with marks that are always those of annotating it from scratch.
+//! A study whose marks always equal those of annotating it from scratch.
 //!
-//! A `Bench` holds a study: a start, a stipulation, tags, and a tree of moves. Each edit says what it makes of the plain
-//! study, and leaves marks that are those of the new one if the values that it probed were the game's. `insert`,
-//! `delete` and `promote` renew what is kept on one path to the root; a refused edit changes nothing.
+//! A `Bench` has a study: a start, a stipulation, tags, and a tree of moves. The contract of each edit gives the plain study after it, and the marks
+//! after it are those of the new study if the values that it probed were the game's. `insert`, `delete` and `promote` update the labels on one path to
+//! the root; a refused edit changes nothing.
 #![tactic(auto)]
 
 mod bench;

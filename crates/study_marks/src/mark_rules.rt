@@ -1,4 +1,4 @@
-//! The mark of a move, from what is kept at the node before it.
+//! The mark of a move, from the evaluation of the node before it.
 ghost use Rattle.std.specs.Prelude.{◌≡◌, ◌+◌, ◌^◌, ◌≤◌, ◌<◌, length, nat_le};
 ghost use Rattle.std.specs.List.{count_by};
 ghost use Rattle.study_board.specs.Men.{same_side};
@@ -42,7 +42,7 @@ pub fn hero_moves(aim: &Aim, depth: usize) -> bool
     }
 }
 
-/// In how many plies the hero mates, who is the side to move or not.
+/// The number of plies in which the hero mates; `hero`: the side to move is the hero.
 pub fn hero_mates(hero: bool, value: Value) -> Option<u8>
     ensures { result ≡ hero_mates hero value }
 {
@@ -73,7 +73,7 @@ fn plies_of(hero_first: bool, moves: MateMoves) -> usize
     if hero_first { 2 * count - 1 } else { 2 * count }
 }
 
-/// Whether so many plies from this depth on are within the limit.
+/// Whether so many plies after this depth are within the limit.
 fn within(depth: usize, plies: u8, limit: usize) -> bool
     ensures { result ≡ nat_le (depth + plies) limit }
 {
@@ -96,7 +96,7 @@ pub fn holds(aim: &Aim, depth: usize, value: Value) -> bool
     }
 }
 
-/// How many of the distances, counted from this depth, are within the limit.
+/// The number of the distances, counted from this depth, that are within the limit.
 fn count_within(mates: &[u8], depth: usize, limit: usize) -> usize
     requires { length mates.now ≤ MAX_MOVES }
     ensures { result ≡ count_by (λ n. nat_le (depth + n) limit) mates.now }
@@ -110,7 +110,7 @@ fn count_within(mates: &[u8], depth: usize, limit: usize) -> usize
     count
 }
 
-/// How many of the tallied moves of the hero lead to a position at this depth that holds.
+/// The number of tallied moves of the hero that lead to a position at this depth that holds.
 fn count_holding(aim: &Aim, depth: usize, tally: &Tally) -> usize
     ensures value { result ≡ count_holding aim.now.goal aim.now.hero_first depth tally.now }
     ensures few { result ≤ MAX_MOVES }
@@ -126,7 +126,7 @@ fn count_holding(aim: &Aim, depth: usize, tally: &Tally) -> usize
     }
 }
 
-/// The mark of a move that holds, as so many of the legal moves do.
+/// The mark of a move that holds, if so many of the legal moves hold.
 pub fn only_or_dual(count: usize) -> MoveMark
     requires { count ≤ 256 }
     ensures { result ≡ only_or_dual count }
@@ -170,7 +170,7 @@ fn is_fault(mark: MoveMark) -> bool
     }
 }
 
-/// The faults that a node has by the move that led to it: 1 or none.
+/// The faults of a node for the move that led to it: 1 or 0.
 pub fn own_faults(aim: &Aim, depth: usize, before: &Told, after: Value) -> u32
     requires { depth + 1 < 2 ^ 64 }
     ensures value { result ≡ own aim.now depth before.now after }

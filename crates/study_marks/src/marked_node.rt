@@ -11,7 +11,7 @@ use std::marker::Model;
 use study_moves::Move;
 use study_tree::Branch;
 
-/// A borrowed node, and all below it, seen as an annotated tree of its own.
+/// A borrowed node, and all nodes below it, seen as an annotated tree of its own.
 #[derive(Drop)]
 pub struct MarkedNode<'t, 'a, A: Allocator> {
     aim: Aim,
@@ -65,14 +65,14 @@ impl<'t, 'a, A: Allocator> MarkedNode<'t, 'a, A> {
         self.mark
     }
 
-    /// How many children the node has.
+    /// The number of children of the node.
     pub fn width(&self) -> u16
         ensures { result ≡ width self.now.below }
     {
         self.branch.width()
     }
 
-    /// The child at this place, if there is one.
+    /// The child at this place, `None` if there is no such child.
     pub fn child(&self, place: u16) -> Option<MarkedChild<'t, 'a, A>>
         ensures { MatchOption result (node_in self.now.below place [] ≡ None)
             (λ c. node_in self.now.below place [] ≡ Some (record { played = c.played; label = c.node.label; below = c.node.below })) }

@@ -6,7 +6,7 @@ use study_material::Class;
 use study_tree::{Path, TreeFault};
 use study_values::ProbeFault;
 
-/// Why an edit is refused, in the order in which the reasons are looked for.
+/// Why an edit is refused; reasons are checked in this order.
 #[derive(Drop)]
 pub enum Refusal<'a, A: Allocator> {
     NoSuchNode,

@@ -1,4 +1,4 @@
-//! The whole tree: its first move that is not legal, and the labels of all nodes, written anew.
+//! The whole tree: its first move that is not legal, and new labels of all nodes.
 ghost use Rattle.std.specs.Prelude.{◌≡◌, ◌-◌, ◌≤◌, ◌++◌, ℕ, List, IsTrue, length, Some, None, false};
 ghost use Rattle.study_tree.specs.Edits.{IsWithin};
 ghost use Rattle.study_tree.specs.Tree.{plain_tree, size_of};
@@ -16,10 +16,10 @@ use study_board::Position;
 use study_moves::{is_legal, played};
 use study_tree::{Branch, Rewriting, Tree};
 
-/// A way down from the root that takes no memory.
+/// A path from the root that takes no memory.
 pub type Steps = ArrayVec<u16, 256>;
 
-/// Goes to the first node in written order, below this one, whose move is not legal; stays where there is none.
+/// Goes to the first node in written order, below this one, whose move is not legal; stays if there is none.
 pub fn find_illegal_move<'t, 'a, A: Allocator>(
     node: &Branch<'t, 'a, Label, A>,
     position: &Position,
@@ -51,7 +51,7 @@ pub fn find_illegal_move<'t, 'a, A: Allocator>(
     false
 }
 
-/// The new labels of all nodes: the evaluations of the list, the present ones where it is shorter, and the faults anew.
+/// The new labels of all nodes: the evaluations of the list, or the present ones if it is shorter, with the faults counted anew.
 #[derive(Clone, Copy)]
 struct Refreshing<'r> {
     aim: &'r Aim,
@@ -79,7 +79,7 @@ impl<'r> Rewriting<Label> for Refreshing<'r> {
     }
 }
 
-/// Writes the list's evaluation of the node with this number; where the list is shorter, the present one stays.
+/// Writes the list's evaluation of the node with this number; the present one stays if the list is shorter.
 fn retell(all: &[Told], number: usize, told: &mut Told)
     ensures { told.new ≡ told_in all.now number told.old }
 {
@@ -88,8 +88,7 @@ fn retell(all: &[Told], number: usize, told: &mut Told)
     }
 }
 
-/// Writes all labels: evaluations come from the list, one for each node in written order, or stay where the list is
-/// empty; the faults are counted anew.
+/// Writes all labels: the evaluations come from the list, one for each node in written order, or stay if the list is empty; the faults are counted anew.
 pub fn relabel_all<'a, A: Allocator>(aim: &Aim, tree: &mut Tree<'a, Label, A>, all: &[Told])
     ensures told { told_tree (plain_tree tree.new) ≡ retold_tree all.now (told_tree (plain_tree tree.old)) }
     ensures right { AllAddUp aim.now (plain_tree tree.new) }

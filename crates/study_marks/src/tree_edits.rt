@@ -1,4 +1,4 @@
-//! Edits of the tree with the faults renewed along the path.
+//! Edits of the tree with the faults updated along the path.
 ghost use Rattle.std.specs.Prelude.{◌≡◌, ◌+◌, ◌<◌, IsOk, OnOk, OnErr, MatchOption, Err, None, length};
 ghost use Rattle.study_tree.specs.Edits.{children_at};
 ghost use Rattle.study_tree.specs.Tree.{plain_tree, spot_at, spare_of, with_child, without, moved_up, child_refusal, removal_refusal, move_up_refusal};
@@ -13,7 +13,7 @@ use std::alloc::Allocator;
 use study_moves::Move;
 use study_tree::{Tree, TreeFault};
 
-/// Gives the node one more child, the last, for which there is room, and says its place.
+/// Adds a last child, for which there is room, to the node, and returns its place.
 pub fn add_node<'a, A: Allocator>(
     aim: &Aim,
     tree: &mut Tree<'a, Label, A>,
@@ -43,7 +43,7 @@ pub fn add_node<'a, A: Allocator>(
     }
 }
 
-/// The faults of the node, if there is one.
+/// The faults of the node, 0 if there is no such node.
 fn faults_at<'a, A: Allocator>(tree: &Tree<'a, Label, A>, steps: &[u16]) -> u32
     ensures { result ≡ faults_of (spot_at (plain_tree tree.now) steps.now) }
 {
@@ -53,7 +53,7 @@ fn faults_at<'a, A: Allocator>(tree: &Tree<'a, Label, A>, steps: &[u16]) -> u32
     }
 }
 
-/// Takes the node out, with all below it.
+/// Removes the node, with all nodes below it.
 pub fn remove_node<'a, A: Allocator>(
     aim: &Aim,
     tree: &mut Tree<'a, Label, A>,

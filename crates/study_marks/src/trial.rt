@@ -1,4 +1,4 @@
-//! The mark of a move that the tree need not have.
+//! The mark of a move that need not be in the tree.
 ghost use Rattle.std.specs.Prelude.{◌≡◌, ◌≤◌, ◌∷◌, [], length, Some, Err, true, IsTrue, IsOk, IsErrOf, OnOk, IfOk, IfErr, MatchOption};
 ghost use Rattle.study_material.specs.declared.class.Class.{Class as AClass};
 ghost use Rattle.study_values.specs.declared.fault.SourceFault.{SourceFault as ASourceFault};
@@ -26,7 +26,7 @@ use study_values::{Value, Values};
 impl<'a, A: Allocator> Bench<'a, A> {
     /// The value, the mark and the faults that a new node would show if this legal move were inserted below the node.
     ///
-    /// Nothing is inserted: the tree may have the move already, be full, or be as deep as it can be there. One value is probed.
+    /// Nothing is inserted: the tree may have the move already, be full, or be as deep there as it can be. One value is probed.
     pub fn mark_of<V: Values>(
         &self,
         path: &Path<'a, A>,
@@ -72,7 +72,7 @@ impl<'a, A: Allocator> Bench<'a, A> {
         Ok(before)
     }
 
-    /// The mark of a new node below the node, by the value of its position.
+    /// The mark of a new node below the node, from the value of its position.
     fn mark_after_move(&self, steps: &[u16], after: Value) -> Mark
         requires short { length steps.now ≤ 256 }
         requires found { IsTrue (has_spot self.now.study.tree steps.now) }

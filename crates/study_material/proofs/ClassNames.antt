@@ -1,4 +1,4 @@
--- What distinguishes the names of classes.
+-- The names of classes are distinct.
 use Rattle.std.proofs.Common.{◌≡◌, ℕ, Bool, true, false, List, subst, ◌≤◌, take, lit<, refl, sym, ◌∙◌}
 use Rattle.std.specs.List.{All, Contains}
 use Rattle.std.proofs.lemmas.List.{take_all}
@@ -52,14 +52,14 @@ Contains-class KNKN = (33, lit< tt, refl)
 Contains-class KNKP = (34, lit< tt, refl)
 Contains-class KPKP = (35, lit< tt, refl)
 
--- another text than the name
+-- a text other than the name
 pub other_name : (c : Class) (name text : List ℕ) (r : Bool) → name ≡ name_of c → r ≡ bytes_eq name text → r ≡ false → IsNameOf text c → ⊥
 other_name c name text r n e f h = false≢true (sym f ∙ e ∙ (bytes_eq-Decides name text).1 (n ∙ sym h))
 
 pub same_name : (c : Class) (name text : List ℕ) (r : Bool) → name ≡ name_of c → r ≡ bytes_eq name text → r ≡ true → IsNameOf text c
 same_name c name text r n e t = sym ((bytes_eq-Decides name text).0 (sym e ∙ t)) ∙ n
 
--- where no class of the list has the name, no class has it
+-- if no class of the list has the name, no class has it
 pub no_class : (text : List ℕ) (i : ℕ) → 36 ≤ i → All (λ d. IsNameOf text d → ⊥) (take i class_list) → (c : Class) → IsNameOf text c → ⊥
 no_class text i le all c =
     let whole : take i class_list ≡ class_list = take_all i class_list le in

@@ -1,4 +1,4 @@
--- The lists of an image are those of the position, exchanged where the colours are swapped; so the class is one.
+-- The lists of an image are those of the position, exchanged if the colours are swapped; so the class is the same.
 use Rattle.std.proofs.Common.{◌≡◌, ℕ, ◌⊎◌, Bool, true, false, cond, ◌&&◌, ◌||◌, nat_lt, eqb, List, [], ◌∷◌, length, map, refl, sym, ◌∙◌, ap, arith, inl, inr}
 use Rattle.std.specs.List.Sorted.{IsPermutation}
 use Rattle.std.proofs.lemmas.Bool.{false≢true}
@@ -97,7 +97,7 @@ compared Pawn Bishop = inr (inl (refl, refl, refl, refl))
 compared Pawn Knight = inr (inl (refl, refl, refl, refl))
 compared Pawn Pawn = inr (inr refl)
 
--- of two kinds that are one, neither comes first
+-- of two equal kinds neither comes first
 not_below : (k : ℕ) → nat_lt k k ≡ false
 not_below k = grind (arith, nat_tests)
 
@@ -219,7 +219,7 @@ ordered-turned false l = refl
 pub ordered-image : (t : Symmetry) (xs : List Man) → ordered (lists (turned_men t xs)) ≡ ordered (lists xs)
 ordered-image t xs = ap (λ l. ordered l) (lists-image t xs) ∙ ordered-turned t.colours (lists xs)
 
--- the colours of an image are swapped to reach the class where just one of position and symmetry asks for it
+-- the colours of an image are swapped for the class if exactly one of the position and the symmetry swaps them
 pub swapped-image : (t : Symmetry) (xs : List Man) → ((lists xs).white ≡ (lists xs).black → t.colours ≡ false)
     → is_swapped (turned_men t xs) ≡ differ t.colours (is_swapped xs)
 swapped-image t xs h = ap (λ l. is_exchanged l) (lists-image t xs) ∙ by_colours t.colours (lists xs) h

@@ -105,7 +105,7 @@ Contains-is_in ds d k = go ds k.0 k.1 k.2
     go (x ∷ xs) zero l s = rw (subst (λ z. same_lists (lists_of z) (lists_of d) ≡ true) (sym s) (same_lists-self (lists_of d)))
     go (x ∷ xs) (suc i) l s = rw (go xs i (omega arith) s) (or_true (same_lists (lists_of x) (lists_of d)))
 
--- the test tells whether the position is of the class
+-- the test is true exactly if the position is of the class
 pub IsOf-is_of : (c : Class) (p : Position) → is_of c p ≡ true → IsOf c p
 IsOf-is_of c p e = same_lists-equal (lists_of c) (ordered (lists p.men)) e
 

@@ -21,7 +21,7 @@ has_class l = same_lists (lists_of (first l class_list)) l
 a_class : (l : Lists) → has_class l ≡ true → (c : Class) × (lists_of c ≡ l)
 a_class l e = (first l class_list, same_lists-equal (lists_of (first l class_list)) l e)
 
--- a test of all kinds but the king
+-- a test of all kinds except the king
 abbrev all_officers : (Kind → Bool) → Bool
 all_officers p = p Queen && (p Rook && (p Bishop && (p Knight && p Pawn)))
 

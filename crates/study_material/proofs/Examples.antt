@@ -31,7 +31,7 @@ equal = refl
 longer : comes_before (Pawn ∷ Pawn ∷ []) (Queen ∷ []) ≡ true
 longer = refl
 
--- a pawn can be taken or promoted
+-- a pawn can be captured or promoted
 pawn : reached (lists_of KPK) ≡ of (Queen ∷ []) [] ∷ of (Rook ∷ []) [] ∷ of (Bishop ∷ []) [] ∷ of (Knight ∷ []) [] ∷ of [] [] ∷ []
 pawn = refl
 

@@ -1,4 +1,4 @@
--- The kinds of a side's men by how many there are of each, so in whatever order the men stand.
+-- The kinds of a side's men by the number of men of each, so for any order of the men.
 use Rattle.std.proofs.Common.{◌≡◌, ℕ, ◌+◌, ◌≤◌, zero, suc, Bool, true, false, cond, nat_lt, List, [], ◌∷◌, length, filter, refl, sym, ◌∙◌, ap, arith}
 use Rattle.std.specs.List.{count_by}
 use Rattle.std.specs.List.Sorted.{IsPermutation}
@@ -12,7 +12,7 @@ use Rattle.study_board.specs.Men.{is_man}
 use Rattle.study_board.proofs.Lists.{count_by-cons}
 use Rattle.study_material.specs.Lists.{of, kind_place, put_kind, kinds_of, lists, is_other_than_king}
 
--- how many men of a side and a kind
+-- the number of men of a side and a kind
 abbrev pub many : Side → Kind → List Man → ℕ
 many side k [] = 0
 many side k (x ∷ xs) = cond (is_man side k x) (suc (many side k xs)) (many side k xs)
@@ -38,7 +38,7 @@ repeated k (suc n) l = k ∷ repeated k n l
 abbrev pub listing : ℕ → ℕ → ℕ → ℕ → ℕ → List Kind
 listing q r b n p = repeated Queen q (repeated Rook r (repeated Bishop b (repeated Knight n (repeated Pawn p []))))
 
--- a kind is put after those of earlier kinds, and before its own and later ones
+-- a kind is inserted after earlier kinds, and before its own and later ones
 past : (k j : Kind) (n : ℕ) (l : List Kind) → nat_lt (kind_place j) (kind_place k) ≡ true → put_kind k (repeated j n l) ≡ repeated j n (put_kind k l)
 past k j zero l e = refl
 past k j (suc n) l e = rw e (ap (λ m. j ∷ m) (past k j n l e))
@@ -143,7 +143,7 @@ kinds_of-IsPermutation side xs ys p =
 pub lists-IsPermutation : (xs ys : List Man) → IsPermutation xs ys → lists ys ≡ lists xs
 lists-IsPermutation xs ys p = rw (kinds_of-IsPermutation White xs ys p, kinds_of-IsPermutation Black xs ys p) refl
 
--- how many men beside the kings
+-- the number of men beside the kings
 abbrev pub many_of : Side → List Man → ℕ
 many_of side xs = many side Queen xs + many side Rook xs + many side Bishop xs + many side Knight xs + many side Pawn xs
 
@@ -168,7 +168,7 @@ pub many_others : (xs : List Man) → many_of White xs + many_of Black xs ≡ le
 many_others [] = refl
 many_others (x ∷ xs) = one_counted x.side x.kind x.at xs (many_others xs)
 
--- of at most two men, a pawn of each side
+-- among at most two men, a pawn of each side
 pub two_pawns : (xs : List Man) → length (filter is_other_than_king xs) ≤ 2 → 1 ≤ many White Pawn xs → 1 ≤ many Black Pawn xs
     → lists xs ≡ of (Pawn ∷ []) (Pawn ∷ [])
 two_pawns xs few white black =

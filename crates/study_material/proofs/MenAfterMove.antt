@@ -1,4 +1,4 @@
--- What a move does to the men: it takes the mover and at most one more away, and puts the mover, or what it promotes to, back.
+-- The effect of a move on the men: it takes the mover and at most one more man away, and puts the mover, or the piece that it promotes to, back.
 use Rattle.std.proofs.Common.{◌≡◌, ℕ, ◌+◌, ◌*◌, ◌≤◌, ◌==◌, Bool, true, false, cond, not, ◌&&◌, ◌||◌, eqb}
 use Rattle.std.proofs.Common.{List, [], ◌∷◌, ◌++◌, length, Option, refl, sym, ◌∙◌, arith, zero-add}
 use Rattle.std.specs.List.{filter, count_by, list_any}
@@ -13,11 +13,11 @@ use Rattle.study_board.proofs.MenInOrder.{IsPermutation-placed}
 use Rattle.study_moves.specs.declared.moves.Move.{Move}
 use Rattle.study_moves.specs.Rules.{survives, moved, men_after, is_en_passant}
 
--- a man that the move takes away, the mover too
+-- a man that the move takes away, the mover included
 abbrev pub goes_away : Option ℕ → Man → ℕ → Man → Bool
 goes_away passed man x m = not (survives passed man x m)
 
--- on a square at most one man
+-- at most one man is on a square
 count-above : (n s : ℕ) (xs : List Man) → AllAbove n xs → s ≤ n → count_by (λ y. y.at == s) xs ≡ 0
 count-above n s [] h le = refl
 count-above n s (x ∷ xs) h le =
@@ -35,7 +35,7 @@ count-square (x ∷ xs) h s =
     ]
     in omega (arith, c, go (eqb x.at s) refl)
 
--- a test that one of two others passes
+-- a test that holds if one of two others does
 count_by-either : (p q r : Man → Bool) → ((m : Man) → cond (p m) 1 0 ≤ cond (q m) 1 0 + cond (r m) 1 0)
     → (xs : List Man) → count_by p xs ≤ count_by q xs + count_by r xs
 count_by-either p q r h [] = omega arith

@@ -1,4 +1,4 @@
--- The men beside the kings: at most two, and the class of all.
+-- The men beside the kings: at most two, and the class of them all.
 use Rattle.std.proofs.Common.{◌≡◌, ◌+◌, ◌≤◌, Bool, true, false, cond, not, ◌&&◌, List, [], ◌∷◌, length, refl, ◌∙◌, arith, filter}
 use Rattle.std.specs.List.{All, count_by}
 use Rattle.std.proofs.lemmas.Bool.{and_parts, eqb-true}
@@ -40,7 +40,7 @@ none_king (x ∷ xs) = by_king (same_kind x.kind King) refl (none_king xs)
     by_king true e h = h
     by_king false e h = All-cons (λ m. same_kind m.kind King ≡ false) x (filter is_other_than_king xs) e h
 
--- each man is one of the others or a king of one side
+-- each man is one of the others, or a king of either side
 counted : (xs : List Man) → length (filter is_other_than_king xs) + (count_by (is_man White King) xs + count_by (is_man Black King) xs) ≡ length xs
 counted [] = refl
 counted (x ∷ xs) = omega (arith, counted xs, count_by-cons (is_man White King) x xs, count_by-cons (is_man Black King) x xs, one x.side (same_kind x.kind King))

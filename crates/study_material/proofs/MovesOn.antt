@@ -44,7 +44,7 @@ man s k a = record { side = s; kind = k; at = a }
 abbrev Goes : Lists → Lists → Type 0
 Goes l m = (m ≡ l) ⊎ In m (reached l)
 
--- a man is taken
+-- a man is captured
 taken : (t : Side) (j : Kind) (b : ℕ) (xs : List Man) → same_kind j King ≡ false → In (lists xs) (reached (lists (man t j b ∷ xs)))
 taken White j b xs e =
     rw e
@@ -78,7 +78,7 @@ promotes Black k a b xs e =
     (of (put_kind k (kinds_of Black xs)) (kinds_of White xs))
     (promoted_by_white (kinds_of Black xs) (kinds_of White xs) k o.0))
 
--- a pawn takes and is promoted
+-- a pawn captures and is promoted
 promotes_taking : (s t : Side) (k j : Kind) (a b d : ℕ) (xs : List Man) → is_promotion_piece k ≡ true
     → same_side t s ≡ false → same_kind j King ≡ false → same_kind j Pawn ≡ false
     → In (lists (man s k b ∷ xs)) (reached (lists (man s Pawn a ∷ man t j d ∷ xs)))
@@ -95,7 +95,7 @@ promotes_taking Black White k j a b d xs e h f g =
 promotes_taking White White k j a b d xs e h f g = absurd (false≢true (sym h))
 promotes_taking Black Black k j a b d xs e h f g = absurd (false≢true (sym h))
 
--- where a pawn captures on the passed square, it is the passed square
+-- if a pawn captures on the passed square, that square is passed
 pub passed_there : (p : Position) (m : Man) (x : ℕ) → IsValid p → is_en_passant p.passed m x ≡ true → could_be_passed p.men p.to_move x ≡ true
 unfolding is_en_passant
 passed_there p m x v e =
@@ -141,7 +141,7 @@ among_filter f (x ∷ xs) m (inr i) e = later (f x) (among_filter f xs m i e)
     later true h = inr h
     later false h = h
 
--- the men that go away: the mover, and at most one more, elsewhere
+-- the men that go away: the mover, and at most one more, on another square
 record IsGone (mover : Man) (gone : List Man) : Type 0 where
   more : List Man
   one : length more ≤ 1
@@ -230,7 +230,7 @@ module _ (p : Position) (m : Move) (v : IsValid p) (legal : is_legal p m ≡ tru
   unfolding after
   after_men = (let e = (HasMover-from_is_legal p m legal).here in rw e (IsStep-move p mover m v.ordered step_empty).after)
 
-  -- what is taken is no king
+  -- the captured man is not a king
   no_king : (x : Man) → more ≡ x ∷ [] → same_kind x.kind King ≡ false
   no_king x e = by_king (same_kind x.kind King) refl
     where
@@ -282,7 +282,7 @@ module _ (p : Position) (m : Move) (v : IsValid p) (legal : is_legal p m ≡ tru
           let k : is_man x.side King x ≡ true = rw (same_side-self x.side, f) in
           absurd (contradiction (is_man x.side King mover) (is_man x.side King (moved mover m)) refl refl k (rw k at counted_before) counted_after)
 
-  -- where a pawn is promoted, what is taken stands on the target
+  -- if a pawn is promoted, the captured man stands on the target
   on_target : (x : Man) → more ≡ x ∷ [] → reaches_last_rank mover m.target ≡ true → IsAmong x p.men × (x.at ≡ m.target)
   unfolding survives
   on_target x e end =
@@ -354,7 +354,7 @@ module _ (p : Position) (m : Move) (v : IsValid p) (legal : is_legal p m ≡ tru
       by_kind true White e h = absurd (false≢true (sym h ∙ e))
       by_kind true Black e h = absurd (false≢true (sym h ∙ e))
 
-  -- the lists after a move, by what is taken and by the promotion
+  -- the lists after a move, by the captured man and the promotion
   goes_on : (gone : List Man) → more ≡ gone → length gone ≤ 1 → (o : Option Kind) → is_promotion_choice (reaches_last_rank mover m.target) o ≡ true
       → Goes (lists (mover ∷ gone ++ left)) (lists (moved_as o ∷ left))
   goes_on [] e l None c = inl refl

@@ -1,4 +1,4 @@
--- What each class needs, computed.
+-- The classes that each class needs, computed.
 use Rattle.std.specs.Prelude.{◌≡◌, List, [], ◌∷◌, filter}
 use Rattle.std.proofs.Common.{refl, ap, ◌∙◌}
 use Rattle.study_board.specs.declared.men.Kind.TheVariants.{Queen, Rook, Bishop, Knight, Pawn}
@@ -20,7 +20,7 @@ pub by_size_is : by_size ≡ size_table
 unfolding by_size
 by_size_is = refl
 
--- the lists that one move reaches, each White's first
+-- the lists that one move reaches, with White's first
 abbrev reached_table : Class → List Lists
 reached_table KK = []
 reached_table KQK = of [] [] ∷ []

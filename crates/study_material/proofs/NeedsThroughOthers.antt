@@ -1,4 +1,4 @@
--- What each class needs, directly or through others.
+-- The classes that each class needs, directly or through others.
 use Rattle.std.proofs.Common.{◌≡◌, ℕ, ◌+◌, ◌<◌, zero, suc, Bool, true, false, ◌&&◌, ◌||◌, nat_lt, List}
 use Rattle.std.proofs.Common.{[], ◌∷◌, length, filter, refl, sym, ◌∙◌, ap, subst, arith, get_or}
 use Rattle.std.specs.List.{list_any, Contains}
@@ -67,7 +67,7 @@ at_all p ds e d k = go ds e k.0 k.1 k.2
     go (x ∷ xs) e zero l s = subst (λ z. p z ≡ true) s (and_parts (p x) (all p xs) e).0
     go (x ∷ xs) e (suc i) l s = go xs (and_parts (p x) (all p xs) e).1 i (omega arith) s
 
--- a class needs smaller ones, and what those need is among what it needs
+-- a class needs smaller ones, and the classes that those need are among the classes that it needs
 abbrev closes : Class → Class → Bool
 closes c e = nat_lt (size e) (size c) && all (is_in (order_table c)) (order_table e)
 
@@ -109,7 +109,7 @@ closed KNKN = refl
 closed KNKP = refl
 closed KPKP = refl
 
--- what is listed is the class, or one of what it needs leads there
+-- a listed class is the class itself, or one that it needs leads there
 abbrev leads : Class → Class → Bool
 leads c d = same_lists (lists_of c) (lists_of d) || list_any (λ e. is_in (order_table e) d) (needs_table c)
 
@@ -245,7 +245,7 @@ some_one p (x ∷ xs) e = by_first (p x) refl e (λ k. some_one p xs k)
     by_first true f e rest = (x, (0, omega arith, refl), f)
     by_first false f e rest = let r = rest e in (r.0, (suc r.1.0, (let l = r.1.1 in omega arith), r.1.2), r.2)
 
--- what is listed is reached, by recursion on more than the size of the class
+-- listed classes are reached, by recursion on more than the size of the class
 reached : (n : ℕ) (c d : Class) → size c < n → is_in (order_table c) d ≡ true → IsNeeded c d
 reached zero c d l i = absurd (omega arith)
 reached (suc n) c d l i =

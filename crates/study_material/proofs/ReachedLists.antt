@@ -1,4 +1,4 @@
--- What a capture, a promotion, or both make of the lists is among the lists that are reached.
+-- The lists after a capture, a promotion, or both are among the lists that are reached.
 use Rattle.std.proofs.Common.{◌≡◌, ℕ, ◌<◌, zero, suc, Bool, true, false, cond, ◌||◌, ◌⊎◌, inl, inr, nat_lt, List}
 use Rattle.std.proofs.Common.{[], ◌∷◌, ◌++◌, length, map, filter, refl, sym, ◌∙◌, ap, subst, arith, get_or}
 use Rattle.std.specs.List.{list_any, flat_map, Contains}
@@ -51,7 +51,7 @@ module _ {X Y : Type 0} (f : X → List Y) where
   In-flat_map x y (z ∷ zs) (inl e) j = In-left y (f z) (flat_map f zs) (subst (λ w. In y (f w)) e j)
   In-flat_map x y (z ∷ zs) (inr i) j = In-right y (f z) (flat_map f zs) (In-flat_map x y zs i j)
 
--- without the kind that was put
+-- without the kind that was inserted
 pub In-without : (p : Kind → Bool) (k : Kind) (l : List Kind) → p k ≡ true → In l (without_one p (put_kind k l))
 In-without p k [] e = rw e (inl refl)
 In-without p k (x ∷ xs) e = by_place (nat_lt (kind_place x) (kind_place k)) (p x) (In-without p k xs e)
@@ -97,7 +97,7 @@ both_by_white w b k j i e =
     In-right _ (pairs (put_kind Pawn w ∷ []) (without_one any_kind (put_kind j b)) ++ pairs (lists_promoted (put_kind Pawn w)) (put_kind j b ∷ [])) _
     (In-pairs (put_kind k w) b (lists_promoted (put_kind Pawn w)) (without_one no_pawn (put_kind j b)) (In-promoted k w i) (In-without no_pawn j b e))
 
--- what is reached by White's move, and by Black's
+-- the lists reached by White's move, and by Black's
 pub by_white : (l m : Lists) → In m (reached_by_white l) → In m (reached l)
 by_white l m i = In-left m (reached_by_white l) (map lists_exchanged (reached_by_white (lists_exchanged l))) i
 
@@ -105,7 +105,7 @@ pub by_black : (l m : Lists) → In m (reached_by_white (lists_exchanged l)) →
 by_black l m i = In-right (lists_exchanged m) (reached_by_white l) (map lists_exchanged (reached_by_white (lists_exchanged l)))
     (In-map lists_exchanged m (reached_by_white (lists_exchanged l)) i)
 
--- the same of the lists exchanged
+-- the same for the lists exchanged
 exchanged_reached : (l m : Lists) → In m (reached l) → In (lists_exchanged m) (reached (lists_exchanged l))
 exchanged_reached l m i = elim (In-cases m (reached_by_white l) (map lists_exchanged (reached_by_white (lists_exchanged l))) i) [
   | inl j ↦ by_black (lists_exchanged l) m j

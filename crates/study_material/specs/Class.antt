@@ -73,15 +73,15 @@ same_kinds (x ∷ xs) (y ∷ ys) = same_kind x y && same_kinds xs ys
 abbrev pub same_lists : Lists → Lists → Bool
 same_lists l m = same_kinds l.white m.white && same_kinds l.black m.black
 
--- the position is of the class: its lists, exchanged where Black's comes first, are those of the class
+-- the position is of the class: its lists, exchanged if Black's comes first, are the lists of the class
 abbrev pub IsOf : Class → Position → Type 0
 IsOf c p = lists_of c ≡ ordered (lists p.men)
 
--- the same as a test
+-- `IsOf` as a test
 abbrev pub is_of : Class → Position → Bool
 is_of c p = same_lists (lists_of c) (ordered (lists p.men))
 
--- the class with these lists, of some classes
+-- the class with these lists, among some classes
 abbrev pub class_in : List Class → Lists → Class
 class_in [] l = KK
 class_in (c ∷ cs) l = if same_lists (lists_of c) l then c else class_in cs l
@@ -90,7 +90,7 @@ class_in (c ∷ cs) l = if same_lists (lists_of c) l then c else class_in cs l
 unfoldable pub class_found : Position → Class
 class_found p = class_in class_list (ordered (lists p.men))
 
--- the position is of one class
+-- the position is of exactly one class
 pub record HasOneClass (p : Position) : Type 0 where
   pub class : Class
   pub is : IsOf class p
@@ -99,7 +99,7 @@ pub record HasOneClass (p : Position) : Type 0 where
 abbrev pub PositionsHaveOneClass : Type 0
 PositionsHaveOneClass = (p : Position) → IsValid p → HasOneClass p
 
--- the place of a class in the list of classes, counted from 0
+-- the index of a class in the list of classes, counted from 0
 abbrev pub class_number : Class → ℕ
 class_number KK = 0
 class_number KQK = 1

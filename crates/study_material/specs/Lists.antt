@@ -24,7 +24,7 @@ kind_place Knight = 3
 kind_place Pawn = 4
 kind_place King = 5
 
--- a kind put at its place in list order
+-- a kind inserted in list order
 abbrev pub put_kind : Kind → List Kind → List Kind
 put_kind k [] = k ∷ []
 put_kind k (x ∷ xs) = if nat_lt (kind_place x) (kind_place k) then x ∷ put_kind k xs else k ∷ x ∷ xs
@@ -41,7 +41,7 @@ kinds_of side (m ∷ ms) = if same_side m.side side && is_other_than_king m then
 abbrev pub lists : List Man → Lists
 lists men = of (kinds_of White men) (kinds_of Black men)
 
--- of lists of one length, the one with the first kind that differs comes first
+-- of two lists of equal length, the one with the earlier kind at the first difference comes first
 abbrev pub is_earlier : List Kind → List Kind → Bool
 is_earlier [] ys = false
 is_earlier (x ∷ xs) [] = false
@@ -59,10 +59,10 @@ lists_exchanged l = of l.black l.white
 abbrev pub is_exchanged : Lists → Bool
 is_exchanged l = comes_before l.black l.white
 
--- the lists, exchanged where Black's comes first
+-- the lists, exchanged if Black's comes first
 abbrev pub ordered : Lists → Lists
 ordered l = if is_exchanged l then lists_exchanged l else l
 
--- the colours are swapped to reach the class
+-- the colours are swapped for the class
 abbrev pub is_swapped : List Man → Bool
 is_swapped men = is_exchanged (lists men)

@@ -1,4 +1,4 @@
--- What classes one move can lead to.
+-- The classes that one move can lead to.
 use Rattle.std.specs.Prelude.{◌≡◌, ◌↔◌, ◌⊎◌, ℕ, ◌+◌, ◌*◌, zero, suc, Bool, true, not, nat_lt, List, [], ◌∷◌, ◌++◌, length, map, filter, if◌then◌else◌}
 use Rattle.std.specs.List.{list_any, list_all, flat_map, fold, count_by, Contains}
 use Rattle.study_board.specs.declared.men.Kind.{Kind}
@@ -10,24 +10,24 @@ use Rattle.study_material.specs.declared.class.Class.{Class}
 use Rattle.study_material.specs.Lists.{Lists, of, put_kind, lists_exchanged, ordered}
 use Rattle.study_material.specs.Class.{lists_of, class_list, same_lists, IsOf}
 
--- how many pawns
+-- the number of pawns
 abbrev pub pawns_of : List Kind → ℕ
 pawns_of xs = count_by (λ k. same_kind k Pawn) xs
 
--- by number of men, then by number of pawns
+-- the sort key: the number of men, then the number of pawns
 abbrev pub size : Class → ℕ
 size c = 8 * (length (lists_of c).white + length (lists_of c).black) + (pawns_of (lists_of c).white + pawns_of (lists_of c).black)
 
--- a class put after those of no greater size
+-- a class inserted after those of no greater size
 abbrev pub put_class : Class → List Class → List Class
 put_class c [] = c ∷ []
 put_class c (d ∷ ds) = if nat_lt (size c) (size d) then c ∷ d ∷ ds else d ∷ put_class c ds
 
--- all classes, by number of men, number of pawns, place in the class list
+-- all classes, by number of men, number of pawns, index in the class list
 unfoldable pub by_size : List Class
 by_size = fold (λ ds c. put_class c ds) [] class_list
 
--- the lists without one of the kinds that pass, for each of these
+-- for each of the kinds that pass, the list without one of them
 abbrev pub without_one : (Kind → Bool) → List Kind → List (List Kind)
 without_one p [] = []
 without_one p (x ∷ xs) = if p x then xs ∷ map (λ l. x ∷ l) (without_one p xs) else map (λ l. x ∷ l) (without_one p xs)
@@ -48,7 +48,7 @@ officers = Queen ∷ Rook ∷ Bishop ∷ Knight ∷ []
 abbrev pub lists_promoted : List Kind → List (List Kind)
 lists_promoted xs = flat_map (λ l. map (λ k. put_kind k l) officers) (without_one is_pawn_kind xs)
 
--- each list of the first beside each of the second
+-- each list of the first paired with each of the second
 abbrev pub pairs : List (List Kind) → List (List Kind) → List Lists
 pairs xs ys = flat_map (λ x. map (λ y. of x y) ys) xs
 
@@ -59,11 +59,11 @@ reached_by_white l =
     ++ pairs (lists_promoted l.white) (l.black ∷ [])
     ++ pairs (lists_promoted l.white) (without_one no_pawn l.black)
 
--- the same by either side
+-- the lists that are reached by a move of either side
 abbrev pub reached : Lists → List Lists
 reached l = reached_by_white l ++ map lists_exchanged (reached_by_white (lists_exchanged l))
 
--- what is reached, Black's list exchanged with White's where it comes first
+-- the lists that are reached, Black's list exchanged with White's if it comes first
 unfoldable pub ordered_reached : Class → List Lists
 ordered_reached c = map ordered (reached (lists_of c))
 
@@ -75,7 +75,7 @@ has_lists ls d = list_any (λ l. same_lists l (lists_of d)) ls
 unfoldable pub needs_of : Class → List Class
 needs_of c = filter (has_lists (ordered_reached c)) by_size
 
--- in n steps from a class to one of its needs
+-- n steps lead from one class to the other, each to a class that is needed
 abbrev pub Reaches : ℕ → Class → Class → Type 0
 Reaches zero c d = c ≡ d
 Reaches (suc n) c d = (e : Class) × Contains (needs_of c) e × Reaches n e d
@@ -87,21 +87,21 @@ IsNeeded c d = (n : ℕ) × Reaches n c d
 abbrev pub is_in : List Class → Class → Bool
 is_in ds d = list_any (λ c. same_lists (lists_of c) (lists_of d)) ds
 
--- all that a class needs and itself, each once, by number of men, number of pawns, place in the class list
+-- the class and all classes that it needs, each once, by number of men, number of pawns, index in the class list
 pub record IsOrder (c : Class) (ds : List Class) : Type 0 where
   pub each : (d : Class) → Contains ds d ↔ IsNeeded c d
   pub ascending : ds ≡ filter (is_in ds) by_size
 
--- what a class needs is smaller, so it comes before the class in any order by size
+-- a needed class is smaller, so it comes before the class in any order by size
 abbrev pub NeedsComeFirst : Type 0
 NeedsComeFirst = (c : Class) → list_all (λ d. nat_lt (size d) (size c)) (needs_of c) ≡ true
 
--- a valid position of the class, or of one that it needs
+-- a valid position of the class, or of a class that it needs
 pub record LeadsOn (c : Class) (q : Position) : Type 0 where
   pub valid : IsValid q
   pub of_class : IsOf c q ⊎ ((d : Class) × Contains (needs_of c) d × IsOf d q)
 
--- what every legal move leads to
+-- the positions that legal moves lead to
 abbrev pub MovesLeadOn : Type 0
 MovesLeadOn = (c : Class) (p q : Position) → IsValid p → IsOf c p → Leads p q → LeadsOn c q
 

@@ -1,4 +1,4 @@
-//! The classes of material, their names, and what each needs.
+//! The classes of material, their names, and the classes that each needs.
 ghost use Rattle.std.specs.Prelude.{◌≡◌, ◌<◌, false, IfOk, IsErrOf, ◌↔◌};
 ghost use Rattle.study_material.specs.Class.{class_number, name_of, class_list, IsNameOf};
 
@@ -46,7 +46,7 @@ pub enum Class {
     KPKP,
 }
 
-/// How many classes there are.
+/// The number of classes.
 pub const CLASS_COUNT: usize = 36;
 
 /// All classes, in the order of the class list.
@@ -90,14 +90,14 @@ static ALL: [Class; CLASS_COUNT] = [
 ];
 
 impl Class {
-    /// All classes: those where Black has a king alone, then those where each side has a man beside its king.
+    /// All classes: those in which Black has a king alone, then those in which each side has a man beside its king.
     pub fn all() -> &'static [Class; CLASS_COUNT]
         ensures { result.now ≡ class_list }
     {
         &ALL
     }
 
-    /// The class of this name, as `KQKR`. No class is left out: `MaterialLeftOut` never comes.
+    /// The class of this name, such as `KQKR`. No class is left out: `MaterialLeftOut` never occurs.
     pub fn parse(text: &str) -> Result<Class, ClassFault>
         ensures ok { IfOk result (λ c. IsNameOf text.now c) }
         ensures left_out { ¬ (IsErrOf result ClassFault.MaterialLeftOut) }
@@ -111,14 +111,14 @@ impl Class {
         Err(ClassFault::NotAClass)
     }
 
-    /// Whether positions of the class have no number and no table: those of every class have.
+    /// Whether positions of the class have no number and no table. Always false: every class has both.
     pub fn left_out(self) -> bool
         ensures { result ≡ false }
     {
         false
     }
 
-    /// The place of the class in the list of classes, counted from 0.
+    /// The index of the class in the list of classes, counted from 0.
     #[inline]
     pub fn number(self) -> u8
         ensures value { result ≡ class_number self }
@@ -127,7 +127,7 @@ impl Class {
         self as u8
     }
 
-    /// The name, as `KQKR`.
+    /// The name, such as `KQKR`.
     #[tactic(auto, unfolding(crate::specs::Class::name_of))]
     pub fn name(self) -> &'static str
         ensures { result.now ≡ name_of self }

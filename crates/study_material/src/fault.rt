@@ -1,7 +1,7 @@
-//! Why a text names no class.
+//! Why a text is not the name of a class.
 use thiserror::Error;
 
-/// Why a text names no class.
+/// Why a text is not the name of a class.
 #[derive(Clone, Copy, Debug, PartialEq, Eq, Error)]
 pub enum ClassFault {
     #[error("no class has this name")]

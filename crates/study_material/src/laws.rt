@@ -1,8 +1,8 @@
-//! Laws over the definitions, which tables rest on: functions that do nothing.
+//! Laws over the definitions, on which tables rest: functions that do nothing.
 ghost use Rattle.study_material.specs.Needs.{MovesLeadOn, NeedsComeFirst};
 ghost use Rattle.study_material.specs.Class.{PositionsHaveOneClass};
 
-/// Every valid position is of one class.
+/// Every valid position is of exactly one class.
 pub fn positions_have_one_class()
     ensures { PositionsHaveOneClass }
 {}
@@ -12,7 +12,7 @@ pub fn moves_lead_into_needs()
     ensures { MovesLeadOn }
 {}
 
-/// What a class needs has fewer men, or as many and fewer pawns: `order` gives it before the class.
+/// A needed class has fewer men, or as many and fewer pawns: `order` lists it before the class.
 pub fn needs_come_first()
     ensures { NeedsComeFirst }
 {}

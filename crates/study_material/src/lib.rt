@@ -1,7 +1,7 @@
-//! The classes of material of positions with two to four men, and which classes a class needs.
+//! The classes of material of positions with two to four men, and the classes that each needs.
 //!
-//! A class is a side's men beside its king, White's list before Black's. Each legal move from a position leads to a
-//! position of the same class or of one of `needs` of the class: `moves_lead_into_needs` proves it.
+//! A class is the men of each side beside its king, White's list before Black's. Each legal move from a position leads to a position of the same class or of
+//! one of its `needs`: `moves_lead_into_needs` proves it.
 #![tactic(auto)]
 
 mod class;

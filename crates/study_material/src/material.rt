@@ -10,7 +10,7 @@ use crate::Class;
 use arrayvec::ArrayVec;
 use study_board::{Kind, Man, Position, Side};
 
-/// The class of a position, and whether colours are swapped to reach it.
+/// The class of a position, and whether the colours are swapped for it.
 pub fn class_of(p: &Position) -> (Class, bool)
     ensures class { IsOf result.0 p.now }
     ensures swapped { result.1 ≡ is_swapped p.now.men }

@@ -64,7 +64,7 @@ fn needed(class: Class) -> &'static [Class]
     }
 }
 
-/// The same where each side has a man beside its king.
+/// The classes that a class needs, if each side has a man beside its king.
 #[tactic(auto, using(crate::proofs::NeedsTables::needs_is))]
 fn needed_by_both(class: Class) -> &'static [Class]
     requires { length (lists_of class).black ≡ 1 }
@@ -92,7 +92,7 @@ fn needed_by_both(class: Class) -> &'static [Class]
     }
 }
 
-/// A class and all that it needs, in order.
+/// A class and all classes that it needs, in order.
 fn ordered(class: Class) -> &'static [Class]
     ensures order { IsOrder class result.now }
     ensures few { length result.now ≤ 36 }
@@ -127,7 +127,7 @@ fn ordered(class: Class) -> &'static [Class]
     }
 }
 
-/// The same where each side has a man beside its king.
+/// A class and all classes that it needs, in order, if each side has a man beside its king.
 fn ordered_of_both(class: Class) -> &'static [Class]
     requires { length (lists_of class).black ≡ 1 }
     ensures order { IsOrder class result.now }

@@ -99,7 +99,7 @@ empty_there men x k e i t =
     let free = none_among (λ m. m.at == x) men k (not-true (is_occupied men x) e) i in
     false≢true (sym free ∙ eq-eqb k.at x t)
 
--- the board after a double step lets the pawn be taken in passing
+-- the board after a double step lets the pawn be captured in passing
 could_pass : (men before : List Man) (s : Side) (a x : ℕ) → IsDoubleStep before s a x
     → is_empty men (half_way a x) ≡ true → is_empty men a ≡ true → has_man men s Pawn x ≡ true
     → could_be_passed men (other_side s) (half_way a x) ≡ true
@@ -125,7 +125,7 @@ one_apart : (s : Side) (a x : ℕ) → IsAheadBy s 1 a x → ranks_apart a x ≡
 one_apart White a x h e = absurd (omega arith)
 one_apart Black a x h e = absurd (omega arith)
 
--- where a double step leads
+-- the target of a double step
 pub record IsApart (s : Side) (a x : ℕ) : Type 0 where
   pub over : x ≡ half_way a x → ⊥
   pub start : x ≡ a → ⊥
@@ -172,7 +172,7 @@ module _ (p : Position) (man : Man) (m : Move) (h : IsMoveFrom p man m) where
   unfolding men_after
   permuted = IsPermutation-placed (moved man m) those
 
-  -- no king is taken
+  -- no king is captured
   pub king_not_taken : (k : Man) → IsAmong k p.men → is_man (other_side p.to_move) King k ≡ true → k.at ≡ m.target → ⊥
   king_not_taken k i e t =
       let safe = king_safe p.men (other_side p.to_move) k faultless.safe i e in
@@ -218,7 +218,7 @@ module _ (p : Position) (man : Man) (m : Move) (h : IsMoveFrom p man m) where
       let found = some_among (λ n. is_man (other_side p.to_move) Pawn n && (n.at == square)) p.men (en_passant_pawn b.0) in
       no_king found.0 found.1 found.2 (eqb-true _ _ b.1))))
 
-  -- each side keeps its one king
+  -- each side keeps its only king
   one_king : (t : Side) → count_by (is_man t King) p.men ≡ 1
   unfolding has_one_king
   one_king t =
@@ -444,7 +444,7 @@ IsValid-after p m valid legal =
     let e = h.here in
     rw e (IsValid-after_by p h.man m (IsMoveFrom-is_legal p h.man m valid h.here h.moves))
 
--- the same, by the man that stands on the move's origin
+-- the same, by the man on the move's origin
 pub IsValid-after_man : (p : Position) (man : Man) (m : Move) → IsValid p → man_at p.men m.origin ≡ Some man → is_legal p m ≡ true → IsValid (after_by p man m)
 IsValid-after_man p man m valid here legal =
     let h = HasMover-from_is_legal p m legal in

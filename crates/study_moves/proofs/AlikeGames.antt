@@ -1,4 +1,4 @@
--- Positions that are alike have one game.
+-- Positions that are alike have the same game.
 use Rattle.std.proofs.Common.{sym, subst}
 use Rattle.study_board.specs.Position.{Position}
 use Rattle.study_board.proofs.ImagesOfImages.{IsTurnable-from_valid}

@@ -32,7 +32,7 @@ none-filter p q (x ∷ xs) e = by_test (q x) (p x) refl e (λ k. none-filter p q
     by_test true false f e rest = rw f (rest e)
     by_test false false f e rest = rest e
 
--- a legal move makes no pawn
+-- a legal move creates no pawn
 no_pawn_after : (p : Position) (m : Move) → is_legal p m ≡ true → list_any is_pawn p.men ≡ false → list_any is_pawn (after p m).men ≡ false
 unfolding after men_after
 no_pawn_after p m l e =

@@ -1,4 +1,4 @@
--- Where men go and come from does not depend on their order.
+-- The targets and origins of men do not depend on their order.
 use Rattle.std.proofs.Common.{◌≡◌, ℕ, zero, suc, ◌<◌, eqb, nat_lt, Bool, true, false, cond, not, ◌&&◌, List, [], ◌∷◌, length, get_or}
 use Rattle.std.proofs.Common.{Option, Some, None, refl, sym, ◌∙◌, ap, subst, arith, inl, inr}
 use Rattle.std.specs.List.{Contains}

@@ -1,10 +1,10 @@
--- Lists with ascending keys: two with the same members are one.
+-- Lists with ascending keys: two with the same members are equal.
 use Rattle.std.proofs.Common.{◌≡◌, ℕ, ◌+◌, ◌<◌, ◌≤◌, zero, suc, Bool, true, false, cond, ◌⊎◌, inl, inr}
 use Rattle.std.proofs.Common.{List, [], ◌∷◌, ◌++◌, length, get_or, refl, sym, ap, ◌∙◌, arith, subst}
 use Rattle.std.specs.List.{filter, list_any, AllPairs, Contains}
 use Rattle.std.proofs.lemmas.Bool.{or_right, false≢true, or_cases, cases_Bool}
 
--- x is one of the list
+-- x is in the list
 abbrev pub IsIn : {X : Type 0} → X → List X → Type 0
 IsIn x [] = ⊥
 IsIn x (y ∷ ys) = (y ≡ x) ⊎ IsIn x ys
@@ -135,7 +135,7 @@ module _ {X : Type 0} (key : X → ℕ) where
         (λ i j d lt le. h (suc i) (suc j) d (omega arith) (omega arith)),
   )
 
-  -- one that alone passes
+  -- the only element that passes
   pub alone : (lo : ℕ) (p : X → Bool) (xs : List X) (x : X) → AscendsFrom lo xs → IsIn x xs → p x ≡ true
       → ((y : X) → IsIn y xs → p y ≡ true → y ≡ x) → filter p xs ≡ x ∷ []
   alone lo p xs x h i e one =

@@ -52,7 +52,7 @@ no_passed : (man : Man) (x : ℕ) → is_en_passant None man x ≡ false
 unfolding is_en_passant
 no_passed man x = and_false (is_pawn man && not (file_of man.at == file_of x))
 
--- a man that does not capture on the passed square goes as if there were none
+-- a man that does not capture on the passed square goes as if no square were passed
 module _ (q : Option ℕ) (man : Man) (x : ℕ) (no : is_en_passant q man x ≡ false) where
   not_square : is_pawn man ≡ true → pawn_captures man.side man.at x ≡ true → is_square q x ≡ false
   unfolding is_en_passant pawn_captures
@@ -135,7 +135,7 @@ not_legal_for p man m e =
     off true b c d = refl
     off false b c d = refl
 
--- what is known of a square that can be passed
+-- the properties of a square that can be passed
 pub record IsPassed (men : List Man) (x : ℕ) : Type 0 where
   pub on : x < 64
   pub empty : is_empty men x ≡ true
@@ -156,7 +156,7 @@ IsPassed-from men Black x e =
     let r : rank_of x ≡ 2 = eqb_then (rank_of x) 2 d.0 in
     record { on = omega arith; empty = d.1; inside = inr r }
 
--- a man found that a test finds
+-- a man that a test finds
 pub found_any : (q : Man → Bool) (xs : List Man) (x : ℕ) (m : Man) → man_at xs x ≡ Some m → q m ≡ true → list_any q xs ≡ true
 found_any q [] x m e h = cc
 found_any q (y ∷ ys) x m e h = by_test (y.at == x) e (λ k. found_any q ys x m k h)
@@ -185,7 +185,7 @@ no_choice man x o r e =
     by_choice None e = refl
     by_choice (Some k) e = absurd (false≢true e)
 
--- where no legal move captures on the passed square, no move that goes there is legal
+-- if no legal move captures on the passed square, no move that goes there is legal
 module _ (p : Position) (possible : passed_possible p.men p.to_move p.passed ≡ true) (dead : has_legal_en_passant p ≡ false) where
   passed_here : (man : Man) (x : ℕ) → is_en_passant p.passed man x ≡ true → (p.passed ≡ Some x) × IsPassed p.men x
   unfolding is_en_passant
@@ -293,7 +293,7 @@ HasSameGame-from p q check legal afters =
       mated = λ n. (same_mated p q check legal afters n, same_mated q p check' legal' afters' n);
     }
 
--- what agrees of a position and another
+-- the agreement of a position and another
 record Agrees (p q : Position) : Type 0 where
   valid : IsValid q
   legal : (m : Move) → is_legal q m ≡ is_legal p m

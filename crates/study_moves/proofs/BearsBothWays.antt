@@ -1,4 +1,4 @@
--- A man bears on a square from another as a man of its kind, of the other side, bears on that one from there.
+-- A man bears on a square from another exactly if a man of its kind, of the other side, bears back from there.
 use Rattle.std.proofs.Common.{◌≡◌, ℕ, ◌+◌, ◌<◌, ◌==◌, nat_lt, Bool, true, false, not, ◌&&◌, ◌||◌, ◌⊎◌, inl, inr, List, refl, sym, arith}
 use Rattle.std.proofs.lemmas.Bool.{false≢true, and_parts, and_from, or_cases, or_right, eqb-true, eq-eqb, lt-ltb}
 use borrow.Author.Tests.{ltb-true}

@@ -6,8 +6,7 @@ use Rattle.study_board.specs.declared.men.Man.{Man}
 use Rattle.study_board.specs.Position.{AllAbove, IsAscending, placed}
 use Rattle.study_moves.specs.MenInOrder.{lower_man, higher_man}
 
--- the men that pass the test, a man being carried through them and left below the first that stands above it,
--- which is carried on then
+-- the men that pass the test, with a man carried through them and left below the first that stands above it, which is then carried on
 abbrev pub carried_into : (Man → Bool) → Man → List Man → List Man
 carried_into q c [] = c ∷ []
 carried_into q c (x ∷ xs) = if q x then lower_man c x ∷ carried_into q (higher_man c x) xs else carried_into q c xs

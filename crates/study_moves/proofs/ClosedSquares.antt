@@ -1,4 +1,4 @@
--- The squares that the men close to a man, gathered from man to man.
+-- The squares that the men exclude as targets of a man, gathered from man to man.
 use Rattle.std.proofs.Common.{◌≡◌, ℕ, Bool, true, false, not, ◌&&◌, ◌||◌, ◌==◌, List, [], ◌∷◌, None, refl, ◌∙◌}
 use Rattle.std.specs.List.{list_any}
 use Rattle.study_board.specs.declared.men.Man.{Man}
@@ -23,14 +23,14 @@ none_more false true = refl
 none_more false false = refl
 
 module _ (men : List Man) (side : Side) (man : Man) (x : ℕ) (m : Man) where
-  -- a man of the side closes no square by its reach
+  -- a man of the side excludes no square by its reach
   pub closed_by_own : (own threats set : ℕ) → same_side m.side side ≡ true → has own x ≡ (m.at == x) → has threats x ≡ king_threatened men side man.at x m
       → has set x ≡ (has own x || has threats x) → has set x ≡ closes men side man x m
   unfolding closes
   closed_by_own own threats set s e f g =
       g ∙ rw (e, f, other_of m.side side, s) (none_more _ (same_kind man.kind King))
 
-  -- a man of the other side closes its reach alone
+  -- a man of the other side excludes only its reach
   pub closed_by_other : (set : ℕ) → same_side m.side side ≡ false
       → has set x ≡ (same_kind man.kind King && (is_other_man (other_side side) man.at m && bears_past men man.at m x)) → has set x ≡ closes men side man x m
   unfolding closes

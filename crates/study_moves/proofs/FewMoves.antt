@@ -18,7 +18,7 @@ use Rattle.study_board.proofs.Valid.{IsFaultless-from_first}
 use Rattle.study_moves.specs.Rules.{reaches_target, reaches_last_rank, has_side, is_square, half_way, is_ahead, starting_rank, pawn_steps, pawn_double_steps, pawn_takes}
 use Rattle.study_moves.specs.MoveCount.{most_moves}
 
--- on some board the man can go to x, as its kind goes
+-- on some board the man can go to x, by the moves of its kind
 can_reach : Side → Kind → ℕ → ℕ → Bool
 can_reach side King a x = not (a == x) && king_step a x
 can_reach side Queen a x = not (a == x) && (on_rook_line a x || on_bishop_line a x)
@@ -57,7 +57,7 @@ can_reach-from : (men : List Man) (q : Option ℕ) (m : Man) (x : ℕ) → reach
 unfolding reaches_target
 can_reach-from men q m x e = can_reach-of_kind men q m.side m.kind m.at x e
 
--- the moves of a man to one square at most
+-- the largest number of moves of a man to one square
 moves_at : Side → Kind → ℕ → ℕ → ℕ
 moves_at side k a x = cond (can_reach side k a x) (cond (reaches_last_rank (record { side = side; kind = k; at = a }) x) 4 1) 0
 
@@ -130,7 +130,7 @@ moves_below-next men q m next t le e =
     let same : moves_below m.side m.kind m.at (t + 1) ≡ moves_below m.side m.kind m.at (suc t) = ap (λ z. moves_below m.side m.kind m.at z) up in
     omega (arith, h, one, step, same)
 
--- the moves of a man at most, if it is of the side
+-- the largest number of moves of a man, if it is of the side
 pub most_if : Side → Man → ℕ
 most_if side m = cond (same_side m.side side) (most_moves m.kind) 0
 
@@ -173,7 +173,7 @@ like_queens side (x ∷ xs) =
     at_most_27 true Knight = omega arith
     at_most_27 true Pawn = omega arith
 
--- the other side's king is no man of the side
+-- the other side's king does not belong to the side
 beside_king : (side : Side) (xs : List Man) → count_by (is_of side) xs + count_by (is_man (other_side side) King) xs ≤ length xs
 beside_king side [] = omega arith
 beside_king side (x ∷ xs) =

@@ -1,4 +1,4 @@
--- Whether a man has a legal move, where no square is passed.
+-- Whether a man has a legal move, if no square is passed.
 use Rattle.std.proofs.Common.{◌≡◌, ℕ, ◌<◌, ◌+◌, Bool, true, false, List, length, get_or, take, Option, Some, None, is_some, refl, sym, ◌∙◌, ap, subst, inl, inr}
 use Rattle.std.specs.List.{Contains}
 use Rattle.std.proofs.lemmas.Bool.{false≢true, and_parts}
@@ -19,7 +19,7 @@ use Rattle.study_moves.specs.AnyOrder.{is_safe_target, HasSafeTargets}
 use Rattle.study_moves.specs.Game.{HasNoMove}
 use Rattle.study_moves.proofs.AnyOrder.{men-tell-moves}
 
--- the man is none of the side with a safe target, and so each man of a list
+-- the man does not belong to the side, or has no safe target; and so for each man of a list
 abbrev pub HasNoTarget : List Man → Side → Man → Type 0
 HasNoTarget men side m = same_side m.side side ≡ true → (x : ℕ) → x < 64 → is_safe_target men side m x ≡ false
 
@@ -35,7 +35,7 @@ NoneMoves-more men side ms i d b before here m c =
       | inr e ↦ subst (HasNoTarget men side) e here
     ]
 
--- no square is passed where it is said so
+-- no square is passed if the test says so
 pub no_passed : (passed told : Option ℕ) (b : Bool) → told ≡ passed → b ≡ is_some told → b ≡ false → passed ≡ None
 no_passed passed told b same is e = sym same ∙ by_cases told (sym is ∙ e)
   where
@@ -49,7 +49,7 @@ module _ (q : Position) (men : List Man) (side : Side) (valid : IsValid q) (none
       let dead : has_legal_en_passant q ≡ false = ap (λ (o : Option ℕ). is_taken q o) none in
       (men-tell-moves q men valid (subst (λ (zs : List Man). IsPermutation zs q.men) (sym em) (IsPermutation-refl q.men))).0 dead
 
-  -- where a man has a safe target it has a legal move
+  -- a man with a safe target has a legal move
   pub some_legal : (man : Man) → Contains men man → same_side man.side side ≡ true → (x : ℕ) → x < 64 → is_safe_target men side man x ≡ true
       → (m : Move) × (is_legal q m ≡ true)
   some_legal man among his x on safe =
@@ -71,7 +71,7 @@ module _ (q : Position) (men : List Man) (side : Side) (valid : IsValid q) (none
       is_chosen true = refl
       is_chosen false = refl
 
-  -- where none has, there is no legal move
+  -- if no man has one, there is no legal move
   pub none_legal : NoneMoves men side men → HasNoMove q
   none_legal idle m legal =
       let t = safe_targets_told.mover m legal in

@@ -33,7 +33,7 @@ AreDistinct {X} xs = AllPairs (λ (x y : X). x ≢ y) xs
 distinct_more : {X : Type 0} (xs : List X) (x : X) → AreDistinct xs → ¬ (Contains xs x) → AreDistinct (xs ++ x ∷ [])
 distinct_more xs x h n = all_pairs_push (λ y z. y ≢ z) xs x h (λ k d l e. n (k, l, get_or_default xs k x d l ∙ e))
 
--- what a loop over a set of origins of one man keeps
+-- the invariant of a loop over a set of origins of one man
 pub record IsGathering (man : Man) (all rest next len old : ℕ) (first now : List Move) : Type 0 where
   pub kept : (m : Move) → (Contains now m ⊎ IsMoveFrom man (has rest) m) ↔ (Contains first m ⊎ IsMoveFrom man (has all) m)
   pub once : AreDistinct now
@@ -42,7 +42,7 @@ pub record IsGathering (man : Man) (all rest next len old : ℕ) (first now : Li
   pub few : len ≤ old + next
   pub small : next ≤ 64
 
--- a set of origins of one man, and each move that it stands for
+-- a set of origins of one man, and the moves from them
 module _ (man : Man) (all : ℕ) where
   pub gathering_begins : (len : ℕ) (first : List Move) → AreDistinct first
       → ((m : Move) → Contains first m → m.target ≢ man.at) → IsGathering man all all 0 len len first first
@@ -224,7 +224,7 @@ module _ (q : Position) (valid : IsValid q) (men : List Man) (same : men ≡ q.m
     taken_more : take (i + 1) men ≡ take i men ++ man ∷ []
     taken_more = take_more men i d lt ∙ rw (← is) refl
 
-    -- no move so far is one of the next man
+    -- no move so far is a move of the next man
     pub apart_so_far : (m : Move) → Contains now m → m.target ≢ man.at
     apart_so_far m c e =
         let h = (g.exact m).0 c in

@@ -19,7 +19,7 @@ use Rattle.study_moves.proofs.AscendingKeys.{IsIn-from_Contains, Contains-from_i
 use Rattle.study_moves.proofs.AscendingKeys.{Spans, AscendsFrom-spans, AscendsFrom-filter}
 use Rattle.study_moves.proofs.AscendingKeys.{AscendsFrom-pairs, Spans-append, same_list}
 
--- what each of a range of numbers gives, one after another
+-- the results of a range of numbers, one after another
 spans_range : (f : ℕ → List Move) (c base : ℕ)
     → ((k : ℕ) → Spans move_place (base + c * k) (base + c * (k + 1)) (f k)) → (start n : ℕ)
     → Spans move_place (base + c * start) (base + c * (start + n)) (flat_map f (range_with_len start n))
@@ -125,7 +125,7 @@ is_mate_is p valid =
     let none = empty_or p (legal_list p) (is_legal-in p) (λ m. in_legal p m valid) in
     ((λ e. let a = and_parts (in_check p.men p.to_move) (length (legal_list p) == 0) e in (a.0, none.0 a.1)), λ m. and_from _ _ m.0 (none.1 m.1))
 
--- a test that tells of mate
+-- a test for mate
 pub mate_told : (p : Position) (b : Bool) → IsValid p → IsTrue b ↔ IsMate p → b ≡ is_mate p
 mate_told p true valid h = sym ((is_mate_is p valid).1 (h.0 refl))
 mate_told p false valid h = sym (false_from_ne_true (is_mate p) (λ e. false≢true (h.1 ((is_mate_is p valid).0 e))))

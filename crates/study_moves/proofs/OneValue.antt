@@ -1,4 +1,4 @@
--- What has one game has one value, and so have positions that are alike.
+-- Positions with the same game have the same value, and so have positions that are alike.
 use Rattle.std.proofs.Common.{ℕ}
 use Rattle.study_board.specs.Position.{Position}
 use Rattle.study_moves.specs.Game.{IsWon, IsLost, IsDrawn}

@@ -13,7 +13,7 @@ use Rattle.study_moves.specs.Unmoves.{pawn_came}
 use Rattle.study_moves.proofs.BearsBothWays.{same_test}
 use Rattle.study_moves.proofs.QuietPawns.{joined}
 
--- a pawn does not capture where it stands
+-- a pawn does not capture on its own square
 captures_elsewhere : (side : Side) (a x : ℕ) → (not (a == x) && pawn_captures side a x) ≡ pawn_captures side a x
 unfolding pawn_captures
 captures_elsewhere side a x =

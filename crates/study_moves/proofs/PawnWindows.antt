@@ -1,4 +1,4 @@
--- Where a pawn's targets lie, and where no man stands.
+-- The range of a pawn's targets, and the squares without a man.
 use Rattle.std.proofs.Common.{◌≡◌, ℕ, ◌+◌, ◌-◌, ◌/◌, ◌%◌, ◌<◌, ◌≤◌, ◌==◌, suc, zero}
 use Rattle.std.proofs.Common.{Bool, true, false, ◌||◌, ◌⊎◌, inl, inr, List, [], ◌∷◌}
 use Rattle.std.proofs.Common.{length, get_or, drop, Option, Some, refl, arith, subst}
@@ -28,7 +28,7 @@ or_cases : (x y : Bool) → (x || y) ≡ true → (x ≡ true) ⊎ (y ≡ true)
 or_cases true y e = inl refl
 or_cases false y e = inr e
 
--- how far a pawn of each side goes
+-- the reach of a pawn of each side
 IsInReach : Side → ℕ → ℕ → Type 0
 IsInReach White a x = (a + 7 ≤ x) × (x < a + 17)
 IsInReach Black a x = (x + 7 ≤ a) × (a < x + 17)

@@ -36,7 +36,7 @@ at_pushed xs y d = grind (arith, common_steps)
 length_pushed : (xs : List Move) (y : Move) → length (xs ++ y ∷ []) ≡ length xs + 1
 length_pushed xs y = grind (arith, common_steps)
 
--- the one legal move from n on and below n'
+-- exactly one legal move from n on and below n'
 pub one_move_between : (p : Position) (xs : List Move) (y : Move) (n n' : ℕ) → is_legal p y ≡ true → n ≤ move_place y → move_place y < n'
     → ((m : Move) → is_legal p m ≡ true → n ≤ move_place m → move_place m < n' → m ≡ y)
     → AreMovesBelow p xs n → AreMovesBelow p (xs ++ y ∷ []) n'

@@ -36,7 +36,7 @@ IsAmong-placed z [] = inl refl
 IsAmong-placed z (x ∷ xs) =
     elim (nat_lt x.at z.at) as (λ b. IsAmong z (cond b (x ∷ placed z xs) (z ∷ x ∷ xs))) [ true ↦ inr (IsAmong-placed z xs) | false ↦ inl refl ]
 
--- a man that a filter takes off, and no other, put back
+-- the only man that a filter takes off, put back
 put_back : (q : Man → Bool) (man : Man) (xs : List Man) → IsAscending xs → IsAmong man xs → q man ≡ false
     → ((m : Man) → IsAmong m xs → (m.at ≡ man.at → ⊥) → q m ≡ true) → placed man (filter q xs) ≡ xs
 put_back q man [] h i e k = absurd i
@@ -58,7 +58,7 @@ and_true : (b : Bool) → (b && true) ≡ b
 and_true true = refl
 and_true false = refl
 
--- what stays, where no man is taken in passing
+-- the men that stay, if no man is captured in passing
 pub stays_plain : (man : Man) (a : ℕ) (m : Man) → survives None man a m ≡ (not (m.at == man.at) && not (m.at == a))
 unfolding survives
 stays_plain man a m = rw (none_passed None man a refl) (and_true (not (m.at == man.at) && not (m.at == a)))
@@ -114,7 +114,7 @@ module _ (men : List Man) (man : Man) (a : ℕ) (h : CanBeMoved men man a) where
       stays-from (set_back man a) man.at m e.origin e.square) in
       rw (filter_dropped q (set_back man a) others gone, all) others_and_man
 
-  -- the squares on which a man stands then
+  -- the squares that are occupied then
   pub occupied_before : (x : ℕ) → is_occupied (men_before men man a) x ≡ ((a == x) || ((not (x == man.at) && not (x == a)) && is_occupied men x))
   unfolding is_occupied men_before
   occupied_before x =
@@ -146,7 +146,7 @@ module _ (men : List Man) (man : Man) (a : ℕ) (h : CanBeMoved men man a) where
       let n = ne_eqb a man.at (λ t. apart_from_origin (sym t)) in
       occupied_before man.at ∙ rw (n, eq-eqb man.at man.at refl) refl
 
-  -- another empty square stays so
+  -- another empty square stays empty
   pub others_stay : (x : ℕ) → (x ≡ a → ⊥) → (x ≡ man.at → ⊥) → is_occupied (men_before men man a) x ≡ is_occupied men x
   others_stay x u v = occupied_before x ∙ rw (ne_eqb a x (λ t. u (sym t)), ne_eqb x man.at v, ne_eqb x a u) refl
 

@@ -153,7 +153,7 @@ module _ (q : Position) (valid : IsValid q) (man : Man) (a : ℕ) (h : CameFrom 
         faultless = first_fault-from_IsFaultless (men_before q.men man a) (other_side q.to_move) None now;
       }
 
-  -- the move that leads on
+  -- the move that leads back to the position
   abbrev pub onward : Move
   onward = move_from man a
 
@@ -188,7 +188,7 @@ module _ (q : Position) (valid : IsValid q) (man : Man) (a : ℕ) (h : CameFrom 
     leads = leads_on;
   }
 
--- how a position came from one before it
+-- a position reached from the one before it
 pub record IsTakenBack (q : Position) (m : Move) (p : Position) : Type 0 where
   pub man : Man
   pub origin : ℕ
@@ -281,7 +281,7 @@ module _ (q : Position) (by : Move) (p : Position) (valid : IsValid q) (e : Lead
     by = by_man;
   }
 
--- a position before tells the man and its square
+-- the position before determines the man and its square
 module _ (q : Position) (valid : IsValid q) (man man' : Man) (a a' : ℕ) (h : CameFrom q man a)
     (k : CameFrom q man' a') (same : men_before q.men man a ≡ men_before q.men man' a') where
   both : (x : ℕ) → ((a == x) || ((not (x == man.at) && not (x == a)) && is_occupied q.men x))
@@ -320,7 +320,7 @@ man_at-among (x ∷ xs) man h (inr i) =
     let low = above_among x.at xs man h.0 i in
     rw (ne_eqb x.at man.at (λ e. absurd (omega arith))) (man_at-among xs man h.1 i)
 
--- what a quiet move that can have led here says of the man on its target
+-- the man on the target of a quiet move that can have led here
 pub record IsTakenFrom (q : Position) (m : Move) (man : Man) (p : Position) : Type 0 where
   pub came : CameFrom q man m.origin
   pub by : m ≡ move_from man m.origin
@@ -346,7 +346,7 @@ taken_from q m p man valid here e =
       is = t.is ∙ ap (λ (o : ℕ). position_before q t.man o) from ∙ ap (λ (x : Man). position_before q x m.origin) same;
     }
 
--- a position before tells the move
+-- the position before determines the move
 pub same_move : (q : Position) (m n : Move) (p : Position) → IsValid q → LeadsQuietly p m q → LeadsQuietly p n q → m ≡ n
 same_move q m n p valid e f =
     let t = IsTakenBack-from q m p valid e in

@@ -1,4 +1,4 @@
--- Whether a man taken back leaves the other king attacked, told from the men after its move.
+-- Whether a man taken back leaves the other king attacked, decided by the men after its move.
 use Rattle.std.proofs.Common.{◌≡◌, ℕ, Bool, true, false, not, ◌&&◌, ◌||◌, ◌==◌, List, ◌∷◌, None, refl, sym, ◌∙◌}
 use Rattle.std.specs.List.{list_any, filter}
 use Rattle.std.proofs.lemmas.Bool.{and_parts}
@@ -46,7 +46,7 @@ and_true false = refl
 two_ways : (s b b' r r' : Bool) → s ≡ true → b ≡ b' → r ≡ r' → ((s && b) || r) ≡ (b' || r')
 two_ways s b b' r r' e f g = rw (e, f, g) refl
 
--- a king that neither leaves its square nor is set on that square
+-- a king that neither leaves its square nor is put on that square
 kept : (n o K b b' : Bool) → o ≡ false → b ≡ b' → ((n && not o) && (K && b)) ≡ ((K && n) && b')
 kept true o true b b' e f = rw (e, f) refl
 kept true o false b b' e f = rw e refl

@@ -21,7 +21,7 @@ use Rattle.study_moves.proofs.KingSafety.{not_at_end, blocked_after, reaches_is}
 use Rattle.study_moves.proofs.QuietChecks.{same_side-self, no_side_there}
 use Rattle.study_moves.proofs.PutBack.{CanBeMoved, target_is_empty, others_stay}
 
--- only pawns look at their side
+-- only the moves of pawns depend on their side
 side_apart : (b : Bool) (s t : Side) (kind : Kind) (a x : ℕ) → same_kind kind Pawn ≡ false → reaches_if b s kind a x ≡ reaches_if b t kind a x
 unfolding reaches_if
 side_apart b s t King a x e = refl
@@ -43,7 +43,7 @@ and_true : (b : Bool) → (b && true) ≡ b
 and_true true = refl
 and_true false = refl
 
--- a square jumped over is neither end
+-- the square passed in a double step is neither of its ends
 over : (side : Side) (a x : ℕ) → is_ahead side 2 a x ≡ true → (half_way a x ≡ a → ⊥) × (half_way a x ≡ x → ⊥)
 over White a x e =
     let q = and_parts (file_of x == file_of a) (rank_of x == rank_of a + 2) e in
@@ -116,7 +116,7 @@ module _ (men : List Man) (man : Man) (a : ℕ) (h : CanBeMoved men man a) where
   abbrev pub ys : List Man
   ys = filter (survives None man a) men
 
-  -- lines are open then where they are now
+  -- lines are open then exactly if they are open after the move
   blocked_before : is_blocked (men_before men man a) a man.at ≡ is_blocked men man.at a
   unfolding men_before is_blocked_past is_blocked
   blocked_before =
@@ -141,7 +141,7 @@ module _ (men : List Man) (man : Man) (a : ℕ) (h : CanBeMoved men man a) where
       ∙ reaches-both (is_blocked men man.at a) (other_side man.side) man.kind man.at a
       ∙ side_apart (is_blocked men man.at a) (other_side man.side) man.side man.kind man.at a e))
 
-  -- the ways of a pawn, with no man to take
+  -- the moves of a pawn, with no man to capture
   pawn_goes : is_pawn man ≡ true → reaches_target (men_before men man a) None z man.at
       ≡ (is_ahead man.side 1 a man.at ||
       ((rank_of a == starting_rank man.side) && is_ahead man.side 2 a man.at && is_empty men (half_way a man.at)))
@@ -191,7 +191,7 @@ module _ (men : List Man) (man : Man) (a : ℕ) (h : CanBeMoved men man a) where
       weaker true n c e = refl
       weaker false n c e = e
 
-  -- and is no pawn on an end rank there
+  -- and is not a pawn on an end rank there
   pub stands_inside : man.at < 64 → comes men man a ≡ true → is_end_pawn z ≡ false
   unfolding comes pawn_comes is_end_pawn
   stands_inside lx e = elim (cases_Bool (is_pawn man)) [
@@ -205,7 +205,7 @@ module _ (men : List Man) (man : Man) (a : ℕ) (h : CanBeMoved men man a) where
     | inr p ↦ rw (p, and_false (same_side man.side White), and_false (same_side man.side Black)) refl
   ]
 
-  -- a man that goes to its square, and is no pawn on an end rank, can have come from there
+  -- a man that goes to its square, and is not a pawn on an end rank, can have come from there
   pub coming : reaches_target (men_before men man a) None z man.at ≡ true → is_end_pawn z ≡ false → comes men man a ≡ true
   unfolding comes pawn_comes
   coming g n = elim (cases_Bool (is_pawn man)) [

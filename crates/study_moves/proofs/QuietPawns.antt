@@ -1,4 +1,4 @@
--- Whence a pawn can have come by a step or a double step.
+-- The squares from which a pawn can have come by a step or a double step.
 use Rattle.std.proofs.Common.{◌≡◌, ℕ, ◌+◌, ◌-◌, ◌<◌, ◌≤◌, ◌==◌, nat_le, Bool, true, false, not, ◌&&◌, ◌||◌, inl, inr, List, refl, sym, ◌∙◌, arith}
 use Rattle.std.proofs.lemmas.Bool.{cases_lt, le-leb, leb-true, false≢true, and_parts, and_from, cases_Bool}
 use Rattle.std.proofs.lemmas.Bool.{eqb-true, eq-eqb, ne_eqb, not_from_false, not_from_true}
@@ -175,7 +175,7 @@ black_two x a two o = same_test _ _ to from
         let n : rank_of a ≡ 6 = omega arith in
         and_from _ _ (eq-eqb _ _ n) (and_from _ _ (eq-eqb _ _ f) (eq-eqb _ _ r))
 
--- the two ways together, the square jumped over being the square one back
+-- both ways together; the square passed is the square one rank back
 pub joined : (men : List Man) (one h : ℕ) (s s' t t' e : Bool) → s' ≡ s → t' ≡ t → (t ≡ true → h ≡ one)
     → ((s' || (t' && is_empty men h)) && e) ≡ ((s || (t && is_empty men one)) && e)
 joined men one h s s' true t' e i j k = let o = k refl in rw (i, j, o) refl

@@ -147,7 +147,7 @@ module _ (s : Symmetry) where
   is_square-turned None h x lx = refl
   is_square-turned (Some y) h x lx = turned_apart s y x h lx
 
-  -- where pawns keep their ways
+  -- symmetries under which pawns move as pawns
   module _ (keeps : KeepsPawns s) where
     file_same-turned : (a x : ℕ) → a < 64 → x < 64 → eqb (file_of (turned_square s x)) (file_of (turned_square s a)) ≡ eqb (file_of x) (file_of a)
     file_same-turned a x la lx =
@@ -266,7 +266,7 @@ module _ (s : Symmetry) where
       (turned_apart s m.at (8 * rank_of man.at + file_of x) l.on (corner_small man.at x k.on lx))) in
       rw (turned_apart s m.at man.at l.on k.on, turned_apart s m.at x l.on lx, taken)
 
--- what a move can be: a man of the mover goes
+-- the form of a move: a man of the mover goes
 pub record IsGoing (p : Position) (man : Man) (m : Move) : Type 0 where
   pub reaches_target : reaches_target p.men p.passed man m.target ≡ true
   pub choice : is_promotion_choice (reaches_last_rank man m.target) m.promoted ≡ true
@@ -276,7 +276,7 @@ unfolding is_pseudo_legal
 IsGoing-from p man m e =
     let b = and_parts _ _ e in let c = and_parts _ _ b.0 in let d = and_parts _ _ c.0 in record { reaches_target = d.1; choice = b.1 }
 
--- what is promoted is no pawn
+-- a promoted man is not a pawn
 pub moved_pawn : (man : Man) (m : Move) (b : Bool) → is_promotion_choice b m.promoted ≡ true → is_pawn (moved man m) ≡ true → is_pawn man ≡ true
 moved_pawn man m b e k = by_choice b m.promoted e k
   where
@@ -345,7 +345,7 @@ module _ (s : Symmetry) (p : Position) (turn : IsTurnable s p) where
         (not (in_check (men_after (image s p) (turned_man s man) (image_move s m)) (turned_side s.colours p.to_move))) is_pseudo_legal-turned
         (λ e. rw (men_after-turned, in_check-turned s (men_after p man m) (men_after_seats (IsGoing-from p man m e)) p.to_move))
 
-    -- the square that is jumped over
+    -- the square that is passed in a double step
     jumped-turned : IsGoing p man m → passed_by (turned_man s man) (turned_square s m.target) ≡ turned_passed s (passed_by man m.target)
     jumped-turned g =
         let two : (is_pawn man && eqb (ranks_apart (turned_square s man.at) (turned_square s m.target)) 2)
@@ -398,7 +398,7 @@ lt_true : (x : ℕ) → x < 64 → nat_lt x 64 ≡ true
 lt_true x h = grind (arith, nat_tests)
 
 module _ (s : Symmetry) (p : Position) (turn : IsTurnable s p) where
-  -- a move is legal exactly where its image is
+  -- a move is legal exactly if its image is
   pub is_legal-turned : (m : Move) → m.origin < 64 → m.target < 64 → is_legal (image s p) (image_move s m) ≡ is_legal p m
   unfolding is_legal
   is_legal-turned m lo lt =

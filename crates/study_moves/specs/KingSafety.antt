@@ -20,7 +20,7 @@ attacked_past men by lifted x = list_any (λ m. is_other_man by lifted m && bear
 abbrev pub is_no_shield : Man → ℕ → ℕ → Bool
 is_no_shield m k x = not (m.at == x) && not (is_slider m.kind && strictly_between m.at x k)
 
--- the man bears on the king's square k, and a move to x is no help
+-- the man bears on the king's square k, and a move to x does not help
 abbrev pub threatens : List Man → Side → ℕ → ℕ → ℕ → Man → Bool
 threatens men by lifted k x m = (is_other_man by lifted m && bears_past men lifted m k) && is_no_shield m k x
 
@@ -37,7 +37,7 @@ others_threatened men side lifted x = list_any (king_threatened men side lifted 
 unfoldable pub is_unsafe : List Man → Side → Man → ℕ → Bool
 is_unsafe men side man x = (same_kind man.kind King && attacked_past men (other_side side) man.at x) || others_threatened men side man.at x
 
--- the man m closes x to the man: by its own square, by the threats to it as a king of the side, or by its reach if the man is a king
+-- the man m excludes x as a target of the man: by its own square, by the threats to it as a king of the side, or by its reach if the man is a king
 unfoldable pub closes : List Man → Side → Man → ℕ → Man → Bool
 closes men side man x m =
     ((same_side m.side side && (m.at == x)) || king_threatened men side man.at x m)

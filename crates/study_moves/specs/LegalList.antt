@@ -11,7 +11,7 @@ use Rattle.study_moves.specs.Rules.{is_legal, is_en_passant}
 abbrev pub choices : List (Option Kind)
 choices = None ∷ Some Queen ∷ Some Rook ∷ Some Bishop ∷ Some Knight ∷ []
 
--- from a square to a square
+-- the moves from a square to a square
 abbrev pub moves_between : ℕ → ℕ → List Move
 moves_between a x = map (λ q. record { origin = a; target = x; promoted = q }) choices
 

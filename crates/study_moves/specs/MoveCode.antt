@@ -1,4 +1,4 @@
--- Moves as numbers, which a `Model` over moves has to give beside its view. No contract speaks of it.
+-- Moves as numbers, which a `Model` over moves must have beside its view. No contract uses them.
 use Rattle.std.specs.Prelude.{◌≡◌, ℕ, Option, refl, zero, suc}
 use Rattle.std.specs.Coded.{Coded, code_by, coded×, coded_ℕ, coded_option}
 use Rattle.study_board.specs.declared.men.Kind.{Kind}

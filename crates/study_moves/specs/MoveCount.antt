@@ -1,9 +1,9 @@
--- How many moves a man has at most.
+-- The largest number of moves of a man.
 use Rattle.std.specs.Prelude.{ℕ}
 use Rattle.study_board.specs.declared.men.Kind.{Kind}
 use Rattle.study_board.specs.declared.men.Kind.TheVariants.{King, Queen, Rook, Bishop, Knight, Pawn}
 
--- on an empty board from the best square; of a pawn, to three squares of its last rank with four choices each
+-- on an empty board from the best square; for a pawn, to three squares of its last rank with four choices each
 abbrev pub most_moves : Kind → ℕ
 most_moves King = 8
 most_moves Queen = 27

@@ -1,4 +1,4 @@
--- Quiet moves, which take no man and promote none, and the positions before them.
+-- Quiet moves, which capture no man and promote none, and the positions before them.
 use Rattle.std.specs.Prelude.{◌≡◌, ℕ, ◌<◌, Bool, true, false, not, ◌&&◌, ◌||◌, ◌==◌, List, None, if◌then◌else◌}
 use Rattle.std.specs.List.{list_any, filter}
 use Rattle.study_board.specs.declared.men.Side.{Side}
@@ -14,7 +14,7 @@ use Rattle.study_moves.specs.Rules.{is_legal, after, is_ahead, starting_rank, ha
 use Rattle.study_moves.specs.EnPassant.{without_passed}
 use Rattle.study_moves.specs.KingSafety.{threatened_past}
 
--- a move that takes no man, where no square is passed, and promotes none
+-- a move that captures no man, promotes none, and is made while no square is passed
 abbrev pub IsQuiet : Position → Move → Type 0
 IsQuiet p m = (is_occupied p.men m.target ≡ false) × (m.promoted ≡ None)
 
@@ -58,12 +58,12 @@ pawn_comes men side x a =
     || ((rank_of a == starting_rank side) && is_ahead side 2 a x && is_empty men (half_way a x)))
     && is_empty men a
 
--- the same, by the squares one and two ranks back
+-- `pawn_comes`, by the squares one and two ranks back
 abbrev pub pawn_came : List Man → Bool → Bool → ℕ → ℕ → ℕ → Bool
 pawn_came men inside starts one two a =
     ((inside && (one == a)) || (starts && (two == a) && is_empty men one)) && is_empty men a
 
--- the man comes to its square from an empty square, as its kind goes
+-- the man comes to its square from an empty square, by the moves of its kind
 unfoldable pub comes : List Man → Man → ℕ → Bool
 comes men man a = if is_pawn man then pawn_comes men man.side man.at a else bears_on men man a && is_empty men a
 
@@ -76,15 +76,15 @@ king_was_attacked men side man a k =
 unfoldable pub was_check : List Man → Side → Man → ℕ → Bool
 was_check men side man a = list_any (king_was_attacked men side man a) men
 
--- the man can have come from a by a quiet move, the king of the side that is to move now being safe before
+-- the man can have come from a by a quiet move: before it, the king of the side now to move was safe
 abbrev pub came_from : List Man → Side → Man → ℕ → Bool
 came_from men side man a = comes men man a && not (was_check men side man a)
 
--- the quiet move of a man from a square to where it stands
+-- the quiet move of a man from a square to its own square
 abbrev pub move_from : Man → ℕ → Move
 move_from man a = record { origin = a; target = man.at; promoted = None }
 
--- the move is one of the man from a square that passes the test
+-- a move of the man from a square that passes the test
 abbrev pub IsMoveFrom : Man → (ℕ → Bool) → Move → Type 0
 IsMoveFrom man came m = (a : ℕ) × (a < 64) × (came a ≡ true) × (m ≡ move_from man a)
 

@@ -1,4 +1,4 @@
-//! The targets on which a move leaves the mover's king attacked, as a set.
+//! The targets to which a move leaves the mover's king attacked, as a set.
 ghost use Rattle.std.specs.Prelude.{◌≡◌, ℕ, ◌<◌, ◌&&◌, not};
 ghost use Rattle.study_board.specs.Men.{same_kind, other_side, is_man};
 ghost use Rattle.study_board.specs.declared.men.Kind.TheVariants.{King as AKing};
@@ -17,7 +17,7 @@ fn is_other_man(by: Side, lifted: Square, m: &Man) -> bool
     m.side == by && m.at != lifted
 }
 
-/// The squares on which a man of the side bears, the man on `lifted` taken away.
+/// The squares on which a man of the side bears, once the man on `lifted` is taken away.
 #[inline(always)]
 pub fn reach_of(men: &[Man], by: Side, lifted: Square, m: &Man) -> SquareSet
     ensures { (x : ℕ) → x < 64 → has result x ≡ (is_other_man by lifted m.now && bears_past men.now lifted m.now x) }
@@ -40,7 +40,7 @@ fn attacked_past(men: &[Man], by: Side, lifted: Square) -> SquareSet
     set
 }
 
-/// The squares in the line of a man to the square.
+/// The squares on the man's line to the square.
 #[inline]
 fn line_of(m: &Man, k: Square) -> SquareSet
     ensures { (x : ℕ) → x < 64 → has result x ≡ (is_slider m.now.kind && strictly_between m.now.at x k) }
@@ -60,8 +60,7 @@ fn squares_not_blocking(m: &Man, k: Square) -> SquareSet
     SquareSet::of(m.at).union(line_of(m, k)).complement()
 }
 
-/// Whether a man of the side bears on the square, the man on `lifted` taken away. Most men would not do so on an empty
-/// board.
+/// Whether a man of the side bears on the square, once the man on `lifted` is taken away. Most men would not do so on an empty board.
 #[inline(always)]
 fn attacks_past(men: &[Man], by: Side, lifted: Square, m: &Man, k: Square) -> bool
     ensures { result ≡ (is_other_man by lifted m.now && bears_past men.now lifted m.now k) }
@@ -73,7 +72,7 @@ fn attacks_past(men: &[Man], by: Side, lifted: Square, m: &Man, k: Square) -> bo
     reach_of(men, by, lifted, m).contains(k)
 }
 
-/// The squares to which a move is no help against the man.
+/// The squares to which a move does not help against the man.
 #[inline(always)]
 fn threats_of(men: &[Man], by: Side, lifted: Square, k: Square, m: &Man) -> SquareSet
     ensures { (x : ℕ) → x < 64 → has result x ≡ threatens men.now by lifted k x m.now }
@@ -136,7 +135,7 @@ fn attacked_for_king(men: &[Man], side: Side, man: &Man) -> SquareSet
     }
 }
 
-/// The squares on which a move of the man leaves a king of the side attacked.
+/// The targets of the man to which a move leaves a king of the side attacked.
 #[inline]
 #[tactic(auto, unfolding(crate::specs::KingSafety::is_unsafe))]
 pub fn unsafe_targets(men: &[Man], side: Side, man: &Man) -> SquareSet

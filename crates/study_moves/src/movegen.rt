@@ -20,7 +20,7 @@ use crate::targets::{target_range, targets};
 use arrayvec::ArrayVec;
 use study_board::{Kind, Man, Position, Square, SquareSet};
 
-/// Moves of a position at most: its side to move has at most a king, which has 8, and two queens, with 27 each.
+/// The largest number of moves of a position: its side to move has at most a king, which has 8, and two queens, with 27 each.
 pub const MAX_MOVES: usize = 62;
 
 /// A list with room for the moves of any position.
@@ -65,7 +65,7 @@ fn add_moves_of(p: &Position, man: &Man, list: &mut MoveList)
     }
 }
 
-/// The targets of a man, with each one of its legal moves, and whether each move to them is legal.
+/// The targets of a man, among them those of all its legal moves, and whether each move to them is legal.
 #[inline]
 fn legal_targets(p: &Position, man: &Man) -> (SquareSet, bool)
     requires { same_side man.now.side p.now.to_move ≡ true }
@@ -142,7 +142,7 @@ fn add(p: &Position, man: &Man, m: Move, sure: bool, list: &mut MoveList)
     }
 }
 
-/// Whether the move is legal, which may be known.
+/// Whether the move is legal; `sure` if that is known.
 #[inline]
 fn is_known_legal(p: &Position, man: &Man, m: &Move, sure: bool) -> bool
     requires here { is_occupied p.now.men man.now.at ≡ true }

@@ -1,4 +1,4 @@
-//! The positions before a quiet move: one that takes no man and promotes none.
+//! The positions before a quiet move: one that captures no man and promotes none.
 ghost use Rattle.std.specs.Prelude.{◌≡◌, ◌≢◌, ℕ, ◌<◌, ◌≤◌, ◌+◌, ◌⊎◌, ◌↔◌, ◌&&◌, ◌==◌, true, Some};
 ghost use Rattle.std.specs.List.{Contains, AllPairs};
 ghost use Rattle.arrayvec.specs.ArrayVec.{array_vec_len};
@@ -48,7 +48,7 @@ pub fn unmoves(q: &Position) -> ArrayVec<Move, 192>
     list
 }
 
-/// Adds the quiet moves of the man that can have led to where it stands.
+/// Adds the quiet moves of the man that can have led to its square.
 fn add_unmoves_of(q: &Position, man: &Man, list: &mut ArrayVec<Move, 192>)
     requires room { array_vec_len list.old ≤ 128 }
     requires once { AllPairs (λ m n. m ≢ n) list.old.items }
@@ -99,8 +99,7 @@ fn man_on_origin(man: &Man, a: Square) -> Man
     }
 }
 
-/// The squares from which the man can have come by a quiet move, with these men on the board now, in any order, and this
-/// side to move.
+/// The squares from which the man can have come by a quiet move, with these men on the board after it, in any order, and this side to move.
 #[inline(always)]
 pub fn origins(men: &[Man], to_move: Side, man: &Man) -> SquareSet
     ensures { (a : ℕ) → a < 64 → has result a ≡ came_from men.now to_move man.now a }
@@ -108,8 +107,8 @@ pub fn origins(men: &[Man], to_move: Side, man: &Man) -> SquareSet
     origins_of_kind(men, man).without(origins_in_check(men, to_move, man))
 }
 
-/// The empty squares from which the man can have come, as its kind goes, with these men on the board now, in any order,
-/// whether or not a king was attacked then.
+/// The empty squares from which the man can have come, by the moves of its kind, with these men on the board after it, in any order,
+/// whether or not a king was attacked before.
 #[inline(always)]
 #[tactic(auto, unfolding(crate::specs::Unmoves::comes))]
 pub fn origins_of_kind(men: &[Man], man: &Man) -> SquareSet
@@ -157,8 +156,7 @@ fn pawn_origins(men: &[Man], side: Side, x: Square) -> SquareSet
     }
 }
 
-/// The first square, if it is inside the pawn's ranks and empty, and the second, if the pawn starts by a double step and
-/// both are empty.
+/// The first square, if it is within the pawn's ranks and empty, and the second, if the pawn can start by a double step and both are empty.
 #[inline]
 pub fn empty_steps(men: &[Man], inside: bool, starts: bool, one: Square, two: Square) -> SquareSet
     requires { starts ≡ true → inside ≡ true }
@@ -195,7 +193,7 @@ fn set_if_empty(men: &[Man], x: Square) -> SquareSet
     }
 }
 
-/// The squares from which the man cannot have come, since a king of the side that did not move was attacked then.
+/// The squares from which the man cannot have come, since a king of the side that did not move would have been attacked.
 #[inline(always)]
 fn origins_in_check(men: &[Man], side: Side, man: &Man) -> SquareSet
     ensures { (a : ℕ) → a < 64 → has result a ≡ was_check men.now side man.now a }
@@ -218,7 +216,7 @@ fn origins_attacking(men: &[Man], side: Side, man: &Man, k: &Man) -> SquareSet
     }
 }
 
-/// The squares from which the man bears on the square, those on which a man of the other side there would bear.
+/// The squares from which the man bears on the square: those on which a man of the other side there would bear.
 #[inline(always)]
 fn origins_giving_check(men: &[Man], man: &Man, k: Square) -> SquareSet
     ensures { (a : ℕ) → a < 64 → has result a ≡ bears_past men.now man.now.at (set_back man.now a) k }

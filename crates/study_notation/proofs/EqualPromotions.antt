@@ -1,4 +1,4 @@
--- `==` of two promotions, as it is derived, and the comparison that the contracts name.
+-- The derived `==` of two promotions, and the comparison that the contracts name.
 use Rattle.std.proofs.Common.{◌≡◌, Option, Some, None, refl}
 use Rattle.std.specs.Option.{option_eq}
 use Rattle.study_board.specs.declared.men.Kind.{Kind}

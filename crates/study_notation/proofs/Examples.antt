@@ -48,7 +48,7 @@ written : placement_text row_2.position.men ≡ codes "k7/8/2K5/8/8/8/8/7R"
 unfolding placement_text ranks_text rank_field
 written = refl
 
--- row 11: two knights that reach e2 from two files; a pinned knight is no rival
+-- row 11: two knights that reach e2 from two files; a pinned knight is not a rival
 abbrev row_11 : Position
 row_11 = record { men = man White King 4 ∷ man White Knight 6 ∷ man White Knight 18 ∷ man Black King 63 ∷ []; to_move = White; passed = None }
 
@@ -88,7 +88,7 @@ unfolding start_of words fields_of squares_of is_rank placement placement_fault 
     strictly_between pawn_captures could_be_passed is_occupied has_man
 kings_touch = refl
 
--- counts have four digits at most, and leading zeros are read
+-- counts have at most four digits, and leading zeros are accepted
 count : count_of (codes "0042") ≡ Some 42
 unfolding count_of
 count = refl

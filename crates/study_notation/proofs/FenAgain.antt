@@ -1,4 +1,4 @@
--- What is written is read again.
+-- Written texts are read back.
 use Rattle.std.proofs.Common.{◌≡◌, ℕ, zero, suc, ◌+◌, ◌*◌, ◌-◌, ◌/◌, ◌%◌, ◌<◌, ◌≤◌, Bool, true, false, ◌&&◌, eqb}
 use Rattle.std.proofs.Common.{leb, List, [], ◌∷◌, ◌++◌, length, map, reverse, replicate, Option, Some, None, Ok}
 use Rattle.std.proofs.Common.{refl, sym, ap, subst, ◌∙◌, inl, inr, arith, length-append, append_assoc}

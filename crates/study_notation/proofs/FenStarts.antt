@@ -1,4 +1,4 @@
--- What is read of a FEN text is a start of a valid position, with counts that are written and read again.
+-- The start that a FEN text is read as has a valid position, and counts that are written and read back.
 use Rattle.std.proofs.Common.{◌≡◌, ℕ, ◌+◌, ◌*◌, ◌^◌, ◌<◌, ◌≤◌, ◌==◌, Bool, true, false, not}
 use Rattle.std.proofs.Common.{cond, ◌&&◌, leb, List, [], ◌∷◌, length, reverse, Option, Some}
 use Rattle.std.proofs.Common.{None, refl, sym, ap, ◌∙◌, subst, arith, inl, inr}

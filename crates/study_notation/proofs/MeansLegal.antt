@@ -1,4 +1,4 @@
--- What a text means is a legal move.
+-- The move that a text means is legal.
 use Rattle.std.proofs.Common.{◌≡◌, true, List, [], ◌∷◌, refl, sym, ap, ◌∙◌, inl, subst}
 use Rattle.std.specs.Prelude.{Result, Ok, Err, IfOk}
 use Rattle.std.specs.List.{filter}

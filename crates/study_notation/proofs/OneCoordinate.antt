@@ -1,4 +1,4 @@
--- No text gives both the file and the rank of the origin.
+-- No text has both the file and the rank of the origin.
 use Rattle.study_board.specs.Men.{is_pawn}
 use Rattle.std.proofs.Common.{◌≡◌, ℕ, true, false, not, ◌&&◌, sym, ◌∙◌}
 use Rattle.std.proofs.lemmas.Bool.{false≢true, and_parts, not-true}

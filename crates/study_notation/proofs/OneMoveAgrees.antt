@@ -1,4 +1,4 @@
--- No other legal move agrees with what is written of a legal move.
+-- No other legal move agrees with the text of a legal move.
 use Rattle.std.proofs.Common.{◌≡◌, ℕ, ◌==◌, Bool, true, false, not, cond, ◌&&◌, ◌⊎◌, inl, inr, [], ◌∷◌, Option, Some, None, refl, sym, ap, ◌∙◌, subst, arith}
 use Rattle.std.proofs.lemmas.Bool.{false≢true, and_parts, and_from, cases_Bool, eqb-true, eq-eqb, ne_eqb, not-true, not_from_true, not_from_false}
 use Rattle.std.specs.List.{filter}
@@ -58,7 +58,7 @@ agrees_from : (p : Position) (s : San) (man : Man) (m : Move) → Agrees p s man
 unfolding agrees
 agrees_from p s man m h = and_from _ _ (and_from _ _ (and_from _ _ (and_from _ _ (and_from _ _ h.kind h.target) h.file) h.rank) h.promoted) h.captures
 
--- a pawn's move is a capture where it is written so
+-- a pawn's move is a capture if it is written as one
 pawn_written : (written capture pawn : Bool) → pawn ≡ true → fits_takes written capture pawn ≡ true → capture ≡ written
 pawn_written true true pawn e h = refl
 pawn_written false true pawn e h = absurd (false≢true (sym (not_from_true pawn e) ∙ h))
@@ -73,7 +73,7 @@ given_fits : (b : Bool) (n : ℕ) → fits_given (cond b (Some n) None) n ≡ tr
 given_fits true n = eq-eqb n n refl
 given_fits false n = refl
 
--- what is given is so
+-- a given coordinate is the move's
 given_is : (b : Bool) (g n : ℕ) → b ≡ true → fits_given (cond b (Some g) None) n ≡ true → g ≡ n
 given_is true g n e h = eqb-true g n h
 given_is false g n e h = absurd (false≢true e)
@@ -162,7 +162,7 @@ module _ (p : Position) (valid : IsValid p) (man : Man) (m : Move) (h : IsMove p
         ]
       ]
 
-  -- a man of the kind elsewhere is a rival
+  -- another man of the same kind is a rival
   plain_move : is_pawn man ≡ false → n ≡ record { origin = other.at; target = m.target; promoted = None }
   plain_move e =
       let none = piece_choice other n.target n.promoted (is_pawn_too false e) k.moves.choice in
@@ -192,7 +192,7 @@ module _ (p : Position) (valid : IsValid p) (man : Man) (m : Move) (h : IsMove p
   unfolding has_file_rival
   on_file e f = list_any-from (λ o. is_rival p man m.target o && file_of o.at == file_of man.at) p.men other k.among (and_from _ _ e (eq-eqb _ _ f))
 
-  -- the one rival is on the file of the man, where one is
+  -- the only rival on the file of the man, if there is one
   file_shared : has_file_rival p man m.target ≡ true → (other.at ≡ man.at → ⊥) → file_of other.at ≡ file_of man.at
   unfolding has_file_rival is_rival
   file_shared e apart =

@@ -77,7 +77,7 @@ in_permuted xs ys same m i =
     let r = some_in (same_man m) ys hit in
     subst (λ z. IsIn z ys) (sym (same_man-equal m r.0 r.2)) r.1
 
--- men in order, and the same men in order
+-- two lists of the same men in order are equal
 pub ascending_same : (xs ys : List Man) → IsAscending xs → IsAscending ys → IsPermutation xs ys → xs ≡ ys
 ascending_same xs ys h k same =
     same_list (λ m. m.at) 0 0 xs ys (AscendsFrom-ascending xs h) (AscendsFrom-ascending ys k)
@@ -87,7 +87,7 @@ not_told : {F : Type 0} (b : Bool) (f : F) (r : Option F) → cond b (Some f) r 
 not_told true f r e = cc
 not_told false f r e = (refl, e)
 
--- men with no fault of their own, a side to move and a passed square
+-- men without a fault of their own, a side to move and a passed square
 pub faultless_but_passed : (men : List Man) (s : Side) (q : Option ℕ) → IsAscending men → placement_fault men ≡ None → in_check men (other_side s) ≡ false
     → first_fault men s q ≡ cond (not (passed_possible men s q)) (Some EnPassantImpossible) None
 unfolding placement_fault first_fault

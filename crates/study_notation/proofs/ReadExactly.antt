@@ -1,4 +1,4 @@
--- What is read of a text is what it means.
+-- The result of reading a text is its meaning.
 use Rattle.std.proofs.Common.{◌≡◌, ℕ, Bool, true, false, List, [], ◌∷◌, Option, Some, None, refl, sym, ap, ◌∙◌, subst, inl, inr, arith}
 use Rattle.std.specs.Prelude.{◌↔◌, Result, Ok, Err, if◌then◌else◌}
 use Rattle.std.specs.List.{filter}
@@ -16,7 +16,7 @@ use Rattle.study_moves.proofs.AscendingKeys.{IsIn, IsIn-filter, IsIn-kept, Ascen
 use Rattle.study_moves.proofs.LegalLists.{in_legal, is_legal-in, AscendsFrom-legal_list}
 use Rattle.study_notation.proofs.MoveAgain.{parts_spelled}
 
--- what the answer is to say of the moves M that match, where T tells that the text is castling
+-- the meaning of the result, given the moves M that match, and the claim T that the text is castling
 pub record Tells (r : Result Move SanFault) (san : Type 0) (M : Move → Type 0) (castling : Bool) : Type 0 where
   pub one : (m : Move) → (r ≡ Ok m) ↔ (M m × ((n : Move) → M n → n ≡ m))
   pub none : (r ≡ Err NoSuchMove) ↔ (san × ((m : Move) → ¬ (M m)))

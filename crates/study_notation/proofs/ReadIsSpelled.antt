@@ -1,4 +1,4 @@
--- What is read is spelled so.
+-- Texts are spelled as they are read.
 use Rattle.std.proofs.Common.{◌≡◌, ℕ, ◌+◌, ◌*◌, ◌-◌, ◌/◌, ◌%◌, ◌<◌, Bool, true, false, cond}
 use Rattle.std.proofs.Common.{◌&&◌, eqb, leb, List, [], ◌∷◌, ◌++◌, Option, Some, None, refl}
 use Rattle.std.proofs.Common.{sym, ap, subst, ◌∙◌, inl, inr, arith, append_assoc}
@@ -163,7 +163,7 @@ officer_takes b =
 abbrev Promotes : List ℕ → Option Kind → List ℕ → Type 0
 Promotes text p rest = ((equals : Bool) × (text ≡ promotion_text equals p ++ rest)) × IfSome p (λ k. is_promotion_piece k ≡ true)
 
--- a letter or none, and the bytes after it
+-- an optional letter, and the bytes after it
 given_takes : (o : Option Kind) (b : ℕ) (bs : List ℕ) → IsLetter b o → Promotes (b ∷ bs) (given o b bs).0 (given o b bs).1
 given_takes None b bs h = ((false, refl), tt)
 given_takes (Some k) b bs h = ((false, ap (λ (t : List ℕ). t ++ bs) h.0), h.1)

@@ -36,7 +36,7 @@ pub rest_end : (men : List Man) (at n empty : ℕ) → n ≡ 0 → rest_text men
 unfolding rest_text
 rest_end men at n empty e = ap (λ k. spelled empty (row men at k)) e
 
--- ---- how long it is
+-- ---- its length
 
 abbrev pub count : List (Option Piece) → ℕ
 count [] = 0
@@ -59,7 +59,7 @@ unfolding occupied
 occupied-none at zero = refl
 occupied-none at (suc n) = occupied-none (at + 1) n
 
--- one more man is on one more square at most
+-- one more man stands on at most one more square
 occupied-skip : (m : Man) (men : List Man) (at n : ℕ) → m.at < at → occupied (m ∷ men) at n ≡ occupied men at n
 unfolding occupied
 occupied-skip m men at zero lt = refl
@@ -124,7 +124,7 @@ pub length-placement_text : (men : List Man) → length men ≤ 4 → length (pl
 unfolding placement_text
 length-placement_text men few = omega (arith, length-ranks_text men 7, occupied-le men 0 64)
 
--- what follows a rank: a stroke and those below it
+-- the text after a rank: a stroke and the ranks below it
 unfoldable pub below : List Man → ℕ → List ℕ
 below men zero = []
 below men (suc k) = 47 ∷ ranks_text men k

@@ -1,4 +1,4 @@
--- What is spelled is read.
+-- Texts are read as they are spelled.
 use Rattle.std.proofs.Common.{◌≡◌, ℕ, ◌+◌, ◌*◌, ◌-◌, ◌/◌, ◌%◌, ◌<◌, ◌≤◌, Bool, true, false, ◌||◌, eqb, List, [], ◌∷◌}
 use Rattle.std.proofs.Common.{◌++◌, Option, Some, None, refl, ap, ◌∙◌, inl, inr, ◌⊎◌, arith, append_assoc}
 use Rattle.std.specs.Prelude.{IfSome}
@@ -11,7 +11,7 @@ use Rattle.study_moves.specs.Rules.{is_promotion_piece}
 use Rattle.study_notation.specs.FenSpelling.{square_text}
 use Rattle.study_notation.specs.SanParts.{SanSquares, kind_at, file_at, rank_at, takes_at, promotion_piece, promotion_piece_at, promotion_at, squares_at, san_of}
 
--- a byte that is no coordinate and no `x`
+-- a byte that is neither a coordinate nor `x`
 abbrev pub Aside : ℕ → Type 0
 Aside b = (b < 97) × ((b < 49) ⊎ (56 < b))
 
@@ -159,7 +159,7 @@ squares_again (Some f) (Some r) true s t hf hr hs ht =
 
 -- ---- the kind
 
--- coordinates begin with no kind
+-- coordinates do not begin with a kind
 abbrev pub Starts : List ℕ → Type 0
 Starts [] = ⊥
 Starts (b ∷ bs) = (b < 66) ⊎ (82 < b)

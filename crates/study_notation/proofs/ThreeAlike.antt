@@ -1,4 +1,4 @@
--- Three men of one side and one kind are too many beside the two kings.
+-- Three men of the same side and kind are too many beside the two kings.
 use Rattle.std.proofs.Common.{◌≡◌, ℕ, ◌+◌, ◌≤◌, Bool, true, false, cond, ◌&&◌, List, [], ◌∷◌, length, refl, sym, ap, ◌∙◌, inl, inr, arith, subst}
 use Rattle.std.specs.List.{count_by}
 use Rattle.std.proofs.lemmas.Bool.{false≢true, and_parts, and_right, eqb-true, cases_Bool}
@@ -88,7 +88,7 @@ module _ (p : Position) (valid : IsValid p) where
   faultless : IsFaultless p.men p.to_move p.passed
   faultless = IsFaultless-from_first p.men p.to_move p.passed valid.faultless
 
-  -- of three men of one side and one kind two stand on one square
+  -- among three men of the same side and kind two stand on the same square
   pub not_three : (s : Side) (k : Kind) (a b c : Man) → IsAmong a p.men → IsAmong b p.men → IsAmong c p.men
       → is_man s k a ≡ true → is_man s k b ≡ true → is_man s k c ≡ true
       → (a.at ≡ b.at → ⊥) → (a.at ≡ c.at → ⊥) → (b.at ≡ c.at → ⊥) → ⊥

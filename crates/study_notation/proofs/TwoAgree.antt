@@ -1,4 +1,4 @@
--- Two that agree.
+-- Two moves that agree with the same parts.
 use Rattle.std.proofs.Common.{◌≡◌, ℕ, ◌+◌, ◌<◌, Bool, true, List, ◌∷◌, ◌++◌, length, get_or, take, drop, Option, Some, None, Err, refl, sym, ap, ◌∙◌, is_some}
 use Rattle.std.specs.List.{filter}
 use Rattle.std.specs.Option.{option_to_list}

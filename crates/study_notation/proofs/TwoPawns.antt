@@ -1,4 +1,4 @@
--- Two pawns of one side that advance to one square, or capture there from one file, are one.
+-- Two pawns of one side that advance to the same square, or capture there from the same file, are the same pawn.
 use Rattle.std.proofs.Common.{◌≡◌, ℕ, ◌+◌, ◌==◌, true, false, ◌&&◌, ◌||◌, ◌⊎◌, inl, inr, List, Option, refl, sym, ◌∙◌, subst, arith}
 use Rattle.std.proofs.lemmas.Bool.{false≢true, and_parts, and_from, or_left, or_right, or_cases, or_from}
 use Rattle.std.proofs.lemmas.Bool.{eqb-true, eq-eqb, ne_eqb, not-true, not_from_false, false_from_ne_true}
@@ -92,7 +92,7 @@ ahead_same : (s : Side) (n a b x : ℕ) → IsAheadBy s n a x → IsAheadBy s n 
 ahead_same White n a b x h k = omega (arith, h, k)
 ahead_same Black n a b x h k = omega (arith, h, k)
 
--- a pawn one square behind x stands half way of a double step there
+-- a pawn one square behind x is passed over in a double step to x
 stands_between : (s : Side) (a b x : ℕ) → file_of x ≡ file_of a → file_of x ≡ file_of b → IsAheadBy s 1 a x → IsAheadBy s 2 b x → half_way b x ≡ a
 stands_between White a b x f g h k = omega (arith, f, g, h, k)
 stands_between Black a b x f g h k = omega (arith, f, g, h, k)

@@ -1,4 +1,4 @@
--- What a FEN text says: the start, or the first fault.
+-- The start that a FEN text spells, or its first fault.
 use Rattle.study_text.specs.Words.{words}
 use Rattle.study_notation.specs.FenSpelling.{man_letter}
 use Rattle.std.specs.Prelude.{ℕ, ◌+◌, ◌-◌, ◌*◌, Bool, true, false, not, ◌&&◌, ◌||◌, List, []}
@@ -33,7 +33,7 @@ pub record Fields : Type 0 where
   pub clock : List ℕ
   pub number : List ℕ
 
--- six fields, or four, to which `0 1` is added
+-- six fields, or four, to which `0 1` is appended
 unfoldable pub fields_of : List (List ℕ) → Option Fields
 fields_of (p ∷ s ∷ c ∷ e ∷ []) = Some (record { placement = p; side = s; castling = c; passed = e; clock = 48 ∷ []; number = 49 ∷ [] })
 fields_of (p ∷ s ∷ c ∷ e ∷ h ∷ n ∷ []) = Some (record { placement = p; side = s; castling = c; passed = e; clock = h; number = n })
@@ -68,7 +68,7 @@ is_run b = nat_le 49 b && nat_le b 56
 abbrev pub is_placement_byte : ℕ → Bool
 is_placement_byte b = is_run b || is_some (piece_of b)
 
--- a digit stands for so many empty squares, a letter for one man, any other byte for nothing
+-- a digit stands for so many empty squares, a letter for one man, any other byte has no meaning
 unfoldable pub squares_of : ℕ → List (Option Piece)
 squares_of b = if is_run b then replicate (b - 48) None else (if is_some (piece_of b) then piece_of b ∷ [] else [])
 
@@ -85,7 +85,7 @@ men_from n [] = []
 men_from n (None ∷ cells) = men_from (n + 1) cells
 men_from n (Some p ∷ cells) = record { side = p.side; kind = p.kind; at = n } ∷ men_from (n + 1) cells
 
--- what stands between strokes
+-- the parts between strokes
 abbrev pub parts_of : List ℕ → List (List ℕ)
 parts_of text = slice_split (λ b. b == 47) text
 
@@ -101,7 +101,7 @@ placement_fault men =
     else (if not (has_one_king men White && has_one_king men Black) then Some KingCount
     else (if has_end_pawn men then Some PawnOnEndRank else None))
 
--- what is known of a position's fault before the side to move is known
+-- the faults that are reported before the side to move is read
 abbrev pub fen_fault_of_men : PositionFault → Option FenFault
 fen_fault_of_men board.TooManyMen = Some TooManyMen
 fen_fault_of_men board.KingCount = Some KingCount
@@ -124,7 +124,7 @@ passed_of (b ∷ []) = if b == 45 then Some None else None
 passed_of (f ∷ r ∷ []) = if (nat_le 97 f && nat_le f 104) && (nat_le 49 r && nat_le r 56) then Some (Some (8 * (r - 49) + (f - 97))) else None
 passed_of _ = None
 
--- the men with the side to move and the passed square, where a pawn can just have jumped over that
+-- the men with the side to move and the passed square, if a pawn may have passed it just before
 unfoldable pub position_of : List Man → Side → Option ℕ → Option Position
 position_of men side passed =
     if passed_possible men side passed then Some (record { men = men; to_move = side; passed = passed }) else None
@@ -132,7 +132,7 @@ position_of men side passed =
 abbrev pub is_digit : ℕ → Bool
 is_digit d = nat_le 48 d && nat_le d 57
 
--- digits, one at least and so many at most, as the number that they spell
+-- digits, at least one and at most so many, as the number that they spell
 abbrev pub digits_told : ℕ → List ℕ → Option ℕ
 digits_told most ds = if (nat_le 1 (length ds) && nat_le (length ds) most) && list_all is_digit ds then Some (digits_value 10 ds) else None
 
@@ -147,7 +147,7 @@ abbrev pub ◌>>=◌ : {A B : Type 0} → Result A FenFault → (A → Result B 
 (Ok x) >>= f = f x
 (Err e) >>= f = Err e
 
--- goes on, unless the test is met
+-- continues, unless the test is met
 abbrev pub refuse : Bool → FenFault → Result (Unit {0}) FenFault
 refuse true e = Err e
 refuse false e = Ok tt

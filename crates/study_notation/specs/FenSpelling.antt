@@ -14,7 +14,7 @@ abbrev pub man_letter : Side → Kind → ℕ
 man_letter White k = letter k
 man_letter Black k = letter k + 32
 
--- what stands on a square
+-- the man on a square, if any, without its square
 abbrev pub piece_on : List Man → ℕ → Option Piece
 piece_on [] at = None
 piece_on (m ∷ men) at = if m.at == at then Some (record { side = m.side; kind = m.kind }) else piece_on men at
@@ -37,7 +37,7 @@ spelled n (Some p ∷ cells) = run n ++ (man_letter p.side p.kind ∷ spelled 0 
 unfoldable pub rank_field : List Man → ℕ → List ℕ
 rank_field men rank = spelled 0 (row men (8 * rank) 8)
 
--- this rank, and after a stroke those below it
+-- this rank, then a stroke and the ranks below it
 unfoldable pub ranks_text : List Man → ℕ → List ℕ
 ranks_text men zero = rank_field men 0
 ranks_text men (suc k) = rank_field men (suc k) ++ (47 ∷ ranks_text men k)

@@ -1,4 +1,4 @@
--- Not part of any public contract: what a clause sees of the fields of a text.
+-- Not part of any public contract: the fields of a text as contracts see them.
 use Rattle.study_notation.specs.Fen.{Fields}
 use Rattle.study_notation.specs.declared.fields.FenFields.{FenFields}
 

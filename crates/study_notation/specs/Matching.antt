@@ -1,4 +1,4 @@
--- Which legal move a SAN text means.
+-- The legal move that a SAN text means.
 use Rattle.std.specs.Prelude.{ℕ, Bool, true, false, not, ◌&&◌, ◌||◌, ◌==◌, List, [], ◌∷◌, filter, Option, Some, None, Result, Ok, Err, if◌then◌else◌}
 use Rattle.std.specs.Option.{option_map_or}
 use Rattle.study_board.specs.declared.men.Kind.{Kind}
@@ -18,12 +18,12 @@ same_promotion None None = true
 same_promotion (Some a) (Some b) = same_kind a b
 same_promotion _ _ = false
 
--- what is given agrees
+-- a given number agrees with this one; a missing one always does
 abbrev pub fits_given : Option ℕ → ℕ → Bool
 fits_given None n = true
 fits_given (Some g) n = g == n
 
--- a written `x` stands with a capture, and a pawn's capture has it
+-- a written `x` requires a capture, and a pawn's capture requires the `x`
 abbrev pub fits_takes : Bool → Bool → Bool → Bool
 fits_takes written capture pawn = if capture then (written || not pawn) else not written
 
@@ -45,6 +45,6 @@ abbrev pub meant : Position → List ℕ → Option San → Result Move SanFault
 meant p text (Some s) = picked (filter (matches p s) (legal_list p))
 meant p text None = Err (if is_castling text then CastlingLeftOut else NotSan)
 
--- the legal move that alone matches the text, or why there is none
+-- the only legal move that matches the text, or why there is none
 unfoldable pub move_of : Position → List ℕ → Result Move SanFault
 move_of p text = meant p text (san_of text)

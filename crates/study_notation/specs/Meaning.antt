@@ -1,4 +1,4 @@
--- What a SAN text means, in the words of the game.
+-- The meaning of a SAN text, in the words of the game.
 use Rattle.std.specs.Prelude.{◌≡◌, ℕ, List, true}
 use Rattle.study_board.specs.Position.{Position}
 use Rattle.study_moves.specs.declared.moves.Move.{Move}

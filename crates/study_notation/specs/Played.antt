@@ -10,7 +10,7 @@ use Rattle.study_moves.specs.Rules.{after}
 use Rattle.study_notation.specs.declared.start.Start.{Start}
 use Rattle.study_moves.specs.LegalList.{is_capture}
 
--- one more, up to 65,535
+-- one more, at most 65,535
 abbrev pub one_more : ℕ → ℕ
 one_more n = if nat_lt n 65535 then n + 1 else n
 

@@ -1,4 +1,4 @@
--- How a move is spelled.
+-- The spelling of a move in SAN.
 use Rattle.std.specs.Prelude.{◌≡◌, ℕ, ◌+◌, ◌<◌, Bool, true, false, ◌&&◌, ◌||◌, ◌==◌, if◌then◌else◌, List, [], ◌∷◌, ◌++◌, Option, Some, None, IfSome}
 use Rattle.study_board.specs.declared.men.Kind.{Kind}
 use Rattle.study_board.specs.declared.men.Kind.TheVariants.{King, Queen, Rook, Bishop, Knight, Pawn}
@@ -41,14 +41,14 @@ san_text s equals =
 abbrev pub is_glyph : ℕ → Bool
 is_glyph b = b == 33 || b == 63
 
--- up to two of them
+-- at most two of them
 abbrev pub is_glyphs : List ℕ → Bool
 is_glyphs [] = true
 is_glyphs (a ∷ []) = is_glyph a
 is_glyphs (a ∷ b ∷ []) = is_glyph a && is_glyph b
 is_glyphs _ = false
 
--- nothing, `+` or `#`, and then the glyphs
+-- `+`, `#` or neither, then the glyphs
 abbrev pub is_ending : List ℕ → Bool
 is_ending [] = true
 is_ending (b ∷ bs) = if b == 43 || b == 35 then is_glyphs bs else is_glyphs (b ∷ bs)

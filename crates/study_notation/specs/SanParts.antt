@@ -1,4 +1,4 @@
--- The parts of a SAN text, from the left. A part is what it says and the bytes after it.
+-- The parts of a SAN text, from the left. Each is read as its value and the rest of the text.
 use Rattle.std.specs.Prelude.{ℕ, ◌+◌, ◌-◌, ◌*◌, Bool, true, false, ◌&&◌, ◌||◌, ◌==◌, nat_le, if◌then◌else◌, List, [], ◌∷◌, Option, Some, None}
 use Rattle.study_board.specs.declared.men.Kind.{Kind}
 use Rattle.study_board.specs.declared.men.Kind.TheVariants.{King, Queen, Rook, Bishop, Knight, Pawn}
@@ -42,7 +42,7 @@ unfoldable pub promotion_piece_at : List ℕ → Option Kind × List ℕ
 promotion_piece_at [] = (None, [])
 promotion_piece_at (b ∷ bs) = given (promotion_piece b) b bs
 
--- `=` wants a kind after it
+-- `=` must be followed by a kind
 abbrev pub wanted : Option Kind × List ℕ → Option (Option Kind × List ℕ)
 wanted x = elim x.0 [ None ↦ None | Some k ↦ Some (Some k, x.1) ]
 
@@ -57,14 +57,14 @@ pub record SanSquares : Type 0 where
   pub is_capture : Bool
   pub target : ℕ
 
--- after the origin a target follows, or what was read as the origin is the target
+-- a target follows the origin, or else what was read as the origin is the target
 abbrev pub squares_from : Option ℕ → Option ℕ → Bool → Option ℕ → Option ℕ → Option SanSquares
 squares_from f r x (Some tf) (Some tr) = Some (record { file = f; rank = r; is_capture = x; target = 8 * tr + tf })
 squares_from f r x (Some tf) None = None
 squares_from (Some tf) (Some tr) false None tr' = Some (record { file = None; rank = None; is_capture = false; target = 8 * tr + tf })
 squares_from _ _ _ _ _ = None
 
--- the rank of a target is looked for after its file only
+-- the rank of a target is read only if its file was
 abbrev pub rank_behind : Option ℕ × List ℕ → Option ℕ × List ℕ
 rank_behind x = elim x.0 [ None ↦ (None, x.1) | Some f ↦ rank_at x.1 ]
 
@@ -77,7 +77,7 @@ squares_at text =
     let tr = rank_behind tf in
     squares_from f.0 r.0 x.0 tf.0 tr.0 >>= λ s. Some (s, tr.1)
 
--- the parts of a text, where it has them
+-- the parts of a text, if it has them
 unfoldable pub san_of : List ℕ → Option San
 san_of text = do
   let k = kind_at text

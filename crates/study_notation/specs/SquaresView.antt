@@ -1,4 +1,4 @@
--- Not part of any public contract: what a clause sees of coordinates and the bytes after them.
+-- Not part of any public contract: coordinates and the bytes after them as contracts see them.
 use Rattle.std.specs.Prelude.{ℕ, List}
 use Rattle.std.specs.Borrow.{Bor}
 use Rattle.study_notation.specs.declared.san_parts.SanSquares.{SanSquares}

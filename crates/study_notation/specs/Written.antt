@@ -23,20 +23,20 @@ has_rival p man x = list_any (is_rival p man x) p.men
 unfoldable pub has_file_rival : Position → Man → ℕ → Bool
 has_file_rival p man x = list_any (λ o. is_rival p man x o && file_of o.at == file_of man.at) p.men
 
--- a pawn's capture has the origin's file; a piece has it where there is a rival, and none on that file
+-- a pawn's capture has the origin's file; a piece has it if it has a rival, and no rival is on that file
 unfoldable pub gives_file : Position → Man → ℕ → Bool
 gives_file p man x = if is_pawn man then is_capture p man x else (has_rival p man x && not (has_file_rival p man x))
 
--- a piece has the origin's rank where there is a rival on its file
+-- a piece has the origin's rank if a rival is on its file
 unfoldable pub gives_rank : Position → Man → ℕ → Bool
 gives_rank p man x = not (is_pawn man) && has_file_rival p man x
 
--- no text gives both
+-- no text has both
 abbrev pub GivesOne : Option ℕ → Option ℕ → Type 0
 GivesOne (Some f) (Some r) = ⊥
 GivesOne file rank = Unit {0}
 
--- what is written of a legal move of this man
+-- the parts that are written for a legal move of this man
 unfoldable pub san_for : Position → Man → Move → San
 san_for p man m = record {
   kind = man.kind;
@@ -47,7 +47,7 @@ san_for p man m = record {
   promoted = m.promoted;
 }
 
--- `#` for checkmate, else `+` for check
+-- `#` for checkmate, otherwise `+` for check
 unfoldable pub check_text : Position → List ℕ
 check_text p = if is_mate p then 35 ∷ [] else (if in_check p.men p.to_move then 43 ∷ [] else [])
 

@@ -2,7 +2,7 @@
 ghost use Rattle.std.specs.Prelude.{◌≡◌, ◌≤◌};
 ghost use Rattle.study_notation.specs.Fen.{digits_told};
 
-/// The number that digits spell: one digit at least, and `most` at most.
+/// The number that digits spell, at least one digit and at most `most`.
 pub fn read_digits(text: &[u8], most: usize) -> Option<u16>
     requires { most ≤ 4 }
     ensures { result ≡ digits_told most text.now }

@@ -1,4 +1,4 @@
-//! Why a text is no FEN, or means no move.
+//! Why a text is not a valid FEN, or is not the SAN of one legal move.
 
 use thiserror::Error;
 
@@ -31,7 +31,7 @@ pub enum FenFault {
     MoveNumber,
 }
 
-/// Why a text means no legal move of a position.
+/// Why a text is not the SAN of exactly one legal move of a position.
 #[derive(Clone, Copy, Debug, PartialEq, Eq, Error)]
 pub enum SanFault {
     #[error("no move is spelled so")]

@@ -67,7 +67,7 @@ fn placement_fault(men: &[Man]) -> Option<FenFault>
     }
 }
 
-/// A position's fault, where it is one of the placement.
+/// The FEN fault for a position's fault, if that is one of the placement; otherwise `None`.
 fn fen_fault_of_men(fault: PositionFault) -> Option<FenFault>
     ensures { result ≡ fen_fault_of_men fault }
 {
@@ -79,7 +79,7 @@ fn fen_fault_of_men(fault: PositionFault) -> Option<FenFault>
     }
 }
 
-/// The position of men with no fault but, maybe, a passed square that is impossible.
+/// The position of men whose only possible fault is an impossible passed square.
 #[tactic(auto, unfolding(crate::specs::Fen::position_of))]
 fn position_of(men: &[Man], to_move: Side, passed: Option<Square>) -> Option<Position>
     requires ordered { IsAscending men.now }

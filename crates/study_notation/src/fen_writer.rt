@@ -31,7 +31,7 @@ fn letter_of(piece: Piece) -> u8
     }
 }
 
-/// What stands on a square.
+/// The man on a square, if any, without its square.
 fn find_piece(men: &[Man], at: u8) -> Option<Piece>
     ensures { result ≡ piece_on men.now at }
 {
@@ -97,7 +97,7 @@ fn push_passed(out: &mut ArrayString<64>, passed: Option<Square>)
     }
 }
 
-/// The ranks, the eighth first, with a stroke between two.
+/// The ranks, the eighth first, separated by strokes.
 fn write_placement(out: &mut ArrayString<64>, men: &[Man])
     requires few { length men.now ≤ 4 }
     requires empty { out.old.bytes ≡ [] }
@@ -123,8 +123,8 @@ fn side_letter(side: Side) -> u8
 
 /// The FEN text of a start.
 ///
-/// Six fields with one space between them, `-` for castling, one digit for each run of empty
-/// squares, the passed square wherever the position has one, and numbers without leading zeros.
+/// Six fields separated by one space, `-` for castling, one digit for each run of empty squares, the passed square whenever the position
+/// has one, and numbers without leading zeros.
 #[tactic(auto, unfolding(crate::specs::FenSpelling::fen_text))]
 pub fn write_fen(start: &Start) -> ArrayString<64>
     ensures { result.bytes ≡ fen_text start.now }

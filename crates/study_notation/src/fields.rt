@@ -20,7 +20,7 @@ pub struct FenFields<'a> {
     pub number: &'a [u8],
 }
 
-/// The fields of a text that has six of them, or four.
+/// The fields of a text that has six or four of them.
 #[tactic(auto, unfolding(crate::specs::Fen::fields_of))]
 pub fn split_fields(text: &[u8]) -> Option<FenFields<'_>>
     ensures { option_map fields_view result ≡ fields_of (words text.now) }
@@ -64,14 +64,14 @@ pub fn read_side(text: &[u8]) -> Option<Side>
     }
 }
 
-/// Whether a field is left empty by `-`.
+/// Whether a field is `-`.
 pub fn is_dash(text: &[u8]) -> bool
     ensures { result ≡ is_dash text.now }
 {
     matches!(text, [b'-'])
 }
 
-/// The passed square, where the field is `-` or a square.
+/// The passed square, if the field is `-` or a square.
 pub fn read_passed(text: &[u8]) -> Option<Option<Square>>
     ensures { result ≡ passed_of text.now }
 {

@@ -1,4 +1,4 @@
-//! What is written is read again, and what the definitions of texts mean in the words of chess.
+//! Written texts are read back, and the meaning of the definitions of texts in the words of chess.
 ghost use Rattle.std.specs.Prelude.{◌≡◌, ◌≤◌, ◌↔◌, ℕ, List, true, false, Ok, Err, Some};
 ghost use Rattle.study_board.specs.Position.{Position as APosition, IsValid};
 ghost use Rattle.study_moves.specs.declared.moves.Move.{Move as AMove};
@@ -14,34 +14,32 @@ ghost use Rattle.study_notation.specs.Meaning.{IsSan, MatchesAlone, MatchesNone,
 ghost use Rattle.study_notation.specs.Written.{move_text};
 ghost use Rattle.study_notation.specs.declared.fault.SanFault.TheVariants.{NotSan, CastlingLeftOut, NoSuchMove, Ambiguous};
 
-/// What `write_fen` gives for a start is read as that start by `read_fen`, where the clock and the
-/// number have at most four digits and the number is not 0.
+/// `read_fen` reads the output of `write_fen` for a start as that start, if the clock and the number have at most four digits and the number is not 0.
 pub fn fen_is_read_again()
     ensures { (s : AStart) → IsValid s.position → s.clock ≤ 9999 → 1 ≤ s.number → s.number ≤ 9999
         → start_of (fen_text s) ≡ Ok s }
 {}
 
-/// What `read_fen` reads is a valid position; written, it is read as the same start.
+/// A start that `read_fen` returns has a valid position; written, it is read as the same start.
 pub fn fen_is_settled()
     ensures valid { (text : List ℕ) (s : AStart) → start_of text ≡ Ok s → IsValid s.position }
     ensures again { (text : List ℕ) (s : AStart) → start_of text ≡ Ok s
         → start_of (fen_text s) ≡ Ok s }
 {}
 
-/// What `write_san` gives for a legal move, `read_san` reads as that move.
+/// `read_san` reads the output of `write_san` for a legal move as that move.
 pub fn san_is_read_again()
     ensures { (p : APosition) (m : AMove) → IsValid p → is_legal p m ≡ true
         → move_of p (move_text p m) ≡ Ok m }
 {}
 
-/// The parts that are read from the left are those with which the text is spelled; so a text is
-/// spelled in one way at most.
+/// The parts that are read from the left are the parts with which the text is spelled; so a text is spelled in at most one way.
 pub fn san_parts_are_spelled()
     ensures { (text : List ℕ) (s : ASan) → (san_of text ≡ Some s) ↔ Says text s }
 {}
 
-/// What `read_san` answers, in the words of the game: the move that alone matches the text, or that
-/// none or several do; and by the text alone that it is castling, or no move at all.
+/// The result of `read_san`, in the words of the game: the only move that matches the text, or that no move or several moves match; and, from the text alone,
+/// that it is castling, or not the form of a move.
 pub fn san_is_read_exactly()
     ensures one { (p : APosition) (text : List ℕ) (m : AMove) → IsValid p
         → (move_of p text ≡ Ok m) ↔ MatchesAlone p text m }

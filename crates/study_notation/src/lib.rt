@@ -1,9 +1,8 @@
-//! Positions as FEN and moves as SAN, both ways and to the letter.
+//! Positions as FEN and moves as SAN, read and written exactly.
 //!
-//! `read_fen` answers the start that a text spells, or the first fault of the text; `read_san` the
-//! one legal move that a text means, or why there is none. `write_fen` and `write_san` give the one
-//! text for each. What is written is read again, as long as the counts have at most four digits: `fen_is_read_again` and `san_is_read_again` in
-//! `laws` are these theorems. No call takes memory.
+//! `read_fen` returns the start that a text spells, or the first fault of the text; `read_san` the one legal move that a text means, or why there is none.
+//! `write_fen` and `write_san` write the one text for each. Written texts are read back, as long as the counts have at most four digits: `fen_is_read_again`
+//! and `san_is_read_again` in `laws` are these theorems. No call takes memory.
 #![tactic(auto)]
 
 mod captures;

@@ -43,7 +43,7 @@ fn is_run(b: u8) -> bool
     b >= b'1' && b <= b'8'
 }
 
-/// Adds what a byte stands for, and gives the next file.
+/// Adds the squares of one byte, and returns the next file; `None` if the byte is not valid here.
 #[tactic(auto, unfolding(crate::specs::Fen::squares_of))]
 fn read_square(men: &mut ArrayVec<Man, 64>, b: u8, first: u8, file: u8) -> Option<u8>
     requires low { first ≤ 56 }
@@ -91,7 +91,7 @@ fn read_rank(men: &mut ArrayVec<Man, 64>, part: &[u8], first: u8) -> bool
     file == 8
 }
 
-/// What stands before the last stroke, and after it.
+/// The text before the last stroke, and the text after it.
 fn cut_last(text: &[u8]) -> Option<(&[u8], &[u8])>
     ensures found { IfSome result (λ x. parts_of text.now ≡ parts_of x.0.now ++ x.1.now ∷ []) }
     ensures none { IfNone result (parts_of text.now ≡ text.now ∷ []) }
@@ -107,7 +107,7 @@ fn cut_last(text: &[u8]) -> Option<(&[u8], &[u8])>
     None
 }
 
-/// The men on ascending squares, where eight ranks of eight squares stand between strokes.
+/// The men on ascending squares, if the text is eight ranks of eight squares separated by strokes.
 pub fn read_placement(text: &[u8]) -> Option<ArrayVec<Man, 64>>
     ensures { option_map (λ men. men.items) result ≡ placement text.now }
 {

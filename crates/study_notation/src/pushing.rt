@@ -1,4 +1,4 @@
-//! Bytes and squares behind a text that has room for them.
+//! Appending bytes and squares to a text that has room for them.
 ghost use Rattle.std.specs.Prelude.{◌≡◌, ◌<◌, ◌≤◌, ◌+◌, ◌++◌, ◌∷◌, []};
 ghost use Rattle.arrayvec.specs.ArrayString.{array_string_len};
 ghost use Rattle.study_notation.specs.FenSpelling.{square_text};

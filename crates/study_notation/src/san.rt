@@ -1,8 +1,8 @@
-//! What a SAN text says of a move.
+//! The parts of a SAN text.
 
 use study_board::{Kind, Square};
 
-/// The parts of a SAN text. A file and a rank are numbers below 8, counted from a and from 1.
+/// The parts of a SAN text. Files and ranks are numbers below 8, counted from a and from 1.
 #[derive(Clone, Copy, Debug, PartialEq, Eq)]
 pub struct San {
     pub kind: Kind,

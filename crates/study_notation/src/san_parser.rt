@@ -1,4 +1,4 @@
-//! What a SAN text says.
+//! Reading the parts of a SAN text.
 ghost use Rattle.std.specs.Prelude.{◌≡◌};
 ghost use Rattle.study_notation.specs.SanParts.{san_of};
 
@@ -6,7 +6,7 @@ use crate::san::San;
 use crate::san_parts::{is_ending, read_kind, read_promotion, read_squares};
 use study_board::Square;
 
-/// The parts of a text, where it has them.
+/// The parts of a text, if it has the form of a move.
 #[tactic(auto, unfolding(crate::specs::SanParts::san_of))]
 pub fn parse_san(text: &[u8]) -> Option<San>
     ensures { result ≡ san_of text.now }

@@ -7,7 +7,7 @@ ghost use Rattle.study_notation.specs.SquaresView.{squares_view};
 
 use study_board::Kind;
 
-/// The kind of the man, a pawn where there is no letter, and what follows it.
+/// The kind of the man, a pawn if there is no letter, and the rest.
 #[tactic(auto, unfolding(crate::specs::SanParts::kind_at))]
 pub fn read_kind(text: &[u8]) -> (Kind, &[u8])
     ensures { (result.0, result.1.now) ≡ kind_at text.now }
@@ -22,7 +22,7 @@ pub fn read_kind(text: &[u8]) -> (Kind, &[u8])
     }
 }
 
-/// A file, where one stands here, and what follows it.
+/// A file, if the text begins with one, and the rest.
 #[tactic(auto, unfolding(crate::specs::SanParts::file_at))]
 fn read_file(text: &[u8]) -> (Option<u8>, &[u8])
     ensures value { (result.0, result.1.now) ≡ file_at text.now }
@@ -81,8 +81,7 @@ fn read_promotion_piece(text: &[u8]) -> (Option<Kind>, &[u8])
     }
 }
 
-/// The promotion, none where no kind stands here, and what follows it; nothing where `=` has no kind
-/// after it.
+/// The promotion, or none if the text has no kind here, and the rest; `None` if `=` has no kind after it.
 #[tactic(auto, unfolding(crate::specs::SanParts::promotion_at))]
 pub fn read_promotion(text: &[u8]) -> Option<(Option<Kind>, &[u8])>
     ensures { option_map (λ x. (x.0, x.1.now)) result ≡ promotion_at text.now }
@@ -108,7 +107,7 @@ fn is_glyphs(text: &[u8]) -> bool
     matches!(text, [] | [b'!' | b'?'] | [b'!' | b'?', b'!' | b'?'])
 }
 
-/// Whether the rest of a text is `+` or `#` or neither, and then up to two of `!` and `?`.
+/// Whether the rest of a text is an optional `+` or `#`, and then at most two of `!` and `?`.
 pub fn is_ending(text: &[u8]) -> bool
     ensures { result ≡ is_ending text.now }
 {
@@ -118,7 +117,7 @@ pub fn is_ending(text: &[u8]) -> bool
     }
 }
 
-/// The coordinates of a move: of its origin what the text gives, and its target.
+/// The coordinates of a move: the given parts of its origin, and its target.
 #[derive(Clone, Copy)]
 pub struct SanSquares {
     pub file: Option<u8>,
@@ -127,9 +126,9 @@ pub struct SanSquares {
     pub target: u8,
 }
 
-/// The coordinates, and what follows them.
+/// The coordinates, and the rest.
 ///
-/// Where no target follows, what was read as the origin is the target.
+/// If no target follows, what was read as the origin is the target.
 #[tactic(auto, unfolding(crate::specs::SanParts::squares_at))]
 pub fn read_squares(text: &[u8]) -> Option<(SanSquares, &[u8])>
     ensures value { option_map squares_view result ≡ squares_at text.now }

@@ -14,9 +14,8 @@ use study_moves::{Move, legal_moves};
 
 /// The legal move that the text means, or why there is none.
 ///
-/// The text is a move of the PGN Standard: kind, origin's file, origin's rank, `x`, target, promotion
-/// with `=` or without, `+` or `#`, and up to two of `!` and `?`. Only a pawn's capture must have its
-/// `x`, and what is said of check is not compared.
+/// The text is a move of the PGN Standard: kind, origin's file, origin's rank, `x`, target, promotion with `=` or without, `+` or `#`, and at most two of `!`
+/// and `?`. Only a pawn's capture must have its `x`, and check and checkmate are not compared.
 #[tactic(auto, unfolding(crate::specs::Matching::move_of))]
 pub fn read_san(p: &Position, text: &str) -> Result<Move, SanFault>
     ensures value { result ≡ move_of p.now text.now }
@@ -36,7 +35,7 @@ pub fn read_san(p: &Position, text: &str) -> Result<Move, SanFault>
     }
 }
 
-/// The one move of the list that the parts agree with.
+/// The one move of the list that agrees with the parts.
 fn find_move(p: &Position, moves: &[Move], san: &San) -> Result<Move, SanFault>
     ensures { result ≡ picked (filter (matches p.now san.now) moves.now) }
 {
@@ -109,7 +108,7 @@ fn is_castling_with(o: u8, text: &[u8]) -> bool
     }
 }
 
-/// Whether the text is castling, left or right, with letters or with digits.
+/// Whether the text is castling, to either side, with letters or with digits.
 fn is_castling(text: &[u8]) -> bool
     ensures { result ≡ is_castling text.now }
 {

@@ -16,8 +16,8 @@ use study_moves::{Move, in_check, is_legal, played};
 
 /// The text of a legal move, in the form of the PGN Standard.
 ///
-/// Of the origin it gives no more than distinguishes the man from others that can legally go to the square, and the file of a pawn
-/// that captures. It ends in `#` for checkmate or `+` for check.
+/// It has only as much of the origin as distinguishes the man from others that can legally go to the square, and the file of a pawn that captures. It
+/// ends in `#` for checkmate or `+` for check.
 #[tactic(auto, unfolding(crate::specs::Written::move_text))]
 pub fn write_san(p: &Position, m: Move) -> ArrayString<8>
     requires { is_legal p.now m ≡ true }
@@ -119,7 +119,7 @@ fn is_mate(p: &Position) -> bool
     study_moves::is_mate(p)
 }
 
-/// What is written of a legal move of this man.
+/// The parts that are written for a legal move of this man.
 #[tactic(auto, unfolding(crate::specs::Written::san_for))]
 fn describe(p: &Position, man: &Man, m: &Move) -> San
     ensures value { result ≡ san_for p.now man.now m.now }
@@ -182,7 +182,7 @@ fn has_file_rival(p: &Position, man: &Man, x: Square) -> bool
         .any(|o| is_rival(p, man, x, o) && o.at.file() == man.at.file())
 }
 
-/// Whether `o` is another man of the kind and side, which can legally go to the square.
+/// Whether `o` is another man of the same kind and side that can legally go to the square.
 #[tactic(auto, unfolding(crate::specs::Written::is_rival))]
 fn is_rival(p: &Position, man: &Man, x: Square, o: &Man) -> bool
     ensures { result ≡ is_rival p.now man.now x o.now }

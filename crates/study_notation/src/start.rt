@@ -30,9 +30,7 @@ impl Start {
 
     /// The start after a legal move.
     ///
-    /// The clock is 0 after a capture or a pawn's move and else one more; the number is one more after
-    /// Black's move.
-    /// Both stay at 65,535.
+    /// The clock is 0 after a capture or a pawn's move, otherwise one more; the number is one more after Black's move. Both stay at 65,535.
     #[tactic(auto, unfolding(crate::specs::Played::start_after))]
     pub fn played(&self, m: Move) -> Start
         requires { is_legal self.now.position m ≡ true }

@@ -1,4 +1,4 @@
--- A step to a child, and what is written with it.
+-- A step to a child, and the text that is written with it.
 use Rattle.std.proofs.Common.{◌≡◌, ℕ, suc, ◌+◌, ◌≤◌, List, [], ◌∷◌, ◌++◌, Some, None, sym}
 use Rattle.std.proofs.Common.{ap, subst, ◌∙◌, arith, append_assoc, add-one, ◌-◌, length, take, length-append}
 use Rattle.std.specs.Prelude.{codes}
@@ -56,7 +56,7 @@ module _ (s next : Start) (f : Forest Mark) (k : ℕ) where
       ap (λ j. last ++ variations s (skip j f)) (add-one k) ∙ ap (λ (x : List ℕ). x ++ v) written
       ∙ five old (codes " (") w b (codes ")") v ∙ ap (λ (x : List ℕ). old ++ x) (sym (others_first s f k t e)) ∙ h
 
-  -- all that follows is written
+  -- the whole movetext after the node is written
   pub all_written : (t : Twig Mark) (old mid looped new : List ℕ) → node_in f 0 [] ≡ Some t → next ≡ start_after s t.played
       → mid ≡ old ++ (codes " " ++ words_of_move s t.played t.label) → width f ≤ k
       → looped ++ variations s (skip k f) ≡ mid ++ variations s (skip 1 f)
@@ -69,6 +69,6 @@ module _ (s next : Start) (f : Forest Mark) (k : ℕ) where
       n ∙ ap (λ x. looped ++ following x t.below) en ∙ ap (λ (x : List ℕ). x ++ b) (done ∙ ap (λ (x : List ℕ). x ++ v) em)
       ∙ four old (codes " ") w v b ∙ ap (λ (x : List ℕ). old ++ x) (sym (following_first s f t e))
 
--- nothing follows
+-- there is nothing to write
 pub nothing_written : (s : Start) (f : Forest Mark) (text : List ℕ) → node_in f 0 [] ≡ None → text ≡ text ++ following s f
 nothing_written s f text e = sym (append-nil text) ∙ ap (λ (x : List ℕ). text ++ x) (sym (following_none s f e))

@@ -14,7 +14,7 @@ parts line (w ∷ ws) =
       | inr over ↦ rw over (ap (λ (t : List (List ℕ)). line ++ t) (parts (w ∷ []) ws))
     ]
 
--- a line goes on as the first
+-- a line continues as the first
 abbrev GoesOn : List (List ℕ) → List (List (List ℕ)) → Type 0
 GoesOn line lines = (more : List (List ℕ)) × (rest : List (List (List ℕ))) × (lines ≡ (line ++ more) ∷ rest)
 

@@ -1,4 +1,4 @@
--- Walks along paths, and the text of what follows a node, child by child.
+-- Walks along paths, and the movetext after a node, child by child.
 use Rattle.study_marks.specs.FaultSums.{below_at}
 use Rattle.std.proofs.Common.{◌≡◌, ℕ, zero, suc, ◌<◌, ◌≤◌, true, List, [], ◌∷◌, ◌++◌, Option, Some, None, refl, sym, ap, subst, ◌∙◌, arith}
 use Rattle.std.specs.Prelude.{IfSome, codes}
@@ -43,7 +43,7 @@ module _ {L : Type 0} where
   spot_last t [] k = refl
   spot_last t (j ∷ js) k = ap twig_spot (node_last t.below j js k)
 
-  -- what is below it
+  -- the forest below it
   pub below_entered : (f : Forest L) (steps : List ℕ) (k : ℕ) (t : Twig L) → node_in (below_at f steps) k [] ≡ Some t → below_at f (steps ++ k ∷ []) ≡ t.below
   below_entered f steps k t e = below_last f steps k ∙ ap under e
 
@@ -55,7 +55,7 @@ module _ {L : Type 0} where
   width_twig None = refl
   width_twig (Some t) = refl
 
-  -- how many children the node at the path has
+  -- the number of children of the node at the path
   pub width_at : (t : Plain L) (steps : List ℕ) → width_of (spot_at t steps) ≡ width (below_at t.below steps)
   width_at t [] = refl
   width_at t (k ∷ ks) = width_twig (node_in t.below k ks) ∙ ap width (sym (below_node t.below k ks))
@@ -97,7 +97,7 @@ module _ {L : Type 0} where
   skip_all zero (more m l b r) h = absurd (omega (arith, h))
   skip_all (suc k) (more m l b r) h = skip_all k r (omega (arith, h))
 
--- ---- the text of what follows
+-- ---- the movetext after a node
 
 abbrev pub first_text : Start → Forest Mark → Option (Twig Mark) → List ℕ
 first_text s f None = []

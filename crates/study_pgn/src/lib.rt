@@ -1,8 +1,7 @@
 //! Studies as PGN.
 //!
-//! `write_pgn` gives a writer the PGN text of a study, to the letter: the tags, the stipulation with its verdict, and
-//! the tree of moves with their marks, in lines of at most 79 characters (a longer word makes a line of its own). The
-//! text is made whole before the first byte is written.
+//! `write_pgn` writes the exact PGN text of a study: the tags, the stipulation with its verdict, and the tree of moves with their marks, in lines of at most
+//! 79 characters (a longer word has a line of its own). The text is completed in memory before the first byte is written.
 #![tactic(auto)]
 
 mod fault;

@@ -37,7 +37,7 @@ pub fn add_stipulation<A: Allocator>(
     add_goal(text, stipulation.goal)
 }
 
-/// Whether the root's value is what the stipulation demands; `to_move`: the hero is to move there.
+/// Whether the root's value meets the stipulation; `to_move`: the hero is to move there.
 pub fn is_right(goal: Goal, to_move: bool, value: Value) -> bool
     ensures { result ≡ is_right (record { goal = goal; hero_first = to_move }) value }
 {
@@ -74,7 +74,7 @@ fn add_verdict<A: Allocator>(
     }
 }
 
-/// The stipulation, the verdict and the value of the root, where `first` is to move in it.
+/// The stipulation, the verdict and the value of the root, in which `first` is to move.
 #[tactic(auto, unfolding(crate::specs::Pgn::opening_words))]
 pub fn add_opening_words<A: Allocator>(
     text: &mut Text<'_, A>,
@@ -93,7 +93,7 @@ pub fn add_opening_words<A: Allocator>(
     add_value(text, first, root.value)
 }
 
-/// The same in braces.
+/// The opening comment: these words in braces.
 #[tactic(auto, unfolding(crate::specs::Pgn::opening_text))]
 pub fn add_root_comment<A: Allocator>(
     text: &mut Text<'_, A>,

@@ -1,4 +1,4 @@
-//! The text of a study, and its way to a writer.
+//! The text of a study, and writing it.
 ghost use Rattle.std.specs.Prelude.{◌≡◌, OnOk, IfOk, Err};
 ghost use Rattle.std.specs.Io.KnownBytes.{Appends};
 ghost use Rattle.study_text.specs.Taken.{TakesPrefix};
@@ -61,9 +61,8 @@ fn pgn_text<'a, 'b, A: Allocator, B: Allocator>(
 
 /// Writes the PGN of a study.
 ///
-/// The text is made whole first, so want of memory is reported before the first byte. A writer that fails or takes nothing
-/// ends the call; it took a prefix of the text then. The time grows with the number of nodes: each is reached from its
-/// parent, and none is looked up along its path.
+/// The text is completed in memory first, so want of memory is reported before the first byte. A writer that fails or takes nothing ends the call, and then
+/// has a prefix of the text. The time grows with the number of nodes: each is reached from its parent, and none is looked up along its path.
 pub fn write_pgn<'a, 'b, A: Allocator, B: Allocator, W: Write>(
     alloc: &'a A,
     bench: &Bench<'b, B>,

@@ -17,14 +17,14 @@ use Rattle.study_tablefile.proofs.ReadAgain.{whole_again}
 use Rattle.study_values.specs.declared.values.ProbeFault.{ProbeFault}
 use Rattle.study_prober.specs.Sources.{IsHeaderOf, cells_on_page}
 
--- zeros, and what is beyond them, read as 0
+-- zeros, and places beyond them, read as 0
 zero_read : (m i : ℕ) → get_or {A = ℕ} (replicate m 0) i 0 ≡ 0
 zero_read m i = elim (cases_lt i m) [
   | inl within ↦ get_or-replicate m i 0 0 within
   | inr past ↦ get_or_past {X = ℕ} (replicate m 0) i 0 (omega (arith, length-replicate {A = ℕ} m 0))
 ]
 
--- a page has the next 4,096 cells, and zeros where there are fewer
+-- a page has the next 4,096 cells, and zeros if there are fewer
 page_reads : (xs : List ℕ) (k : ℕ) → k < 4096 → get_or (page_cells_of xs) k 0 ≡ get_or xs k 0
 unfolding page_cells_of
 page_reads xs k small = elim (cases_lt k (length xs)) [

@@ -1,4 +1,4 @@
--- Why a source is not held.
+-- Why a source is refused.
 use Rattle.std.proofs.Common.{◌≡◌, ◌≢◌, ℕ, ◌==◌, inl, inr, List, Bool, true, false, refl, sym, ap, ◌∙◌, subst, arith}
 use Rattle.std.proofs.lemmas.Bool.{false≢true}
 use Rattle.std.proofs.lemmas.Bool.Decides.{nat_tests}
@@ -20,7 +20,7 @@ pub bad_header : (bytes : List ℕ) (f : FileFault) (r : Result Header PagedFaul
 bad_header bytes f (Ok h) is e = absurd is
 bad_header bytes f (Err fault) is e = (f, is, e)
 
--- a source for a class whose table is held already
+-- a source for a class whose table is open already
 pub fault_held : (May : Result (List ℕ) SourceFault → Type 0) (held : Bool) (c : Class) → held ≡ true
     → (told : Result (List ℕ) SourceFault) × (held ≡ false → May told)
     × MatchOption (paged_fault held c told) (IfErr {T = Unit {0}} (Err (AlreadyHeld c)) (λ e. e ≡ OutOfMemory))
@@ -42,7 +42,7 @@ other_fault c d f = elim (same_class d c) [
 no_fault : (c d : Class) → d ≡ c → class_fault c (Ok d) ≡ None
 no_fault c d e = rw (alike (class_number d) (class_number c) (ap class_number e)) refl
 
--- a header was told: the fault is the class's
+-- a header was read: the fault is the class's
 pub fault_told : (May : Result (List ℕ) SourceFault → Type 0) (held : Bool) (c : Class) (h : Header) (r : Result (Unit {0}) PagedFault) → held ≡ false
     → ((told : Result (List ℕ) SourceFault) × May told × IsTold told (Ok h))
     → MatchOption (class_fault c (Ok h.class)) (IfErr r (λ e. e ≡ OutOfMemory)) (λ fault. IsErrOf r fault)

@@ -1,4 +1,4 @@
--- Pages that are kept are pages that their sources may give.
+-- Cached pages are pages that their sources may return.
 use Rattle.std.proofs.Common.{◌≡◌, ℕ, zero, suc, ◌<◌, ◌/◌, ◌⊎◌, inl, inr, true, false, List, [], ◌∷◌}
 use Rattle.std.proofs.Common.{length, map, get_or, set, refl, sym, ap, ◌∙◌, subst, arith, Contains}
 use Rattle.std.specs.Prelude.{Option, Some, is_some, Result, Ok, Err, IfOk, OnErr}
@@ -31,7 +31,7 @@ module _ {S : Type 0} (gives : S → Question → Result (List ℕ) SourceFault 
     is = page.is;
   }
 
-  -- what two states of one source that is held may answer
+  -- the possible answers of two states of one source
   pub alike_after : (xs : List (Option (OpenTable S))) (c d : Class) (h k i j : OpenTable S)
       → class_number c < length xs → held_of xs c ≡ Some h → GiveAlike gives h.source k.source
       → held_of xs d ≡ Some i → held_of (set xs (class_number c) (Some k)) d ≡ Some j → GiveAlike gives i.source j.source
@@ -44,7 +44,7 @@ module _ {S : Type 0} (gives : S → Question → Result (List ℕ) SourceFault 
         subst (λ (x : OpenTable S). GiveAlike gives i.source x.source) one (give_refl i.source)
   ]
 
-  -- one source of a class is another
+  -- sources of the same class are the same
   pub one_held : (xs : List (Option (OpenTable S))) (c d : Class) (h k : OpenTable S) → held_of xs c ≡ Some h → d ≡ c → held_of xs d ≡ Some k → h ≡ k
   one_held xs c d h k is same was = some_same h k (sym is ∙ ap (λ (x : Class). held_of xs x) (sym same) ∙ was)
 
@@ -60,7 +60,7 @@ module _ {S : Type 0} (gives : S → Question → Result (List ℕ) SourceFault 
   bad_at h k m n e f bad = subst (λ (x : OpenTable S). HasBadPage gives x n) e (subst (λ (l : ℕ). HasBadPage gives h l) f bad)
 
   module _ {V : Type 0} (cells : V → List ℕ) where
-    -- a source was probed, and at most a page of it is kept more
+    -- a source was probed, and at most one more of its pages is cached
     pub given_after : (xs : List (Option (OpenTable S))) (kept kept' : List (PageKey × V)) (c : Class)
         (h k : OpenTable S) → AreGiven gives cells xs kept → class_number c < length xs → held_of xs c ≡ Some h
         → h.header.class ≡ c
@@ -97,7 +97,7 @@ module _ {S : Type 0} (gives : S → Question → Result (List ℕ) SourceFault 
       ];
     }
 
--- ---- pages as a contract sees them
+-- ---- pages as contracts see them
 
 mapped_in : {A B : Type 0} (f : A → B) (xs : List A) (y : B) → Contains (map f xs) y → (x : A) × Contains xs x × (f x ≡ y)
 mapped_in f [] y c = absurd (omega (arith, c.1))
@@ -120,7 +120,7 @@ module _ {V : Type 0} (cells : V → List ℕ) where
   abbrev seen_of : PageKey × V → PageKey × List ℕ
   seen_of e = (e.0, cells e.1)
 
-  -- each page was kept before
+  -- each page was cached before
   pub fewer_seen : (kept kept' : List (PageKey × V)) (seen : List (PageKey × List ℕ))
       → map (λ e. (e.0, cells e.1)) kept ≡ seen → ((e : PageKey × V) → Contains kept' e → Contains kept e)
       → (e : PageKey × List ℕ) → Contains (map (λ e. (e.0, cells e.1)) kept') e → Contains seen e
@@ -130,7 +130,7 @@ module _ {V : Type 0} (cells : V → List ℕ) where
       (subst (λ (x : PageKey × List ℕ). Contains (map seen_of kept) x) r.2
       (in_mapped seen_of kept r.0 (fewer r.0 r.1)))
 
-  -- each page was kept before, or is a new one
+  -- each page was cached before, or is a new one
   pub put_seen : (New : PageKey → List ℕ → Type 0) (kept kept' : List (PageKey × V)) (seen : List (PageKey × List ℕ)) → map (λ e. (e.0, cells e.1)) kept ≡ seen
       → ((e : PageKey × V) → Contains kept' e → Contains kept e ⊎ New e.0 (cells e.1))
       → (e : PageKey × List ℕ) → Contains (map (λ e. (e.0, cells e.1)) kept') e → Contains seen e ⊎ New e.0 e.1

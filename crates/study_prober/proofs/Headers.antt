@@ -1,4 +1,4 @@
--- The header of a table's file reads as the class of the table, and as its version.
+-- The header of a table's file is read as the class of the table, and as its version.
 use Rattle.std.proofs.Common.{◌≡◌, ℕ, List, sym, ap, ◌∙◌}
 use Rattle.std.specs.Prelude.{Result, Ok, Err, IsErrAnd}
 use Rattle.study_material.specs.declared.class.Class.{Class}
@@ -13,7 +13,7 @@ use Rattle.study_prober.specs.declared.fault.PagedFault.TheVariants.{TableRead}
 use Rattle.study_prober.specs.HeaderAnswers.{IsHonestHeader}
 use Rattle.study_tablefile.proofs.ReadAgain.{header_again, version_again}
 
--- a header that was given reads as the class of each table for which the source is honest, and its version
+-- a header that was returned is read as the class of each table for which the source is honest, and its version
 pub read_of : (t : Table) (v : ℕ) (bytes : List ℕ) (h : Header) → IsVersionOf t.class v
     → bytes ≡ header_text t.class v → class_read bytes ≡ Ok h.class → h.version ≡ version_of bytes
     → (h.class ≡ t.class) × (h.version ≡ v)

@@ -1,4 +1,4 @@
--- Sources that are held, and the pages that are kept of them.
+-- The sources, and their cached pages.
 use Rattle.std.proofs.Common.{◌≡◌, ◌≢◌, ℕ, ◌<◌, ◌≤◌, ◌⊎◌, inl, inr, true, false, List, [], ◌∷◌, length}
 use Rattle.std.proofs.Common.{get_or, set, replicate, refl, sym, ap, ◌∙◌, subst, arith, Contains}
 use Rattle.std.specs.Prelude.{Option, Some, None, is_some}
@@ -31,7 +31,7 @@ module _ {S : Type 0} where
       → held_of (set xs (class_number c) o) c ≡ o
   held_same xs c o small = get_or-set_same xs (class_number c) o None small
 
-  -- what an index of a class's place gives
+  -- the source at the place of a class
   pub held_at : (xs : List (Option (OpenTable S))) (c : Class) (i : ℕ) (o : Option (OpenTable S))
       (h : OpenTable S) → i ≡ class_number c → i < length xs → o ≡ get_or xs i o → o ≡ Some h → (class_number c < length xs)
       × (held_of xs c ≡ Some h)
@@ -72,7 +72,7 @@ module _ {S : Type 0} where
     λ y. h.1 (y.0, is_none o (ap (λ (q : Option (OpenTable S)). is_some q) e ∙ y.1)),
   )
 
-  -- what stands at a class after one place is written
+  -- the source of a class after one place is written
   pub held_either : (xs : List (Option (OpenTable S))) (c d : Class) (k j : OpenTable S) → class_number c < length xs
       → held_of (set xs (class_number c) (Some k)) d ≡ Some j → ((c ≡ d) × (k ≡ j))
       ⊎ ((class_number c ≢ class_number d) × (held_of xs d ≡ Some j))
@@ -160,7 +160,7 @@ module _ {S : Type 0} where
         → IsSameSource honest (held_of os c) (held_of ys c)) e same) right
 
     module _ {V : Type 0} (cells : V → List ℕ) where
-      -- a page after a call: one that was kept before, or one of the source that was asked
+      -- a page after a call: one that was cached before, or one of the source that was called
       abbrev pub IsPageOf : List (PageKey × V) → OpenTable S → PageKey × V → Type 0
       IsPageOf kept h e = Contains kept e
           ⊎ ((e.0.class ≡ h.header.class)
@@ -172,7 +172,7 @@ module _ {S : Type 0} where
           → IsHeaderOf h.header h.header.class
       header_own xs kept c h was is = let of_class = was.header c h is in subst (λ (x : Class). IsHeaderOf h.header x) (sym of_class.class) of_class
 
-      -- a source was probed, and at most a page of it is kept more
+      -- a source was probed, and at most one more of its pages is cached
       module _ (xs : List (Option (OpenTable S))) (kept kept' : List (PageKey × V)) (c : Class)
           (h k : OpenTable S) (was : IsKept honest cells xs kept) (small : class_number c < length xs)
           (is : held_of xs c ≡ Some h)

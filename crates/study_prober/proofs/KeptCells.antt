@@ -1,4 +1,4 @@
--- A cell of a page that is kept is read again without its source.
+-- A cell of a cached page is read again without its source.
 use Rattle.std.proofs.Common.{◌≡◌, ℕ, List, map, set, refl, sym, ap, ◌∙◌, subst}
 use Rattle.std.specs.Prelude.{Option, Some, None, is_some, option_map, IfSome, Result, Ok, ◌%◌}
 use Rattle.std.specs.Map.{lookup}
@@ -22,12 +22,12 @@ then_some : {X : Type 0} (P Q : X → Type 0) (o : Option X) → ((x : X) → P 
 then_some P Q None f h = tt
 then_some P Q (Some x) f h = f x h
 
--- what an answer is where the cell is kept
+-- the answer if the cell is cached
 abbrev pub IsAgain : {S V : Type 0} → (V → List ℕ) → List S → List S → List (PageKey × V) → Result Value ProbeFault → Class → ℕ → Type 0
 IsAgain cells xs ys kept r c n = IfSome (kept_cell cells kept c n) (λ x. (r ≡ Ok (value_of x)) × (ys ≡ xs))
 
 module _ {S V : Type 0} (honest : S → Table → ℕ → Type 0) (cells : V → List ℕ) (xs : List (Option (OpenTable S))) (kept : List (PageKey × V)) (c : Class) where
-  -- no page is kept of a class without a source
+  -- no page is cached of a class without a source
   no_page : IsKept honest cells xs kept → held_of xs c ≡ None → (n : ℕ) (o : Option V) → lookup (same_key (key_at c n)) kept ≡ o → o ≡ None
   no_page was none n None e = refl
   no_page was none n (Some v) e =
@@ -46,7 +46,7 @@ module _ {S V : Type 0} (honest : S → Table → ℕ → Type 0) (cells : V →
       (sym (ap (λ (o : Option V). cell_at cells (n % 4096) o) (none_kept was none n))) tt)
 
 module _ {S V : Type 0} (cells : V → List ℕ) (xs : List (Option (OpenTable S))) (kept : List (PageKey × V)) (r : Result Value ProbeFault) where
-  -- the source that was not asked stands where it stood
+  -- the source that was not called stays in place
   pub again_at : (b c d : Class) (i m n : ℕ) (h k : OpenTable S) → i ≡ class_number c → held_of xs c ≡ Some h → b ≡ d → m ≡ n
       → IfSome (kept_cell cells kept b m) (λ x. (r ≡ Ok (value_of x)) × (k ≡ h))
       → IsAgain cells xs (set xs i (Some k)) kept r d n
@@ -65,7 +65,7 @@ cell_of : {V : Type 0} (cells : V → List ℕ) (i : ℕ) (o : Option V) → cel
 cell_of cells i None = refl
 cell_of cells i (Some v) = refl
 
--- a cell of pages as a contract sees them
+-- a cell of pages as contracts see them
 pub cell_seen : {V : Type 0} (cells : V → List ℕ) (kept : List (PageKey × V)) (c : Class) (n : ℕ)
     → kept_cell (λ xs. xs) (map (λ e. (e.0, cells e.1)) kept) c n ≡ kept_cell cells kept c n
 cell_seen cells kept c n =
@@ -78,7 +78,7 @@ pub none_seen : {V : Type 0} (cells : V → List ℕ) (kept : List (PageKey × V
 none_seen cells kept seen c n view none =
     sym (cell_seen cells kept c n) ∙ ap (λ (es : List (PageKey × List ℕ)). kept_cell (λ xs. xs) es c n) view ∙ none
 
--- the same, of pages as a contract sees them
+-- the same, for pages as contracts see them
 pub again_seen : {S V : Type 0} (cells : V → List ℕ) (xs ys zs : List S) (kept : List (PageKey × V))
     (seen : List (PageKey × List ℕ)) (r : Result Value ProbeFault) (c : Class) (n : ℕ)
     → xs ≡ zs → map (λ e. (e.0, cells e.1)) kept ≡ seen → IsAgain cells xs ys kept r c n → IsAgain (λ cells. cells) zs ys seen r c n

@@ -1,4 +1,4 @@
--- The derived `==` of two keys decides whether they are one, and is the comparison that the contracts name.
+-- The derived `==` of two keys decides whether they are the same, and is the comparison that the contracts name.
 use mathlib.Core.Path.{fun_ext}
 use denote.Enum.Bare.{sameb, same_true}
 use denote.Enum.Declared.{tag_of}

@@ -1,4 +1,4 @@
--- The page that was used last, and the cells of a page.
+-- The last used page, and the cells of a page.
 use Rattle.std.proofs.Common.{◌≡◌, ℕ, List, [], ◌∷◌, Option, Some, None, IfSome, Contains, sym, slice_get, slice_index}
 use Rattle.std.proofs.lemmas.Option.{get_or_from_slice_get}
 
@@ -6,7 +6,7 @@ pub slice_get-first : {X : Type 0} (xs : List X) (x : X) → Some x ≡ slice_ge
 slice_get-first [] x h = cc
 slice_get-first (y ∷ ys) x h = (ys, cc)
 
--- a cell of a page that is kept, if the page has one
+-- a cell of a cached page, if the page has one
 module _ {K V : Type 0} (cells : V → List ℕ) (es : List (K × V)) (k : K) (v : V) (at : ℕ) (kept : Contains es (k, v)) where
   cell-if : (o : Option ℕ) → slice_get (cells v) at ≡ o → IfSome o (λ x. (w : V) × Contains es (k, w) × (x ≡ slice_index (cells w) at))
   cell-if None h = tt

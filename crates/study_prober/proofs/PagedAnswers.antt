@@ -1,4 +1,4 @@
--- What paged tables answer is what is held for the class of the position may answer.
+-- The answers of paged tables are possible answers of the source of the position's class.
 use Rattle.std.proofs.Common.{◌≡◌, ℕ, ◌/◌, ◌<◌, List, refl, sym, ap}
 use Rattle.std.specs.Prelude.{Option, Some, None, Result, Ok, Err, IfOk, IfErr, IsErrOf}
 use Rattle.study_board.specs.Position.{Position}
@@ -32,7 +32,7 @@ answered gives c n (Some h) (Err (TableRead f)) no_table none read unread damage
 answered gives c n (Some h) (Err (PageDamaged d page)) no_table none read unread damaged bad =
     let at = damaged d page refl in (at.0, at.1, bad h page refl (ap (λ (x : Class). Err (PageDamaged x page)) at.0))
 
--- sources that give right tables report no damage
+-- sources that return right tables report no damage
 pub undamaged : {S : Type 0} (honest : HonestOf S) (sources : List (Option (OpenTable S))) (p : Position) (r : ProbeAnswer)
     → SourcesAreRight honest sources
     → ((c : Class) → (IsOf c p × (held_of sources c ≡ None)) → IsErrOf r (NoTable c))
@@ -50,7 +50,7 @@ undamaged {S = S} honest sources p (Err (PageDamaged c n)) all none whole damage
 
 -- ---- faults of a device
 
--- a fault that is reported is one of the source that is held for the class
+-- a reported fault is one of the source of the class
 pub failed_so : {S : Type 0} (gives : GivesOf S) (c : Class) (n : ℕ) (f : SourceFault) (o : Option (OpenTable S)) (r : ProbeAnswer)
     → (o ≡ None → r ≡ Err (NoTable c))
     → ((h : OpenTable S) → o ≡ Some h → gives h.source (of_page n) (Err f)) → n < pages_of c → IsErrOf r (TableRead f) → MayFail gives o c f

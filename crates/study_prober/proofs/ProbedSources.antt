@@ -1,4 +1,4 @@
--- What a probe says of the source that it called.
+-- The source after a probe that called it.
 use Rattle.std.proofs.Common.{◌≡◌, ℕ, ◌<◌, List, length, set, get_or, refl, sym, ap, ◌∙◌, subst}
 use Rattle.std.specs.Prelude.{Option, Some, Result, Ok, Err, IfOk, IsErrOf}
 use Rattle.study_board.specs.Position.{Position, IsValid}
@@ -30,7 +30,7 @@ number_in h c p n header valid of is =
     rw header.class (below c n r.0 r.1)
 
 module _ {S : Type 0} where
-  -- two sources of one class are one
+  -- two sources of one class are the same
   same_held : (xs : List (Option (OpenTable S))) (c d : Class) (h k : OpenTable S) → held_of xs c ≡ Some h → d ≡ c → held_of xs d ≡ Some k → k ≡ h
   same_held xs c d h k is same held = some_same k h (sym held ∙ ap (λ (x : Class). held_of xs x) same ∙ is)
 
@@ -60,7 +60,7 @@ module _ {S : Type 0} where
         (subst (λ (x : OpenTable S). honest x.source t x.header.version) (same_held xs c d h k is same held)
         gives) (of ∙ same ∙ sym (was.header c h is).class) complete d n told
 
-  -- a count of the source of a class, before and after the source at a place was asked
+  -- a count of the source of a class, before and after the source at a place was called
   pub count_at : (count : S → ℕ) (step : ℕ → ℕ) (xs : List (Option (OpenTable S))) (c d : Class) (i : ℕ)
       (h before k after : OpenTable S) → i ≡ class_number c → class_number c < length xs
       → held_of xs c ≡ Some h → d ≡ c
@@ -80,7 +80,7 @@ value_right : (t : Table) (c : Class) (p : Position) (r : Result Value ProbeFaul
 value_right t c p (Ok v) of complete right valid is told = at_value t p v complete valid (subst (λ (x : Class). IsOf x p) (sym of) is) told right
 value_right t c p (Err fault) of complete right valid is told = told
 
--- where all sources are right, a value is the game's
+-- if all sources are right, a value is the game's
 pub game_at : {S V : Type 0} (honest : S → Table → ℕ → Type 0) (cells : V → List ℕ)
     (xs : List (Option (OpenTable S))) (kept : List (PageKey × V)) (c : Class) (p : Position) (h : OpenTable S)
     (n : ℕ) (r : Result Value ProbeFault)

@@ -1,4 +1,4 @@
--- What the table of a position's class says of it, and when there is none.
+-- The value of a position in the table of its class, and when there is no such table.
 use Rattle.std.proofs.Common.{◌≡◌, ℕ, zero, suc, ◌≤◌, inl, inr, false, List, [], ◌∷◌, length, set, Option}
 use Rattle.std.proofs.Common.{Some, None, Result, Ok, Err, OnOk, OnErr, refl, sym, ◌∙◌, subst, ap, arith}
 use Rattle.std.proofs.lemmas.List.{get_or-set_same, get_or-set_other}
@@ -24,11 +24,11 @@ one_class c d p h k = lists_of-injective c d (h ∙ sym k)
 pub table_class : (held : List (Option Table)) (d : Class) (p : Position) (t : Table) → IsClosed held → IsOf d p → Some t ≡ table_of held d → IsOf t.class p
 table_class held d p t closed is e = subst (λ (k : Class). IsOf k p) (sym (closed.class d t (sym e))) is
 
--- one class has one table
+-- a class has one table
 pub same_table : (held : List (Option Table)) (c d : Class) (t u : Table) → c ≡ d → Some u ≡ table_of held d → table_of held c ≡ Some t → u ≡ t
 same_table held c d t u same found is = let one : ◌≡◌ {A = Option Table} (Some u) (Some t) = found ∙ ap (λ (k : Class). table_of held k) (sym same) ∙ is in cc
 
--- no table is held for the class of the position
+-- no table of the position's class is loaded
 pub none_held : (held : List (Option Table)) (d c : Class) (p : Position) → IsOf d p → None ≡ table_of held d
     → (IsErrOf {T = Value} (Err (NoTable d)) (NoTable c) → IsOf c p × (is_some (table_of held c) ≡ false))
     × (IsOf c p × (is_some (table_of held c) ≡ false) → IsErrOf {T = Value} (Err (NoTable d)) (NoTable c))
@@ -53,7 +53,7 @@ some_held held d c p t v is some = (
       (ap (λ (k : Class). table_of held k) (one_class c d p h.0 is) ∙ sym some))),
 )
 
--- what the table of its class answers is the answer for a position
+-- the answer of the table of its class is the answer for a position
 pub cell_told : (held : List (Option Table)) (d : Class) (p : Position) (o : Option Table) (r : ProbeAnswer)
     → IsOf d p → o ≡ table_of held d → r ≡ cell_answer o d p → IsCellAnswer held p r
 cell_told held d p o r is found told = λ c of.

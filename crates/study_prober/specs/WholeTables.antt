@@ -1,4 +1,4 @@
--- Whole tables as a contract sees them.
+-- Whole tables as contracts see them.
 use Rattle.std.specs.Prelude.{◌≡◌, ℕ, List, slice_index, Option, Some, None, Ok, Err}
 use Rattle.study_board.specs.Position.{Position}
 use Rattle.study_material.specs.declared.class.Class.{Class}
@@ -10,16 +10,16 @@ use Rattle.study_table.specs.Sound.{IsRight}
 use Rattle.study_values.specs.Values.{ProbeAnswer}
 use Rattle.study_values.specs.declared.values.ProbeFault.TheVariants.{NoTable}
 
--- the tables that are held, and how often a value was probed
+-- the loaded tables, and the number of probes
 pub record Whole : Type 0 where
   pub tables : List (Option Table)
   pub asked : ℕ
 
--- every held table is right
+-- every loaded table is right
 pub record TablesAreRight (held : List (Option Table)) : Type 0 where
   pub right : (c : Class) (t : Table) → table_of held c ≡ Some t → IsRight t
 
--- what the table of a position's class, if there is one, answers: the value of the position's cell
+-- the answer of the table of a position's class, if there is one: the value of the position's cell
 abbrev pub cell_answer : Option Table → Class → Position → ProbeAnswer
 cell_answer None c p = Err (NoTable c)
 cell_answer (Some t) c p = Ok (value_of (slice_index t.cells (index_of p)))

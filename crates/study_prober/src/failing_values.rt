@@ -1,4 +1,4 @@
-//! Values that fail where a test wants it.
+//! Values that fail at a probe that a test sets.
 ghost use Rattle.std.specs.Prelude.{◌≡◌, ◌↔◌, ◌⊎◌, ℕ, Some, Err, false, IfOk, IfErr, IsErrOf};
 ghost use Rattle.study_material.specs.declared.class.Class.{Class as AClass};
 ghost use Rattle.study_material.specs.Class.{IsOf};
@@ -12,20 +12,20 @@ use study_board::Position;
 use study_material::{Class, class_of};
 use study_values::{ProbeFault, SourceFault, Value, Values, failures_after};
 
-/// The values of another source, but for one question, at which the device of the table fails.
+/// The values of another source, except that the device of the table fails at one probe.
 #[derive(Drop)]
 pub struct FailingValues<V: Values> {
     pub values: V,
-    /// How often a value was probed.
+    /// The number of probes so far.
     pub asked: u64,
-    /// Which of the questions fails, counted from 0. A position whose class has no table has the answer of `values` there.
+    /// The number of the failing probe, counted from 0. For a position whose class has no table the answer is that of `values`.
     pub fails_at: Option<u64>,
-    /// How often a device or a page failed.
+    /// The number of failures of a device or a page.
     pub failures: u64,
 }
 
 impl<V: Values> FailingValues<V> {
-    /// Values of which one probe fails, counted from 0. Nothing was probed yet.
+    /// Values with one failing probe, counted from 0. Nothing has been probed yet.
     pub fn new(values: V, fails_at: u64) -> Self
         ensures { result ≡ record { values = values; asked = 0; fails_at = Some fails_at; failures = 0 } }
     {
@@ -72,7 +72,7 @@ impl<V: Values> Values for FailingValues<V> {
         ensures not_asked { FailsNext V.held self.old p.now → self.new.values ≡ self.old.values }
         ensures same { self.new.fails_at ≡ self.old.fails_at }
 
-        // Any other probe goes to the values, once, and returns what they may answer.
+        // Any other probe is passed to the values, once, and returns an answer that they may give.
         ensures passed { (FailsNext V.held self.old p.now → ⊥) → V.gives self.old.values p.now result }
         ensures asked_on { (FailsNext V.held self.old p.now → ⊥) → V.asked_of self.new.values ≡ counted (V.asked_of self.old.values) }
         ensures failures_on { (FailsNext V.held self.old p.now → ⊥)

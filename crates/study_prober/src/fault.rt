@@ -1,4 +1,4 @@
-//! Why a source of pages is not held.
+//! Why a source of pages is refused.
 
 use std::alloc::AllocError;
 use study_material::Class;

@@ -1,11 +1,9 @@
-//! Values of positions, from whichever tables are held.
+//! Values of positions, from the loaded tables.
 //!
-//! `Values` is what the marks of a study are made from: a value, and how often one was probed. Its clauses say when an answer is the
-//! game's value, when a class has no table, and that a device's fault is counted. `WholeTables` answers from tables in
-//! memory: it is honest where its tables are right, and has no fault but `NoTable`. `PagedTables` reads pages of table
-//! files as they are needed, and keeps those that were used last: it is honest where each source gives the file of a right
-//! table, and whatever it keeps changes no answer. `failing_values` has values that fail where a
-//! test wants it.
+//! `Values` is the source of the marks of a study: it returns a value for a position, and counts probes. Its clauses say when an answer is the game's value,
+//! when a class has no table, and that a device's fault is counted. `WholeTables` reads tables in memory: it is honest if its tables are right, and has no
+//! fault but `NoTable`. `PagedTables` reads pages of table files as they are needed, and caches the last used ones: it is honest if each source returns the
+//! file of a right table, and the cache changes no answer. `failing_values` has values that fail at a probe that a test sets.
 #![tactic(auto)]
 
 mod failing_values;

@@ -1,4 +1,4 @@
-//! Sources of pages, each with what its header says, and the cells of their tables.
+//! Sources of pages, each with its header, and the cells of their tables.
 ghost use Rattle.std.specs.Prelude.{◌≡◌, ◌<◌, ◌/◌, ℕ, List, Result, Err, None, IfOk, OnOk, OnErr, IsErrOf, Contains, slice_index, take};
 ghost use Rattle.study_material.specs.declared.class.Class.{Class as AClass};
 ghost use Rattle.study_text.specs.Counts.{counted};
@@ -21,14 +21,14 @@ use std::alloc::Allocator;
 use study_tablefile::{Header, PageSource, page_cells, read_header};
 use study_values::{HEADER_BYTES, PAGE_BYTES, PAGE_CELLS, ProbeFault, Value, value_at};
 
-/// A source of pages, and what its header says.
+/// A source of pages, and its header.
 #[derive(Drop)]
 pub struct OpenTable<S> {
     pub header: Header,
     pub source: S,
 }
 
-/// Asks a source for its header.
+/// Requests the header of a source.
 pub fn header_of<S: PageSource>(source: &mut S) -> Result<Header, PagedFault>
     ensures same { AreHonestAlike S.honest source.old source.new }
     ensures count { S.failed source.new ≡ unread_after (S.failed source.old) result }
@@ -44,7 +44,7 @@ pub fn header_of<S: PageSource>(source: &mut S) -> Result<Header, PagedFault>
 }
 
 impl<S: PageSource> OpenTable<S> {
-    /// Reads a page and looks whether it is whole.
+    /// Reads a page and checks that it is whole.
     fn page(&mut self, number: u32, into: &mut [u8; PAGE_BYTES]) -> Result<(), ProbeFault>
         requires header { IsHeaderOf self.old.header self.old.header.class }
         requires number { number < pages_of self.old.header.class }
@@ -72,7 +72,7 @@ impl<S: PageSource> OpenTable<S> {
     }
 }
 
-/// The value of a cell of a page, which is read now. A page that finds no room is used and forgotten.
+/// The value of a cell of a page, which is read from the source. A page for which there is no room in memory is used and not cached.
 fn read_value_from_page<'a, S: PageSource, A: Allocator>(
     held: &mut OpenTable<S>,
     pages: &mut Pages<'a, A>,
@@ -109,7 +109,7 @@ fn read_value_from_page<'a, S: PageSource, A: Allocator>(
     Ok(value_at(page[at]))
 }
 
-/// The value of the cell of a number, from a page that is kept, or else from its source.
+/// The value of the cell of a number, from a cached page, or otherwise from its source.
 pub fn value_of_number<'a, S: PageSource, A: Allocator>(
     held: &mut OpenTable<S>,
     pages: &mut Pages<'a, A>,

@@ -1,4 +1,4 @@
-//! Pages that are kept, the last used first.
+//! Cached pages, the last used first.
 ghost use Rattle.std.specs.Prelude.{◌≡◌, ◌⊎◌, ◌∷◌, take, Contains, IfSome, OnOk, OnErr, slice_get, slice_index};
 ghost use Rattle.std.specs.Map.{lookup};
 ghost use Rattle.lru.specs.LruCache.{promoted, put_entries};
@@ -10,14 +10,14 @@ use std::hash::{Hash, Hasher};
 use study_material::Class;
 use study_values::{PAGE_BYTES, PAGE_CELLS};
 
-/// Which page of which class.
+/// The class and the number of a page.
 #[derive(Clone, Copy, Debug, PartialEq, Eq)]
 pub struct PageKey {
     pub class: Class,
     pub number: u32,
 }
 
-/// A class has no hash of its own: its number stands for it.
+/// A class has no hash of its own: its index is hashed.
 impl Hash for PageKey {
     ghost use Rattle.std.specs.Hash as fed;
     ghost use Rattle.std.specs.Cmp.Rules.{hashing};
@@ -38,7 +38,7 @@ impl Hash for PageKey {
 /// The cells of pages.
 pub type Pages<'a, A> = LruCache<PageKey, Vec<u8, &'a A>, DefaultHasher, &'a A>;
 
-/// The page of a class in which a cell stands.
+/// The page of a class that has a cell.
 pub fn page_key(class: Class, cell: u32) -> PageKey
     ensures { result ≡ key_at class cell }
 {
@@ -48,7 +48,7 @@ pub fn page_key(class: Class, cell: u32) -> PageKey
     }
 }
 
-/// The cells of the page that was used last, if it is this one: they are found without a hash, and no link of the list is written.
+/// The cells of the last used page, if it is this one: they are found without a hash, and no link of the list is written.
 fn latest_cells<'p, 'a, A: Allocator>(pages: &'p Pages<'a, A>, key: PageKey) -> Option<&'p [u8]>
     ensures { IfSome result (λ cells. (v : _) × (older : _) × (pages.now.entries ≡ (key, v) ∷ older) × (v.items ≡ cells.now)) }
 {
@@ -64,7 +64,7 @@ fn cell_of(cells: &[u8], at: usize) -> Option<u8>
     cells.get(at).copied()
 }
 
-/// A cell of a page that is kept.
+/// A cell of a cached page.
 pub fn cached_cell<'a, A: Allocator>(
     pages: &mut Pages<'a, A>,
     key: PageKey,
@@ -83,7 +83,7 @@ pub fn cached_cell<'a, A: Allocator>(
     cell_of(page.as_slice(), at)
 }
 
-/// Keeps the cells of a page.
+/// Caches the cells of a page.
 pub fn cache_page<'a, A: Allocator>(
     pages: &mut Pages<'a, A>,
     alloc: &'a A,

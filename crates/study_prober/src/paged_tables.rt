@@ -1,4 +1,4 @@
-//! Values from pages of tables, read as they are needed and kept as far as there is room.
+//! Values from pages of tables, read as they are needed and cached as far as there is room.
 ghost use Rattle.std.specs.Prelude.{◌≡◌, ◌≤◌, ◌<◌, ◌↔◌, ℕ, List, Option, Result, [], Some};
 ghost use Rattle.std.specs.Prelude.{None, Ok, Err, true, false, is_some, IfOk, IfErr, OnOk, OnErr};
 ghost use Rattle.std.specs.Prelude.{IsErrOf, length, slice_index, slice_set, replicate};
@@ -37,7 +37,7 @@ use study_material::{CLASS_COUNT, Class, class_of};
 use study_tablefile::PageSource;
 use study_values::{ProbeFault, Value, Values, failures_after};
 
-/// Tables whose pages are read as they are needed, and the pages that were used last.
+/// Tables whose pages are read as they are needed, and the last used pages.
 #[derive(Drop)]
 pub struct PagedTables<'a, S: PageSource, A: Allocator> {
     alloc: &'a A,
@@ -67,7 +67,7 @@ impl<'a, S: PageSource, A: Allocator> Model for PagedTables<'a, S, A> {
 }
 
 impl<'a, S: PageSource, A: Allocator> PagedTables<'a, S, A> {
-    /// No table yet, and room for so many pages, from 1 to 4,096.
+    /// No table yet, and room for this number of pages, from 1 to 4,096.
     pub fn new(alloc: &'a A, pages: u16) -> Result<Self, AllocError>
         requires some { 1 ≤ pages }
         requires few { pages ≤ 4096 }
@@ -85,7 +85,7 @@ impl<'a, S: PageSource, A: Allocator> PagedTables<'a, S, A> {
         })
     }
 
-    /// Takes a source of the table of a class; the classes below it need not be there. A source that is refused is dropped.
+    /// Adds a source of the table of a class; the classes that it needs may be missing. A source that is refused is dropped.
     pub fn add(&mut self, class: Class, mut source: S) -> Result<(), PagedFault>
         ensures fault { (told : Result (List ℕ) ASourceFault)
             × (is_some (held_of self.old.sources class) ≡ false → MayAnswer S.gives S.honest source told)
@@ -104,7 +104,7 @@ impl<'a, S: PageSource, A: Allocator> PagedTables<'a, S, A> {
         // Each class has a place from the first source on.
         ensures places { OnOk result (length self.new.sources ≡ 36) }
 
-        // Of a source that is honest for a table the header is never refused, and a class is the table's.
+        // If a source is honest for a table, its header is never refused, and its class is the table's.
         ensures header { (t : Seen) (v : ℕ) (e : AFileFault) → IsVersionOf t.class v → S.honest source t v
             → IsErrOf result (PagedFault.Header e) → ⊥ }
         ensures other { (t : Seen) (v : ℕ) (d : AClass) → IsVersionOf t.class v → S.honest source t v
@@ -126,7 +126,7 @@ impl<'a, S: PageSource, A: Allocator> PagedTables<'a, S, A> {
     }
 }
 
-/// So many places without a source as there are classes.
+/// A place without a source for each class.
 fn no_sources<'a, S, A: Allocator>(
     alloc: &'a A,
 ) -> Result<Vec<Option<OpenTable<S>>, &'a A>, AllocError>
@@ -139,7 +139,7 @@ fn no_sources<'a, S, A: Allocator>(
     Ok(places)
 }
 
-/// Makes a place for each class, where there is none.
+/// Makes a place for each class, if there is none.
 fn make_places<'a, S: Drop, A: Allocator>(
     sources: &mut Vec<Option<OpenTable<S>>, &'a A>,
     alloc: &'a A,
@@ -154,7 +154,7 @@ fn make_places<'a, S: Drop, A: Allocator>(
     Ok(())
 }
 
-/// The value of a position, from a page that is kept or from a source.
+/// The value of a position, from a cached page or from a source.
 fn probe_paged<'a, S: PageSource, A: Allocator>(
     sources: &mut Vec<Option<OpenTable<S>>, &'a A>,
     pages: &mut Pages<'a, A>,
@@ -235,7 +235,7 @@ impl<'a, S: PageSource, A: Allocator> Values for PagedTables<'a, S, A> {
         ensures asked { self.new.asked ≡ counted self.old.asked }
         ensures failures { self.new.failed ≡ faults_after self.old.failed result }
 
-        // Of a source that is honest for whatever table of the class, an answer is the table's, and no page is damaged.
+        // If a source is honest for a table of the class, an answer is the table's, and no page is damaged.
         ensures told { (c : AClass) (h : AHeld S) (t : Seen) → IsOf c p.now → held_of self.old.sources c ≡ Some h
             → S.honest h.source t h.header.version → t.class ≡ c
             → IfOk result (λ v. v ≡ value_of (slice_index t.cells (index_of p.now))) }
@@ -244,8 +244,8 @@ impl<'a, S: PageSource, A: Allocator> Values for PagedTables<'a, S, A> {
             → IsErrOf result (ProbeFault.PageDamaged c n) → ⊥ }
         ensures damaged { (c : AClass) (n : ℕ) → IsErrOf result (ProbeFault.PageDamaged c n) → IsOf c p.now × (n ≡ page_number p.now) }
 
-        // Of any source, an answer stands in a page that it may give and that passes its check; a page is damaged where it
-        // may give one that does not; and the fault that is reported is one that it may answer.
+        // Whatever the source, an answer is in a page that it may return and that passes its check; a page is damaged if the source may return one that does
+        // not; and the reported fault is one that it may return.
         ensures read { (c : AClass) (h : AHeld S) → IsOf c p.now → held_of self.old.sources c ≡ Some h
             → IfOk result (IsReadFrom S.gives h (index_of p.now)) }
         ensures not_whole { (c : AClass) (h : AHeld S) (n : ℕ) → held_of self.old.sources c ≡ Some h
@@ -253,12 +253,12 @@ impl<'a, S: PageSource, A: Allocator> Values for PagedTables<'a, S, A> {
         ensures unread { (c : AClass) (h : AHeld S) (f : ASourceFault) → IsOf c p.now → held_of self.old.sources c ≡ Some h
             → IsErrOf result (ProbeFault.TableRead f) → S.gives h.source (of_page (page_number p.now)) (Err f) }
 
-        // A page that is put in is the one requested, as the source may give it; after a refusal none is.
+        // A page that is cached is the requested one, as the source may return it; after a refusal no page is.
         ensures put { (c : AClass) (h : AHeld S) → IsOf c p.now → held_of self.old.sources c ≡ Some h
             → PutsOnly (IsPageFor S.gives c h (index_of p.now)) self.old.kept self.new.kept }
         ensures refused { OnErr result (PutsNone self.old.kept self.new.kept) }
 
-        // The sources stay; that of the class fails once more where a table is not read, and only there.
+        // The sources stay; that of the class fails once more exactly if a table is not read.
         ensures sources { (c : AClass) → IsSameSource S.honest (held_of self.old.sources c) (held_of self.new.sources c) }
         ensures alike { (c : AClass) (h k : AHeld S) → held_of self.old.sources c ≡ Some h → held_of self.new.sources c ≡ Some k
             → GiveAlike S.gives h.source k.source }
@@ -268,7 +268,7 @@ impl<'a, S: PageSource, A: Allocator> Values for PagedTables<'a, S, A> {
         ensures room { self.new.room ≡ self.old.room }
         ensures few { length self.new.kept ≤ self.new.room }
 
-        // A cell of a page that is kept is read without its source; for any other its source is read once.
+        // A cell of a cached page is read without its source; for any other the source is read once.
         ensures again { (c : AClass) → IsOf c p.now
             → IsToldAgain (kept_cell (λ cells. cells) self.old.kept c (index_of p.now)) result self.old.sources self.new.sources }
         ensures once { (c : AClass) (h k : AHeld S) → IsOf c p.now → held_of self.old.sources c ≡ Some h → held_of self.new.sources c ≡ Some k

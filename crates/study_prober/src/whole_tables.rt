@@ -38,7 +38,7 @@ impl<'a, A: Allocator> Model for WholeTables<'a, A> {
 }
 
 impl<'a, A: Allocator> WholeTables<'a, A> {
-    /// Values from these tables. Nothing was probed yet.
+    /// Values from these tables. Nothing has been probed yet.
     pub fn new(tables: TableSet<'a, A>) -> Self
         ensures { result ≡ record { tables = tables.entry; asked = 0 } }
     {
@@ -52,7 +52,7 @@ impl<'a, A: Allocator> WholeTables<'a, A> {
         &self.tables
     }
 
-    /// Adds a table whose class is not held and whose needs are; any other is handed back.
+    /// Adds a table whose class is not loaded and whose needs are; any other table is returned with the reason.
     pub fn add(&mut self, table: Table<'a, A>) -> Result<(), AddRefused<'a, A>>
         ensures fault { MatchOption (add_fault self.old.tables table.entry.class) (IsOk result) (λ fault. IsErrAnd result (λ e. e.fault ≡ fault)) }
         ensures added { OnOk result (

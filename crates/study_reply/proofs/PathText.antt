@@ -1,11 +1,11 @@
--- Paths as they are printed.
+-- Paths as text.
 use Rattle.std.proofs.Common.{◌≡◌, ℕ, ◌-◌, List, [], ◌∷◌, ◌++◌, length, refl, sym, ap, ◌∙◌, append_assoc}
 use Rattle.std.specs.Prelude.{decimal}
 use Rattle.std.proofs.lemmas.List.{append-nil, nil_from_length}
 use Rattle.study_tree.specs.Paths.{path_text, more_places}
 use Rattle.study_reply.specs.Words.{raised}
 
--- one place more
+-- one more place
 more-child : (ks : List ℕ) (p : ℕ) → more_places (ks ++ p ∷ []) ≡ more_places ks ++ (46 ∷ decimal p)
 more-child [] p = ap (λ (t : List ℕ). 46 ∷ t) (append-nil (decimal p))
 more-child (k ∷ ks) p = ap (λ (t : List ℕ). 46 ∷ (decimal k ++ t)) (more-child ks p) ∙ ap (λ (t : List ℕ). 46 ∷ t)

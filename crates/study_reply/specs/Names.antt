@@ -65,7 +65,7 @@ file_name file.Padding = codes "Padding"
 file_name file.TrailingBytes = codes "TrailingBytes"
 file_name file.Device = codes "Device"
 
--- the name, with a space where something follows
+-- the name, with a space if an argument follows
 abbrev pub name_text : Refusal → List ℕ
 name_text (Form fault) = form_name fault
 name_text NoPosition = codes "NoPosition"
@@ -100,7 +100,7 @@ file_argument (file.Version n) = Number n
 file_argument (file.PageDamaged n) = Number n
 file_argument _ = NoArgument
 
--- what follows the name
+-- the argument after the name
 abbrev pub argument_of : Refusal → Argument
 argument_of (AlreadyThere k) = Number k
 argument_of (NoTable c) = OfClass c

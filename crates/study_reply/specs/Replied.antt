@@ -1,4 +1,4 @@
--- The text of a reply, by what a command came to.
+-- The text of a reply, by the outcome of a command.
 use Rattle.std.specs.Prelude.{ℕ, List, [], ◌∷◌, ◌++◌, Result, Ok, Err, codes}
 use Rattle.study_notation.specs.FenSpelling.{fen_text}
 use Rattle.study_marks.specs.Study.{tag_name}
@@ -11,7 +11,7 @@ use Rattle.study_reply.specs.Names.{words_of, edit_words}
 use Rattle.study_reply.specs.TableReply.{table_text}
 use Rattle.study_reply.specs.Words.{reply_line, stipulation_words, insert_text, mark_text, moves_text, solve_text, raised}
 
--- the reply to a command that did its work
+-- the reply to a successful command
 abbrev pub reply_text : {A : Type 0} → Reply A → List ℕ
 reply_text (done.Position start) = reply_line (codes "position ") (fen_text start)
 reply_text (done.Shift start) = reply_line (codes "shift ") (fen_text start)

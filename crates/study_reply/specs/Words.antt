@@ -92,7 +92,7 @@ saved_text c bytes = codes "saved " ++ name_of c ++ reply_line (codes " bytes ")
 abbrev pub verified_text : Class → List ℕ
 verified_text c = codes "verified " ++ name_of c ++ codes " yes\n"
 
--- the path of a node that was moved up by one place
+-- the path of a node after it moved up by one place
 abbrev pub raised : List ℕ → List ℕ
 raised [] = []
 raised (k ∷ []) = (k - 1) ∷ []

@@ -4,7 +4,7 @@ ghost use Rattle.study_reply.specs.Words.{ends_line};
 
 use std::alloc::Allocator;
 
-/// A study as a game of PGN. It begins with its first tag and ends with a line feed, so it is no reply of another kind.
+/// A study as a game of PGN. It begins with its first tag and ends with a line feed, so it cannot be mistaken for another kind of reply.
 #[derive(Drop)]
 pub struct Game<'a, A: Allocator> {
     pub text: Vec<u8, &'a A>,

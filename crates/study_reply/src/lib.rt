@@ -1,6 +1,6 @@
-//! Replies to the lines of a script: why a line is refused, and what is written.
+//! Replies to the lines of a script: why a line is refused, and the text of the reply.
 //!
-//! A name, a path, a move or a table is written in the same words wherever it stands in a reply.
+//! A name, a path, a move or a table has the same words wherever it stands in a reply.
 #![tactic(auto)]
 
 mod game;

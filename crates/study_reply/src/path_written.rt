@@ -63,7 +63,7 @@ pub fn put_child<W: Write>(out: &mut W, steps: &[u16], place: u16) -> Result<(),
     put_next(out, place)
 }
 
-/// Writes the path of a node that was moved up by one place.
+/// Writes the path of a node after it moved up by one place.
 pub fn put_raised<W: Write>(out: &mut W, steps: &[u16]) -> Result<(), DeviceFailed>
     ensures ok { OnOk result (Appends (W.contents out.old) (W.contents out.new) (path_text (raised steps.now))) }
     ensures err { OnErr result (TakesPrefix (W.contents out.old) (W.contents out.new) (path_text (raised steps.now))) }

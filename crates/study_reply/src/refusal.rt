@@ -7,7 +7,7 @@ use study_material::Class;
 use study_notation::{FenFault, SanFault};
 use study_values::{FileFault, SourceFault};
 
-/// Why a line is refused. The path of a broken shift stands apart.
+/// Why a line is refused. The path of a broken shift is kept apart.
 #[derive(Clone, Copy, Debug, PartialEq, Eq)]
 pub enum Refusal {
     Form(SyntaxFault),
@@ -38,7 +38,7 @@ pub enum Refusal {
     DistanceTooLarge,
 }
 
-/// What follows the name of a refusal.
+/// The argument after the name of a refusal.
 #[derive(Clone, Copy, Debug, PartialEq, Eq)]
 pub enum Argument {
     None,
@@ -47,7 +47,7 @@ pub enum Argument {
 }
 
 impl Refusal {
-    /// What follows the name.
+    /// The argument after the name.
     pub fn argument(self) -> Argument
         ensures { result ≡ argument_of self }
     {
@@ -64,7 +64,7 @@ impl Refusal {
         }
     }
 
-    /// The name that the reply gives, with a space where something follows.
+    /// The name in the reply, with a space if an argument follows.
     pub fn name(self) -> &'static [u8]
         ensures { result.now ≡ name_text self }
     {

@@ -1,4 +1,4 @@
-//! What a line comes to, decided before its reply is written.
+//! The outcome of a line, decided before its reply is written.
 ghost use Rattle.std.specs.Prelude.{◌≡◌, ◌++◌, ◌∷◌, [], codes, is_err, IfOk, OnOk, OnErr};
 ghost use Rattle.std.specs.Io.KnownBytes.{Appends};
 ghost use Rattle.study_notation.specs.FenSpelling.{fen_text};
@@ -21,7 +21,7 @@ use study_notation::{Start, write_fen};
 use study_text::{DeviceFailed, write_text};
 use study_tree::Path;
 
-/// What a line did, with what its reply needs.
+/// The effect of a line, with the data of its reply.
 #[derive(Drop)]
 pub enum Reply<'a, A: Allocator> {
     Position(Start),
@@ -30,7 +30,7 @@ pub enum Reply<'a, A: Allocator> {
     /// The node that got a child, the child's place, and its move in SAN.
     Inserted(Path<'a, A>, u16, ArrayString<8>),
     Deleted(Path<'a, A>),
-    /// The node as it was named, before it moved up.
+    /// The path of the node before it moved up.
     Promoted(Path<'a, A>),
     Tagged(TagName),
     Mark(Path<'a, A>, Mark),
@@ -42,14 +42,14 @@ pub enum Reply<'a, A: Allocator> {
     Table(TableReply),
 }
 
-/// Why a line is refused: by itself, or by the bench.
+/// Why a line is refused: by its own rules, or by the bench.
 #[derive(Drop)]
 pub enum Refused<'a, A: Allocator> {
     Line(Refusal),
     Edit(EditRefusal<'a, A>),
 }
 
-/// What a command comes to, before it is written.
+/// The outcome of a command, before its reply is written.
 pub type Answer<'a, A> = Result<Reply<'a, A>, Refused<'a, A>>;
 
 /// Writes the reply to a line, and returns whether the line was refused.

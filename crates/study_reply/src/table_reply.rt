@@ -1,4 +1,4 @@
-//! What the commands of a class come to, and its reply.
+//! The outcomes of the commands of a class, and their replies.
 ghost use Rattle.std.specs.Prelude.{◌++◌, codes, decimal, OnOk, OnErr};
 ghost use Rattle.std.specs.Io.KnownBytes.{Appends};
 ghost use Rattle.study_material.specs.Class.{name_of};
@@ -13,7 +13,7 @@ use study_material::Class;
 use study_text::{DeviceFailed, write_text};
 use study_values::{cells, file_size};
 
-/// What a command of a class did.
+/// The effect of a command of a class.
 #[derive(Clone, Copy, Debug, PartialEq, Eq)]
 pub enum TableReply {
     /// With the deepest win of the table in plies, for either side to move.
@@ -24,7 +24,7 @@ pub enum TableReply {
     Verified(Class, bool),
 }
 
-/// Writes what a command of a class did.
+/// Writes the reply to a command of a class.
 pub fn put_table_reply<W: Write>(out: &mut W, reply: TableReply) -> Result<(), DeviceFailed>
     ensures ok { OnOk result (Appends (W.contents out.old) (W.contents out.new) (table_text reply)) }
     ensures err { OnErr result (TakesPrefix (W.contents out.old) (W.contents out.new) (table_text reply)) }

@@ -133,7 +133,7 @@ fn put_move<W: Write>(out: &mut W, p: &Position, m: Move) -> Result<(), DeviceFa
     write_text(out, text.as_str().as_bytes())
 }
 
-/// Writes how soon the side to move forces mate.
+/// Writes in how many moves the side to move forces mate.
 pub fn put_solution<W: Write>(out: &mut W, plies: Option<u8>) -> Result<(), DeviceFailed>
     ensures ok { OnOk result (Appends (W.contents out.old) (W.contents out.new) (solve_text plies)) }
     ensures err { OnErr result (TakesPrefix (W.contents out.old) (W.contents out.new) (solve_text plies)) }
@@ -224,7 +224,7 @@ fn put_goal<W: Write>(out: &mut W, goal: Goal) -> Result<(), DeviceFailed>
     }
 }
 
-/// Writes the label of a node.
+/// Writes the mark of a node.
 pub fn put_mark<W: Write>(out: &mut W, steps: &[u16], mark: &Mark) -> Result<(), DeviceFailed>
     ensures ok { OnOk result (Appends (W.contents out.old) (W.contents out.new) (mark_text steps.now mark.now)) }
     ensures err { OnErr result (TakesPrefix (W.contents out.old) (W.contents out.new) (mark_text steps.now mark.now)) }

@@ -60,7 +60,7 @@ module _ (k : ℕ) (over : Bool) where
   pub set-why : (Why More : ℕ → Type 0) (a b : List ℕ) → ((i : ℕ) → Why i → More i) → AreSet Why k over a b → AreSet More k over a b
   set-why Why More a b w f i = elim (f i) [ inl e ↦ inl e | inr x ↦ inr (w i x.0, x.1, x.2) ]
 
--- over what is more, cells are lowered; over 0 alone, added
+-- over greater values cells are lowered; over 0 alone they are added
 pub set-lowered : (Why : ℕ → Type 0) (k c : ℕ) (a b : List ℕ) → c ≡ k + 2 → AreSet Why c true a b → AreLowered Why k a b
 set-lowered Why k c a b s f i = elim (f i) [
   | inl e ↦ inl e
@@ -73,7 +73,7 @@ set-added Why k c a b s f i = elim (f i) [
   | inr x ↦ inr (x.0, x.1 ∙ s, elim x.2 [ inl z ↦ z | inr l ↦ absurd (false≢true l.0) ])
 ]
 
--- what a departure tells of a number
+-- the results of a departure from a number
 pub departed : (c d : Class) (number n x y a k : ℕ) → d ≡ c → n ≡ number → y ≡ x → ((p : Position) → IsMoved d n y a p → index_of p ≡ k)
     → (p : Position) → IsMoved c number x a p → index_of p ≡ k
 departed c d number n x y a k e f g fits p moved =
@@ -98,13 +98,13 @@ module _ (c : Class) (number : ℕ) (q : Position) (at : position_numbered c num
     side_is = told.1 ∙ sym (told_of c number q (told_decoded c number q at)).same_side
 
     module _ (man : Man) (among : Contains men man) where
-      -- where the man can have come from is a position before
+      -- an origin of the man gives a position before
       pub came_led : same_side man.side (other_side side) ≡ true → (a : ℕ) → a < 64 → came_from men side man a ≡ true → CanHaveLed q (move_from man a)
       came_led s a on e =
           (told_origins.led man a among on).1
           (rw (ap (λ (t : Side). same_side man.side (other_side t)) (sym side_is) ∙ s, ap (λ (t : Side). came_from men t man a) (sym side_is) ∙ e) refl)
 
-      -- and only from there, and only for the side that moved
+      -- and only such an origin, and only for the side that moved
       pub led_came : (a n : ℕ) → a < 64 → IsBeforeFrom c number man a n
           → (same_side man.side (other_side side) ≡ true) × (came_from men side man a ≡ true)
       led_came a n on b =
@@ -115,7 +115,7 @@ module _ (c : Class) (number : ℕ) (q : Position) (at : position_numbered c num
           let parts = and_parts (same_side man.side (other_side q.to_move)) (came_from men q.to_move man a) ((told_origins.led man a among on).0 led) in
           (ap (λ (t : Side). same_side man.side (other_side t)) side_is ∙ parts.0, ap (λ (t : Side). came_from men t man a) side_is ∙ parts.1)
 
-      -- the word of those squares, and a number that fits what is before from one of them
+      -- the set of those squares, and a number that fits the position before from one of them
       module _ (all : ℕ) (shown : List Man) (same : shown ≡ men) (came : (a : ℕ) → a < 64 → has all a ≡ came_from shown side man a) where
         came_men : (a : ℕ) → a < 64 → has all a ≡ came_from men side man a
         came_men a on = came a on ∙ ap (λ (zs : List Man). came_from zs side man a) same
@@ -126,7 +126,7 @@ module _ (c : Class) (number : ℕ) (q : Position) (at : position_numbered c num
         pub in_before : (a n : ℕ) → a < 64 → IsBeforeFrom c number man a n → has all a ≡ true
         in_before a n on b = came_men a on ∙ (led_came a n on b).1
 
-    -- what is before the number is so by one of the men
+    -- a number before the number is so by one of the men
     pub before_among : (m : Move) (n : ℕ) → IsNumberBefore c q number m n → (man : Man) × Contains men man × IsBeforeBy c number man n
     before_among m n b =
         let t = told_origins.mover m (record { from = b.from; leads = b.leads }) in (
@@ -144,7 +144,7 @@ module _ (c : Class) (number : ℕ) (q : Position) (at : position_numbered c num
         let b = h.1.2 in
         before_among (move_from h.0 h.1.0) n (subst (λ (p : Position). IsNumberBefore c p number (move_from h.0 h.1.0) n) (one_position b.to b.at) b.before)
 
-  -- the numbers before a number by a man from a square, where a number fits each position without a passed square before it
+  -- the numbers before a number by a man from a square, if a number fits each position without a passed square before it
   module _ (man : Man) (a k : ℕ) (fits : (p : Position) → IsMoved c number man.at a p → index_of p ≡ k) where
     pub before_is : (n : ℕ) → IsBeforeFrom c number man a n → (n ≡ k) ⊎ (n ≡ k + 16777216) × ((p : Position) × (position_numbered c n ≡ Some p))
     before_is n b =
@@ -210,7 +210,7 @@ module _ (c : Class) (number : ℕ) (q : Position) (at : position_numbered c num
         pub safe_below : k < cells_of c
         safe_below = quiet_below c number q at dead (move_to man x) safe_legal safe_quiet held laws cells k safe_index
 
-        -- where it is not won the position does not lose
+        -- if the move does not lead to a won position, the position does not lose
         pub safe_escape : (level : ℕ) → (((m : ℕ) × (value_of (slice_index cells k) ≡ Win m) × (m ≤ level)) → ⊥) → NoLossBy (class_game c held) cells level number
         safe_escape level unwon p e h =
             let same = one_position c number q at p e in
@@ -218,14 +218,14 @@ module _ (c : Class) (number : ℕ) (q : Position) (at : position_numbered c num
             let t = w.each (after q (move_to man x)) (move_to man x, safe_legal, refl) in
             unwon (t.0, quiet_label c number q at dead (move_to man x) safe_legal safe_quiet held laws cells k safe_index ∙ t.1, t.2)
 
-        -- where it is won the move leads to a win
+        -- if it leads to a won position, the move leads to a win
         pub safe_won : (level : ℕ) → ((m : ℕ) × (value_of (slice_index cells k) ≡ Win m) × (m ≤ level))
             → (p : Position) → position_numbered c number ≡ Some p → IsWonAfter (class_game c held) cells level p (move_to man x)
         safe_won level w p e =
             subst (λ (r : Position). IsWonAfter (class_game c held) cells level r (move_to man x)) (sym (one_position c number q at p e))
             (w.0, sym (quiet_label c number q at dead (move_to man x) safe_legal safe_quiet held laws cells k safe_index) ∙ w.1, w.2)
 
-  -- what a legal move of a man tells
+  -- the properties of a legal move of a man
   pub safe_by : (m : Move) → is_legal q m ≡ true → (man : Man) → Contains men man → m.origin ≡ man.at
       → (m.target < 64) × (same_side man.side side ≡ true) × (is_safe_target men side man m.target ≡ true)
   safe_by m legal man among origin =
@@ -249,7 +249,7 @@ module _ (c : Class) (number : ℕ) (q : Position) (at : position_numbered c num
       unreached false e = refl
       unreached true e = absurd (false≢true e)
 
-  -- where the quiet moves of each man lose all do
+  -- if the quiet moves of each man lose, all do
   pub lose_each : (g : Numbered Position) (cells : List ℕ) (k : ℕ) → ((man : Man) → Contains men man → QuietMovesLoseBy g cells k q man)
       → QuietMovesLose g cells k q
   lose_each g cells k each m legal quiet =
@@ -263,7 +263,7 @@ module _ (c : Class) (number : ℕ) (q : Position) (at : position_numbered c num
           ap (λ (a : ℕ). let r : Move = record { origin = a; target = m.target; promoted = m.promoted } in r) o
           ∙ ap (λ (k : Option Kind). let r : Move = record { origin = man.at; target = m.target; promoted = k } in r) p
 
-  -- where a man has a safe target it has a legal move
+  -- a man with a safe target has a legal move
   pub some_legal : (man : Man) → Contains men man → same_side man.side side ≡ true → (x : ℕ) → x < 64 → is_safe_target men side man x ≡ true
       → (m : Move) × (is_legal q m ≡ true)
   some_legal man among his x on safe =
@@ -287,7 +287,7 @@ module _ (c : Class) (number : ℕ) (q : Position) (at : position_numbered c num
 
 -- ---- positions before them, in a game of numbers
 
--- what leads to the number is before it
+-- a number that leads to the number is before it
 pub leads_is_before : (c : Class) (number i : ℕ) → LeadsTo Leads (is_of c) index_of (position_numbered c) i number → IsBefore c number i
 leads_is_before c number i t =
     let q = leads_numbered c number i t in
@@ -296,7 +296,7 @@ leads_is_before c number i t =
     before_among c number q.0 q.1 (told_men (slots_of c) (without_bit number)) (told_side (slots_of c) (without_bit number)) (refl, refl) b.by i b.is in
     (h.0, h.2)
 
--- what is before the number leads to it
+-- a number before the number leads to it
 pub before_is_leads : (c : Class) (number i : ℕ) → IsBefore c number i → LeadsTo Leads (is_of c) index_of (position_numbered c) i number
 before_is_leads c number i h = let b = h.1.2 in before_leads c number i b.to (move_from h.0 h.1.0) b.at b.before
 

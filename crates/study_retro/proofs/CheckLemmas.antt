@@ -1,4 +1,4 @@
--- Whether a king is attacked where one of the men of a row has gone to another square, by those that stay.
+-- Whether a king is attacked after one of the men of a row has gone to another square, by the men that stay.
 use Rattle.std.proofs.Common.{◌≡◌, ℕ, ◌+◌, ◌<◌, ◌≤◌, ◌==◌, Bool, true, false, cond, not, ◌&&◌, ◌||◌, inl, inr, List, [], ◌∷◌, ◌++◌}
 use Rattle.std.proofs.Common.{map, take, get_or, length, refl, sym, ◌∙◌, ap, arith}
 use Rattle.std.specs.Prelude.{count_by}
@@ -29,7 +29,7 @@ use Rattle.study_retro.proofs.StillChess.{among-of}
 
 -- ---- tests
 
--- nothing is between on a line to its own end
+-- no square is between on a line to its own end
 aside : (b s e : Bool) → e ≡ false → (b && not (s && e)) ≡ b
 aside true true false n = refl
 aside true true true n = absurd (false≢true (sym n))
@@ -40,7 +40,7 @@ neither : (s b : Bool) → b ≡ false → (s && b) ≡ false
 neither true b e = e
 neither false b e = refl
 
--- what bears on a square past a man does so where there is no other
+-- a man that bears on a square past another man bears on it without that man
 pub past_one : (h c t n : Bool) → (h ≡ true → c ≡ true) → t ≡ (c && n) → (h && t) ≡ (h && n)
 past_one true c t n f i = i ∙ ap (λ (b : Bool). b && n) (f refl)
 past_one false c t n f i = refl
@@ -79,12 +79,12 @@ none_of p q h (b ∷ bs) e =
     let o = or_parts (p b) (list_any p bs) e in
     or_from (q b) (list_any q bs) (h b o.0) (none_of p q h bs o.1)
 
--- a set gathered from each of those that bear to the next
+-- a set gathered from one bearer to the next
 pub gathered : (p : Bearer → Bool) (bs : List Bearer) (i : ℕ) (d b : Bearer) (x set more set' : ℕ) → i < length bs → b ≡ get_or bs i d
     → has set x ≡ list_any p (take i bs) → has more x ≡ p b → has set' x ≡ (has set x || has more x) → has set' x ≡ list_any p (take (i + 1) bs)
 gathered p bs i d b x set more set' lt is e f g = g ∙ rw (e, f, is) (sym (list_any_more p bs i d lt))
 
--- what a man bears on among others it bears on alone
+-- a square on which a man bears among others, it bears on alone
 pub bears_without : (men : List Man) (m : Man) (x : ℕ) (s : Bool) → (s && bears_on men m x) ≡ true → bears_on [] m x ≡ true
 bears_without men m x s e = by_test (bears_on [] m x) refl
   where
@@ -92,7 +92,7 @@ bears_without men m x s e = by_test (bears_on [] m x) refl
     by_test true o = refl
     by_test false o = absurd (false≢true (sym (neither s (bears_on men m x) (bears_alone men m x o)) ∙ e))
 
--- where none bears on x, none of some kind does
+-- if no man bears on x, no man of any kind does
 pub none_with : (bearers : List Bearer) (p : Man → Bool) (x : ℕ) → list_any (λ b. has b.squares x) bearers ≡ false
     → list_any (λ b. has b.squares x && p b.man) bearers ≡ false
 none_with bearers p x none =
@@ -150,7 +150,7 @@ module _ (others : List Man) (from i : ℕ) (d m : Man) (lt : i < length others)
       (and_left (not ((get_or others i d).at == from)) (p (get_or others i d)) (ap (λ (k : Man). not (k.at == from)) (sym is) ∙ e))
       ∙ or_none (list_any (λ k. not (k.at == from) && p k) (take i others)))
 
--- one more man is a king of the side, or is none
+-- one more man is a king of the side, or is not
 module _ (others : List Man) (side : Side) (i : ℕ) (d m : Man) (lt : i < length others) (is : m ≡ get_or others i d) where
   pub king_more : is_man side King m ≡ true → ((f : ℕ → Bool) → list_any (λ k. is_man side King k && f k.at) (take i others) ≡ false)
       → IsOnlyKing (take (i + 1) others) side m.at
@@ -175,7 +175,7 @@ module _ (man : Man) (to : ℕ) where
   one_moved p true x = refl
   one_moved p false x = sym (or_none (p x))
 
-  -- some man is one that stays or one that has gone
+  -- a man that stays, or one that has gone
   each_moved : (p : Man → Bool) (xs : List Man) → list_any p (map (from_to man.at to) xs)
       ≡ (list_any (λ m. not (m.at == man.at) && p m) xs || list_any (λ m. (m.at == man.at) && p (on_square m to)) xs)
   each_moved p [] = refl
@@ -247,7 +247,7 @@ module _ (others staying : List Man) (last man : Man) (to y : ℕ) (among : Cont
       ∙ sym (reach_if (staying ++ z ∷ []) m.side m.kind m.at x))
       ∙ bears_men staying man to m x
 
-  -- ---- on the square where the man has gone
+  -- ---- on the square to which the man has gone
 
   bears_there : (m : Man) → bears_with moved y m to ≡ bears_with staying y m to
   bears_there m =
@@ -318,11 +318,11 @@ module _ (others staying : List Man) (last man : Man) (to y : ℕ) (among : Cont
       goes : (a : ℕ) → (a == man.at) ≡ true → gone_to man.at to a ≡ to
       goes a t = rw t refl
 
--- where a man stands after another one has gone
+-- the square of a man after another one has gone
 pub still_at : (from to k : ℕ) → (k == from) ≡ false → gone_to from to k ≡ k
 still_at from to k e = rw e refl
 
--- the side is in check where its only king, after the man has gone, is attacked
+-- the side is in check if its only king, after the man has gone, is attacked
 module _ (others : List Man) (last : Man) (from to y : ℕ) (side : Side) where
   one_king : (men : List Man) (t : Bool) (m : Man) → king_attacked_with men last side y (cond t (on_square m to) m)
       ≡ (is_man side King m && attacked_with_last men last (other_side side) (cond t to m.at) y)

@@ -1,4 +1,4 @@
--- What leads to the position of a number, by the positions before a quiet move.
+-- The numbers that lead to the position of a number, by the positions before a quiet move.
 use Rattle.study_board.specs.Men.{is_pawn}
 use Rattle.std.proofs.Common.{◌≡◌, ℕ, ◌+◌, ◌<◌, ◌⊎◌, inl, inr, arith, Bool, true, false, cond, not, ◌||◌, ◌↔◌}
 use Rattle.std.proofs.Common.{List, [], ◌∷◌, ◌++◌, Contains, Option, Some, None, refl, sym, ◌∙◌, ap, subst}
@@ -61,7 +61,7 @@ admits_before : (s : Symmetry) (p : Position) (m : Move) → IsValid p → p.pas
     → IsQuiet p m → admits (after p m) s ≡ true → admits p s ≡ true
 admits_before s p m v u l q a = subst (λ (b : Bool). (not b || keeps_pawns s) ≡ true) (quiet_any p m v l (unpassing p m v l u) is_pawn (λ t k x y. refl) q) a
 
--- what leads to a position of the class leads, from an image, to any position alike
+-- if a position leads to one of the class, an image of it leads to any position that is alike
 record IsLedAlike (c : Class) (p : Position) (m : Move) (q : Position) : Type 0 where
   pub from : Position
   pub by : Move
@@ -134,7 +134,7 @@ module _ (p : Position) (m : Move) (man : Man) (here : man_at p.men m.origin ≡
   unfolding after
   after_without = rw (here, men_after_bare p man m no) refl
 
--- the number of a position with the bit of a live passed square is that of the position without it, and as much more
+-- the number of a position with the bit of a live passed square is that of the position without it, increased by the bit
 record HasPlain (p : Position) (i : ℕ) : Type 0 where
   pub plain : IsIndex (without_passed p) (without_bit i)
   pub is : i ≡ with_bit (has_legal_en_passant p) (without_bit i)
@@ -170,7 +170,7 @@ position_is c n q e = by_entry (is_entry c n) e
 unpassed_same : (x : Position) → x.passed ≡ None → without_passed x ≡ x
 unpassed_same x e = ap (λ (o : Option ℕ). let r : Position = record { men = x.men; to_move = x.to_move; passed = o } in r) (sym e)
 
--- the position of a number from which a move leads to the number's
+-- the position of a number from which a move leads to the position of another
 pub record IsLed (c : Class) (r : Position) (n : ℕ) : Type 0 where
   pub from : Position
   pub to : Position
@@ -181,7 +181,7 @@ pub record IsLed (c : Class) (r : Position) (n : ℕ) : Type 0 where
   pub lands : index_of to ≡ n
 
 module _ (c : Class) where
-  -- numbers that differ in the bit alone encode the same men and side to move
+  -- numbers that differ only in the bit encode the same men and side to move
   same_plain : (k : ℕ) (o p : Position) → position_numbered c k ≡ Some o → position_numbered c (k + 16777216) ≡ Some p → without_passed p ≡ without_passed o
   same_plain k o p e f =
       let plain : ℕ → Position = λ j. record { men = in_order (told_men (slots_of c) j); to_move = told_side (slots_of c) j; passed = None } in
@@ -302,7 +302,7 @@ module _ (c : Class) where
       by_live true f g = inr (omega (arith, f, g), (t.0, t.2))
       by_live false f g = inl (f ∙ g)
 
-  -- a number that something leads to is one of a position
+  -- a number that another leads to has a position
   pub leads_numbered : (n i : ℕ) → LeadsTo Leads (is_of c) index_of (position_numbered c) i n → (q : Position) × (position_numbered c n ≡ Some q)
   leads_numbered n i t =
       let d = entry c i t.0 (told_decoded c i t.0 t.2) in
@@ -348,7 +348,7 @@ module _ (c : Class) where
           ))
         ]
 
-    -- so was the number with the bit
+    -- and so was the number with the bit
     pub two_added : (new : List ℕ) → new ≡ (old ++ k ∷ []) ++ (k + 16777216) ∷ [] → (p : Position)
         × (position_numbered c (k + 16777216) ≡ Some p) → (n : ℕ) → Contains new n ↔ Contains old n
         ⊎ IsNumberBefore c q number m n

@@ -1,4 +1,4 @@
--- Which moves pass no square.
+-- The moves after which no square is passed.
 use Rattle.std.proofs.Common.{◌≡◌, ℕ, ◌==◌, Bool, true, false, cond, ◌&&◌, Option, None, refl, sym, subst, arith}
 use Rattle.std.proofs.lemmas.Bool.Decides.{nat_tests}
 use Rattle.study_board.specs.Geometry.{ranks_apart}
@@ -13,7 +13,7 @@ none_so : (b : Bool) (o : Option ℕ) → cond (b && false) o None ≡ None
 none_so true o = refl
 none_so false o = refl
 
--- a move that does not go over two ranks
+-- a move that is not across two ranks
 pub unjumped : (p : Position) (m : Move) → is_legal p m ≡ true → (ranks_apart m.origin m.target == 2) ≡ false → (after p m).passed ≡ None
 unfolding after
 unjumped p m legal e =

@@ -1,5 +1,4 @@
--- Captures and promotions: a pawn one step from its last rank goes to three squares at most, and promotes there; no other man
--- promotes.
+-- Captures and promotions: a pawn one step from its last rank goes to at most three squares, and promotes there; no other man promotes.
 use Rattle.std.proofs.Common.{◌≡◌, ℕ, zero, suc, ◌+◌, ◌<◌, ◌≤◌, ◌==◌, ◌⊎◌, inl, inr, arith, Bool, true, false}
 use Rattle.std.proofs.Common.{List, [], ◌∷◌, ◌++◌, length, get_or, Contains, Option, None, Some, refl, sym, ◌∙◌, ap, subst}
 use Rattle.std.proofs.lemmas.List.{length-append}
@@ -155,7 +154,7 @@ promoted_parts m man k o p =
     (ap (λ (a : ℕ). let r : Move = record { origin = a; target = m.target; promoted = m.promoted } in r) o
     ∙ ap (λ (c : Option Kind). let r : Move = record { origin = man.at; target = m.target; promoted = c } in r) p)
 
--- none is chosen where none promotes
+-- no kind is chosen if the man does not promote
 pub unpromoted : (b : Bool) (o : Option Kind) → b ≡ false → is_promotion_choice b o ≡ true → o ≡ None
 unpromoted false None e c = refl
 unpromoted false (Some k) e c = absurd (false≢true c)
@@ -192,7 +191,7 @@ mover_is q tells m legal =
 
 -- a man of the side to move
 module _ (q : Position) (tells : HasSafeTargets q q.men) (man : Man) (among : Contains q.men man) (his : same_side man.side q.to_move ≡ true) where
-  -- what a legal move of it tells
+  -- the properties of a legal move of this man
   module _ (m : Move) (origin : m.origin ≡ man.at) (legal : is_legal q m ≡ true) where
     pub target_on : m.target < 64
     target_on = (tells.mover m legal).3
@@ -216,7 +215,7 @@ module _ (q : Position) (tells : HasSafeTargets q q.men) (man : Man) (among : Co
       tells.legal man (promotion_to man x k) among refl on
       ∙ rw (his, safe, near_promotes q.men man x (goes_there q man x safe) near, piece) refl
 
-  -- a move of another man that is not quiet takes a man
+  -- a move of another man that is not quiet is a capture
   module _ (m : Move) (origin : m.origin ≡ man.at) (legal : is_legal q m ≡ true) (leaves : IsQuiet q m → ⊥) (far : is_about_to_promote man ≡ false) where
     plain : reaches_last_rank man m.target ≡ false
     plain = far_plain q.men man m.target (reached m origin legal) far

@@ -68,7 +68,7 @@ other_again : (s : Side) → other_side (other_side s) ≡ s
 other_again White = refl
 other_again Black = refl
 
--- the number tells nothing of a passed square on which no capture is legal
+-- the number does not encode a passed square on which no capture is legal
 plain_index : (x y : Position) → has_legal_en_passant x ≡ false → has_legal_en_passant y ≡ false → without_passed x ≡ without_passed y → index_of x ≡ index_of y
 unfolding index_of least_number
 plain_index x y d e s =
@@ -104,12 +104,12 @@ module _ (c : Class) (n : ℕ) (q : Position) (at : position_numbered c n ≡ So
         dead = ap (λ (o : Option ℕ). is_taken r o) b.unpassed;
       }
 
-  -- it leads to the number, where no capture in passing is legal in either
+  -- it leads to the number, if no capture in passing is legal in either position
   pub lands_there : has_legal_en_passant q ≡ false → (r : Position) (m : Move) → LeadsQuietly r m q → has_legal_en_passant (after r m) ≡ false
       → index_of (after r m) ≡ n
   lands_there dead r m b gone = plain_index (after r m) q gone dead b.leads ∙ numbered_index c n q at
 
-  -- so where the move leaves none
+  -- the same if the move leaves none
   pub lands_left : has_legal_en_passant q ≡ false → (r : Position) (m : Move) → LeadsQuietly r m q → LeavesNone c m.origin m.target n → index_of (after r m) ≡ n
   lands_left dead r m b leaves =
       let w = IsValid-after r m b.valid b.legal in
@@ -117,7 +117,7 @@ module _ (c : Class) (n : ℕ) (q : Position) (at : position_numbered c n ≡ So
       plain_index (without_passed (after r m)) q refl dead b.leads ∙ numbered_index c n q at in
       lands_there dead r m b (dead_left c (after r m) r m refl w (lands_home c n q r m at b) b.legal n bare leaves)
 
-  -- and so where one side alone has pawns
+  -- and if only one side has pawns
   pub lands_single : has_both_pawns (lists_of c) ≡ false → (r : Position) (m : Move) → LeadsQuietly r m q → index_of (after r m) ≡ n
   lands_single single r m b =
       let d = told_decoded c n q at in
@@ -151,7 +151,7 @@ module _ (c : Class) (n : ℕ) (q : Position) (at : position_numbered c n ≡ So
           dead = refl;
         }
 
-    -- a number that fits is its number, where it leaves no capture in passing
+    -- a number that fits is its number, if it leaves no capture in passing
     pub index_after : (k : ℕ) → ((p : Position) → IsMoved c n m.origin m.target p → index_of p ≡ k) → LeavesNone c m.origin m.target k
         → index_of (after q m) ≡ k
     index_after k fits leaves =
@@ -168,7 +168,7 @@ module _ (c : Class) (n : ℕ) (q : Position) (at : position_numbered c n ≡ So
           let s = laws.numbered (after q m) known (is_of-IsOf c (after q m) quiet_stays) in
           subst (λ (j : ℕ). j < cells_of c) is (laws.below (index_of (after q m)) s.0 s.1)
 
-      -- and its cell tells its value
+      -- and its cell is that of its value
       pub quiet_label : value_of (slice_index cells k) ≡ label_by (class_game c held) cells (after q m)
       quiet_label =
           sym (label-home laws cells (after q m) (is_of-IsOf c (after q m) quiet_stays)

@@ -1,4 +1,4 @@
--- Where the builder finds the value of a position.
+-- The place in which the builder finds the value of a position.
 use Rattle.std.proofs.Common.{◌≡◌, ℕ, ◌<◌, inl, inr, true, false, List, slice_index, Option, Some, None, sym, ◌∙◌, subst, ap}
 use Rattle.std.specs.Prelude.{IfSome, IfNone, IsSome, is_some}
 use Rattle.std.proofs.lemmas.Bool.{false≢true, false_from_ne_true}

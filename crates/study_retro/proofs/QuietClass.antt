@@ -37,7 +37,7 @@ use Rattle.study_index.proofs.Fillings.{AreApart-ascending}
 use Rattle.study_index.proofs.AddedNumbers.{moves_there, none_moves}
 use Rattle.study_material.proofs.MovesOn.{passed_there, passed_empty}
 
--- a pawn weighs more than what it becomes
+-- a pawn weighs more than the kind that it promotes to
 abbrev pub weight_of : Kind → ℕ
 weight_of Pawn = 2
 weight_of _ = 1
@@ -290,7 +290,7 @@ module _ (p : Position) (m : Move) (v : IsValid p) (legal : is_legal p m ≡ tru
   choice : is_promotion_choice (reaches_last_rank mover m.target) m.promoted ≡ true
   choice = (HasMover-from_is_legal p m legal).moves.choice
 
-  -- where a second man goes away, the men weigh less
+  -- if a second man goes away, the men weigh less
   lighter : (c : Class) → IsOf c p → IsOf c (after p m) → (y : Man) → IsAmong y p.men → goes_away p.passed mover m.target y ≡ true → mover.at ≢ y.at → ⊥
   lighter c h k y i away apart =
       let two =
@@ -301,7 +301,7 @@ module _ (p : Position) (m : Move) (v : IsValid p) (legal : is_legal p m ≡ tru
       let b = same_sums c h k in
       elim (moved_weight m.promoted choice) [ inl x ↦ omega (arith, x.1) | inr w ↦ omega arith ]
 
-  -- the square of the pawn that a capture in passing takes
+  -- the square of the pawn that a capture in passing captures
   abbrev behind : ℕ
   behind = 8 * rank_of mover.at + file_of m.target
 
@@ -346,7 +346,7 @@ module _ (p : Position) (m : Move) (v : IsValid p) (legal : is_legal p m ≡ tru
       and_no false = refl
 
   module _ (no_passing : is_en_passant p.passed mover m.target ≡ false) where
-    -- who goes away stands where the mover does or on the target
+    -- a man that goes away stands on the mover's square or on the target
     away_cases : (y : Man) → goes_away p.passed mover m.target y ≡ true → (y.at ≡ mover.at) ⊎ (y.at ≡ m.target)
     unfolding survives
     away_cases y e = by_tests (y.at == mover.at) (y.at == m.target) refl refl (rw no_passing at e)
@@ -356,7 +356,7 @@ module _ (p : Position) (m : Move) (v : IsValid p) (legal : is_legal p m ≡ tru
         by_tests false true f g h = inr (eqb-true y.at m.target g)
         by_tests false false f g h = absurd (false≢true h)
 
-    -- a quiet move takes the mover away alone
+    -- a quiet move takes only the mover away
     gone_alone : is_occupied p.men m.target ≡ false → gone ≡ mover ∷ []
     unfolding is_occupied
     gone_alone quiet = filter_one (goes_away p.passed mover m.target) p.men v.ordered mover found.0 mover_goes (λ y i e. elim (away_cases y e) [
@@ -381,7 +381,7 @@ module _ (p : Position) (m : Move) (v : IsValid p) (legal : is_legal p m ≡ tru
         ∙ sym
         (lists-IsPermutation (mover ∷ left) p.men (IsPermutation-sym p.men (mover ∷ left) (before_alone q.0)))
 
-    -- the men after it are those before it, the mover on its target
+    -- the men after it are the men before it, with the mover on its target
     pub quiet_men : IsQuiet p m → IsPermutation (map (from_to m.origin m.target) p.men) (after p m).men
     quiet_men q =
         let f = from_to m.origin m.target in
@@ -398,7 +398,7 @@ module _ (p : Position) (m : Move) (v : IsValid p) (legal : is_legal p m ≡ tru
         IsPermutation-trans (map f p.men) (moved mover m ∷ left) (after p m).men
         (subst (λ (zs : List Man). IsPermutation (map f p.men) zs) is (IsPermutation-map f p.men (mover ∷ left) (before_alone q.0))) after_men
 
-    -- and so does what men of each kind there are
+    -- and so does the number of men of each kind
     pub quiet_any : (f : Man → Bool)
         → ((s : Side) (k : Kind) (a b : ℕ) → f (record { side = s; kind = k; at = a })
         ≡ f (record { side = s; kind = k; at = b })) → IsQuiet p m → list_any f (after p m).men ≡ list_any f p.men
@@ -438,7 +438,7 @@ module _ (p : Position) (m : Move) (v : IsValid p) (legal : is_legal p m ≡ tru
                 by_at true = refl
                 by_at false = refl
 
--- where no man stands on a square, it is not occupied
+-- a square without a man is not occupied
 pub unoccupied : (men : List Man) (x : ℕ) → man_at men x ≡ None → is_occupied men x ≡ false
 unfolding is_occupied
 unoccupied [] x e = refl

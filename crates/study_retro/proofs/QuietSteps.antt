@@ -1,4 +1,4 @@
--- What a quiet move leaves: the other side to move, and no capture in passing.
+-- The position after a quiet move: the other side to move, and no capture in passing.
 use Rattle.std.proofs.Common.{◌≡◌, ℕ, ◌<◌, Bool, true, false, Option, Some, inl, inr}
 use Rattle.std.proofs.Common.{refl, sym, ◌∙◌, ap, arith}
 use Rattle.study_board.specs.Men.{other_side}
@@ -23,7 +23,7 @@ pub other_turn : (q : Position) (m : Move) → is_legal q m ≡ true → (after 
 unfolding after
 other_turn q m legal = (let e = (HasMover-from_is_legal q m legal).here in rw e refl)
 
--- where one side alone has a pawn no capture in passing is legal
+-- if only one side has a pawn no capture in passing is legal
 pub dead_of : (c : Class) (p : Position) → IsValid p → IsOf c p → has_both_pawns (lists_of c) ≡ false → has_legal_en_passant p ≡ false
 dead_of c p v o h = by_test (has_legal_en_passant p) refl
   where

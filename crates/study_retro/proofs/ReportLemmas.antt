@@ -8,7 +8,7 @@ module _ (distance : Value → Option ℕ) (xs : List ℕ) where
   abbrev told : ℕ → Option ℕ
   told i = distance (value_of (slice_index xs i))
 
-  -- a distance told among the first cells
+  -- a distance among the first cells
   pub record TellsBelow (i n : ℕ) : Type 0 where
     pub cell : ℕ
     pub inside : cell < i
@@ -27,7 +27,7 @@ module _ (distance : Value → Option ℕ) (xs : List ℕ) where
   more : (i n : ℕ) → TellsBelow i n → TellsBelow (i + 1) n
   more i n t = let l = t.inside in record { cell = t.cell; inside = omega arith; is = t.is }
 
-  -- what is told below one more is told below, or there
+  -- a distance below one more is below, or there
   split : (i n : ℕ) → TellsBelow (i + 1) n → TellsBelow i n ⊎ (told i ≡ Some n)
   split i n t = elim (last_or t.cell i t.inside) [
     | inl l ↦ inl (record { cell = t.cell; inside = l; is = t.is })

@@ -1,4 +1,4 @@
--- The positions before those of a row, where the numbers after a man has moved are a row.
+-- The positions before those of a row, if the numbers after a man has moved are a row.
 use Rattle.std.proofs.Common.{◌≡◌, ◌==◌, ℕ, ◌<◌, ◌+◌, ◌*◌, ◌&&◌, ◌||◌, ◌++◌, ◌∷◌, [], arith, Bool, true, false, not, List, Contains, Some, inl, inr, refl, sym, ◌∙◌, subst}
 use Rattle.std.specs.List.Sorted.{IsPermutation}
 use Rattle.std.proofs.lemmas.List.Elements.{Contains-append_left, Contains-push}
@@ -35,7 +35,7 @@ module _ (c : Class) (number : ℕ) (q : Position) (at : position_numbered c num
   lands : index_of (after h.from (move_from man a)) ≡ number
   lands = lands_left c number q at (dead_plain c number q at plain) h.from (move_from man a) h.leads (inl passes)
 
-  -- where the move leaves no capture in passing the number that fits is before, and so is its twin; and no other is
+  -- if the move leaves no capture in passing the number that fits is before, and so is its twin; and no other is
   pub fit_before : (n : ℕ) → IsItOrTwin c k n → IsBeforeFrom c number man a n
   fit_before n (inl e) = subst (λ (m : ℕ). IsBeforeFrom c number man a m) (sym e) (is_before c number q at man a k fits h lands)
   fit_before n (inr s) =
@@ -58,31 +58,31 @@ module _ (c : Class) (number y : ℕ) (q : Position) (at : position_numbered c n
       let d = told_decoded c number q at in
       AreApart-position q row_men d.valid (subst (λ (zs : List Man). IsPermutation zs q.men) (sym told.0) (told_of c number q d).same_men)
 
-  -- the last man can have led to the position from where it can have come
+  -- the last man can have led to the position from its possible origins
   pub last_led : same_side last.side (other_side side) ≡ true → (a : ℕ) → a < 64 → came_from row_men side (on_square last y) a ≡ true
       → CanHaveLed q (move_from (on_square last y) a)
   last_led his a on e = came_led c number q at row_men side told (on_square last y) (Contains-push others (on_square last y)) his a on e
 
-  -- and only from there
+  -- and only from those
   pub last_came : (a n : ℕ) → a < 64 → IsBeforeFrom c number (on_square last y) a n → (same_side last.side (other_side side) ≡ true)
       × (came_from row_men side (on_square last y) a ≡ true)
   last_came a n on b = led_came c number q at row_men side told (on_square last y) (Contains-push others (on_square last y)) a n on b
 
   module _ (man : Man) (among : Contains others man) where
-    -- one of the other men can have led to the position from where it can have come with the last man on y
+    -- one of the other men can have led to the position from its possible origins with the last man on y
     pub row_led : same_side man.side (other_side side) ≡ true → (a : ℕ) → a < 64 → (led : ℕ) → (AreApart row_men → has led y ≡ came_from row_men side man a)
         → has led y ≡ true → CanHaveLed q (move_from man a)
     row_led his a on led word e =
         came_led c number q at row_men side told man (Contains-append_left others (on_square last y ∷ []) man among) his a on (sym (word row_apart) ∙ e)
 
-    -- and only from there
+    -- and only from those
     pub row_came : (a n : ℕ) → a < 64 → IsBeforeFrom c number man a n → (same_side man.side (other_side side) ≡ true)
         × (came_from row_men side man a ≡ true) × (comes others man a ≡ true)
     row_came a n on b =
         let h = led_came c number q at row_men side told man (Contains-append_left others (on_square last y ∷ []) man among) a n on b in
         (h.0, h.1, came_less others last y side man a h.1)
 
--- ---- where a double step leads
+-- ---- the targets of double steps
 
 same_bool : Bool → Bool → Bool
 same_bool true b = b
@@ -106,7 +106,7 @@ on_double_step_rank s y l =
     by_test false true e = absurd (false≢true e)
     by_test false false e = refl
 
--- a pawn has come to another square than one of those by a step
+-- a pawn that came to any other square came by a step
 no_double : (side : Side) (men : List Man) (y a : ℕ) → (rank_of y == double_step_rank side) ≡ false → pawn_comes men side y a ≡ true
     → (ranks_apart a y == 2) ≡ false
 unfolding pawn_comes
@@ -149,7 +149,7 @@ pawn_plainly c last y pawn off men a e =
     let e' : pawn_comes men last.side y a ≡ true = rw pawn at e in
     inr (no_double last.side men y a off e')
 
--- where the last man comes plainly, its last move has left no capture in passing
+-- if the last man comes plainly, its last move has left no capture in passing
 pub came_plainly : (c : Class) (last : Man) (y : ℕ) → ComesPlainly c last y → (others : List Man) (side : Side) (a : ℕ)
     → came_from (others ++ on_square last y ∷ []) side (on_square last y) a ≡ true → PassesNone c a y
 came_plainly c last y plainly others side a e = plainly (others ++ on_square last y ∷ []) a (and_parts _ _ e).0

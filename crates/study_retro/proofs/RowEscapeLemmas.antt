@@ -72,7 +72,7 @@ module _ (all : ℕ) (Yes Not : ℕ → Type 0) where
 
   module _ (rest next : ℕ) (left : AreLeft all rest next) (kept : ℕ) (h : AreKeptBelow next kept) where
     module _ (t : ℕ) (f : IsFirst rest t) where
-      -- the first of those left is kept
+      -- the first of the remaining squares is kept
       pub kept-with : (one more : ℕ) → ((x : ℕ) → x < 64 → has one x ≡ (t == x)) → ((x : ℕ) → has more x ≡ (has kept x || has one x)) → Yes t
           → AreKeptBelow (t + 1) more
       kept-with one more single union here = record {
@@ -139,7 +139,7 @@ module _ (c : Class) (number : ℕ) (q : Position) (at : position_numbered c num
     go_won = safe_won c number q at plain the_men the_side (refl, refl) man go.among go.own x on go.safe go.free stays held laws cells k fits
         (inl passes)
 
--- ---- of those that may lose, those from which the man goes are left where it loses
+-- ---- of the squares that may lose, those from which the man goes stay exactly if it loses
 
 module _ (losing going lost less new : ℕ) (less-is : (x : ℕ) → x < 64 → has less x ≡ (has losing x && not (has going x)))
     (new-is : (x : ℕ) → has new x ≡ (has less x || has lost x)) where
@@ -166,7 +166,7 @@ module _ (losing going lost less new : ℕ) (less-is : (x : ℕ) → x < 64 → 
 
 module _ (c : Class) (number y : ℕ) (q : Position) (at : position_numbered c number ≡ Some q) (plain : number < 16777216) (others : List Man) (last : Man)
     (side : Side) (told : AreTold c number (others ++ on_square last y ∷ []) side) where
-  -- where the quiet moves of the other men lose, and those of the last, all do
+  -- if the quiet moves of the other men lose, and those of the last, all do
   pub row_lose : (g : Numbered Position) (cells : List ℕ) (k : ℕ) → ((m : Man) → Contains others m → QuietMovesLoseBy g cells k q m)
       → QuietMovesLoseBy g cells k q (on_square last y) → QuietMovesLose g cells k q
   row_lose g cells k each final =
@@ -181,7 +181,7 @@ module _ (c : Class) (number y : ℕ) (q : Position) (at : position_numbered c n
   abbrev men : List Man
   men = others ++ on_square last y ∷ []
 
-  -- one of the other men goes where it is safe with the last man on y
+  -- one of the other men goes to its safe targets with the last man on y
   pub row_can : same_side man.side side ≡ true → (x set : ℕ)
       → (AreApart men → has set y ≡ (is_safe_target men side man x && not (is_occupied men x))) → has set y ≡ true → CanGo c number man x
   row_can his x set word e =
@@ -198,7 +198,7 @@ module _ (c : Class) (number y : ℕ) (q : Position) (at : position_numbered c n
       negated false e = refl
       negated true e = absurd (false≢true e)
 
-  -- and where a quiet move of it goes it is safe
+  -- and the targets of its quiet moves are safe
   module _ (x : ℕ) (legal : is_legal q (move_to man x) ≡ true) (quiet : IsQuiet q (move_to man x)) where
     pub row_goes : (x < 64) × (same_side man.side side ≡ true) × (goes_quietly others man x ≡ true)
         × ((set : ℕ) → (AreApart men → has set y ≡ (is_safe_target men side man x && not (is_occupied men x))) → has set y ≡ true)
@@ -221,7 +221,7 @@ module _ (c : Class) (number y : ℕ) (q : Position) (at : position_numbered c n
   abbrev all_men : List Man
   all_men = others ++ on_square last y ∷ []
 
-  -- the last man goes where it is safe
+  -- the last man goes to its safe targets
   pub last_can : same_side last.side side ≡ true → (x : ℕ) → goes_beside others last side y x ≡ true → CanGo c number (on_square last y) x
   last_can his x e =
       let both = and_parts (is_safe_target all_men side (on_square last y) x) (not (is_occupied all_men x)) e in

@@ -1,4 +1,4 @@
--- What stands between two squares of a step.
+-- The squares between two squares of a step.
 use Rattle.std.proofs.Common.{◌≡◌, ℕ, ◌+◌, ◌<◌, ◌≤◌, ◌==◌, Bool, true, false, ◌&&◌, ◌||◌, ◌⊎◌, inl, inr, refl, sym, ◌∙◌, arith, nat_le, nat_lt}
 use borrow.Author.Tests.{ltb-true}
 use Rattle.std.proofs.lemmas.Bool.{and_from, and_parts, eq-eqb, eqb-true, false≢true, leb-true, lt-ltb, or_cases, or_right}
@@ -82,7 +82,7 @@ none_on_jump a y x e = none_if _ (λ s. elim (or_cases _ _ e) [
         → (m ≡ 0 → ⊥) → (n ≡ 0 → ⊥) → (m ≡ n → ⊥) → ⊥
     askew m n s p q u v w = none_askew _ _ _ _ _ _ (on_way a y x s) (λ k. u (sym p ∙ k)) (λ k. v (sym q ∙ k)) (λ k. w (sym p ∙ k ∙ q))
 
--- x is n ranks ahead of a, as some side's pawns go
+-- x is n ranks ahead of a, in the direction of some side's pawns
 abbrev IsAhead : ℕ → ℕ → ℕ → Type 0
 IsAhead n a x = (file_of x ≡ file_of a) × ((rank_of x ≡ rank_of a + n) ⊎ (rank_of x + n ≡ rank_of a))
 

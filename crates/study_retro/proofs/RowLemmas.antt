@@ -1,4 +1,4 @@
--- Numbers of a row tell the same men but for the last one; on most squares of that one the men are still.
+-- Numbers of a row encode the same men except for the last one; on most squares of that one the men are still.
 use Rattle.std.proofs.Common.{◌≡◌, ℕ, ◌+◌, ◌*◌, ◌/◌, ◌%◌, ◌<◌, ◌==◌, Bool, true, false, not, ◌&&◌, ◌||◌, inl, inr, List, [], ◌∷◌, ◌++◌}
 use Rattle.std.proofs.Common.{Some, refl, sym, ◌∙◌, ap, subst, arith}
 use Rattle.std.specs.List.{All, list_any}
@@ -33,7 +33,7 @@ use Rattle.study_retro.specs.Still.{AreStill, AreStillOrNone, IsStill, facing, i
 use Rattle.study_retro.proofs.BackLemmas.{side_is}
 use Rattle.study_retro.proofs.StillChess.{no_capture_of_king, stays_quiet}
 
--- ---- on what a man bears where further men stand
+-- ---- the squares on which a man bears with further men on the board
 
 open_line : (p o b b' : Bool) → (b ≡ true → b' ≡ true) → (p && (o && not b)) ≡ false → (p && (o && not b')) ≡ false
 open_line false o b b' f e = refl
@@ -66,7 +66,7 @@ blocked_any men a x e = absurd (false≢true e)
 pub bears_alone : (men : List Man) (m : Man) (x : ℕ) → bears_on [] m x ≡ false → bears_on men m x ≡ false
 bears_alone men m x e = by_kind (not (m.at == x)) [] men m.side m.kind m.at x (blocked_any men m.at x) e
 
--- no man is in the way of one that goes along no lines
+-- no man is in the way of one that does not move along lines
 reach_stepping : (men : List Man) (side : Side) (kind : Kind) (a x : ℕ) → is_slider kind ≡ false → reaches [] side kind a x ≡ reaches men side kind a x
 unfolding reaches
 reach_stepping men side King a x e = refl
@@ -95,7 +95,7 @@ faces : (man : Man) (x y : ℕ) → bears_on [] (facing man x) y ≡ bears_on []
 faces man x y =
     rw (same_squares x y, open_reach (other_side man.side) man.kind x y, open_reach man.side man.kind y x, reaches-both false man.side man.kind y x) refl
 
--- a man that does not come between leaves a man bearing on the square
+-- a man bears on the square whether or not a man that is not in between is there
 blocked_same : (others : List Man) (l : Man) (a x : ℕ) → strictly_between a l.at x ≡ false → is_blocked (others ++ l ∷ []) a x ≡ is_blocked others a x
 unfolding is_blocked
 blocked_same others l a x e = list_any-append (λ m. strictly_between a m.at x) others (l ∷ []) ∙ rw e (or_none _)
@@ -171,7 +171,7 @@ module _ (others : List Man) (last : Man) (side : Side) (ours theirs y : ℕ)
   abbrev pub men : List Man
   men = others ++ l ∷ []
 
-  -- without the last man none bears on the square, nor does the last one
+  -- without the last man no man bears on the square, nor does the last one
   clear : (s : Side) (set : ℕ) → ((x : ℕ) → x < 64 → has set x ≡ is_attacked others s x) → (x : ℕ) → x < 64 → has set x ≡ false
       → (same_side l.side s && bears_on men l x) ≡ false → is_attacked men s x ≡ false
   unfolding is_attacked

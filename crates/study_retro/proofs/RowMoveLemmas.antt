@@ -1,4 +1,4 @@
--- Where the men of a row come from and where they go, by the square of the man of the last slot.
+-- The origins and targets of the men of a row, by the square of the man of the last slot.
 use Rattle.std.proofs.Common.{◌≡◌, ℕ, ◌+◌, ◌<◌, ◌≤◌, ◌==◌, Bool, true, false, cond, not, ◌&&◌, ◌||◌}
 use Rattle.std.proofs.Common.{inl, inr, List, [], ◌∷◌, ◌++◌, map, None, refl, sym, ◌∙◌, ap, subst, arith}
 use Rattle.std.specs.Prelude.{count_by}
@@ -119,7 +119,7 @@ letting_go false c true hs u false i f g = rw (f refl, g refl) (alone (not c))
     alone false = refl
 letting_go false c false hs u o i f g = absurd (false≢true i)
 
--- ---- tests where the last man itself goes: it is not in its own way
+-- ---- tests if the last man itself goes: it is not in its own way
 
 and_true : (b : Bool) → (b && true) ≡ b
 and_true true = refl
@@ -147,7 +147,7 @@ letting_own_go false hs u o c f g = refl
 letting_own_go true hs u true c f g = sym (and_false ((true && not hs) && not u))
 letting_own_go true hs u false c f g = rw (f refl, g refl) (sym (and_true (not c)))
 
--- ---- where men go in one step nothing is between
+-- ---- for men that go in one step, no square is between
 
 none_if_bears : (men : List Man) (p : Bool) (side : Side) (kind : Kind) (a y x : ℕ) → is_slider kind ≡ false → same_kind kind Pawn ≡ false
     → (p && reaches men side kind a x) ≡ true → strictly_between a y x ≡ false
@@ -186,7 +186,7 @@ elsewhere_ahead White a x n some e = false_from_ne_true _ (λ k.
 elsewhere_ahead Black a x n some e = false_from_ne_true _ (λ k.
     let r = eqb-true _ _ (and_parts (file_of x == file_of a) (rank_of x + n == rank_of a) e).1 in some (omega (arith, r, ap rank_of (eqb-true a x k))))
 
--- whence a pawn comes, and another man
+-- the origins of a pawn, with another man
 comes_as_pawn : (men : List Man) (man : Man) (a : ℕ) → is_pawn man ≡ true → comes men man a
     ≡ (((is_ahead man.side 1 a man.at && not (rank_of a == first_rank man.side))
     || ((rank_of a == starting_rank man.side) && is_ahead man.side 2 a man.at && is_empty men (half_way a man.at))) && is_empty men a)
@@ -290,7 +290,7 @@ module _ (others : List Man) (last : Man) (y : ℕ) where
   empty_there : (x : ℕ) → is_empty men x ≡ (is_empty others x && not (x == y))
   empty_there x = empty_with x ∙ ap (λ (b : Bool). is_empty others x && not b) (eqb-both y x)
 
-  -- on what empty squares a man that is no pawn bears
+  -- the empty squares on which a man that is not a pawn bears
   bears_where : (man : Man) (x : ℕ) → is_pawn man ≡ false → (bears_on others man x && is_empty others x) ≡ true
       → (bears_on men man x && is_empty men x) ≡ not (hinders man.at x y)
   bears_where man x p e =
@@ -303,7 +303,7 @@ module _ (others : List Man) (last : Man) (y : ℕ) where
       piece_less (bears_on others man x) (is_empty others x) (is_slider man.kind && strictly_between man.at y x) (x == y)
       (bears_on men man x) (is_empty men x) (bears_men others last y man x) (empty_there x) e
 
-  -- the last man hinders a man to come where it stands in between or on the square, and else does not
+  -- the last man hinders the coming of a man if it stands in between or on the square, and otherwise does not
   pub comes_with : (man : Man) (a : ℕ) → comes others man a ≡ true → comes men man a ≡ not (hinders man.at a y)
   comes_with man a e = elim (cases_Bool (is_pawn man)) [
     | inl p ↦
@@ -317,7 +317,7 @@ module _ (others : List Man) (last : Man) (y : ℕ) where
     | inr p ↦ comes_as_piece men man a p ∙ bears_where man a p (sym (comes_as_piece others man a p) ∙ e)
   ]
 
-  -- where a man comes with the last man on the board, it comes without
+  -- if a man comes with the last man on the board, it comes without it
   pub comes_less : (man : Man) (a : ℕ) → comes men man a ≡ true → comes others man a ≡ true
   comes_less man a e = elim (cases_Bool (is_pawn man)) [
     | inl p ↦
@@ -329,7 +329,7 @@ module _ (others : List Man) (last : Man) (y : ℕ) where
     | inr p ↦ comes_as_piece others man a p ∙ bears_less man a (sym (comes_as_piece men man a p) ∙ e)
   ]
 
-  -- the same of where a man goes
+  -- the same for going
   pub goes_with : (man : Man) (x : ℕ) → goes_quietly others man x ≡ true → goes_quietly men man x ≡ not (hinders man.at x y)
   goes_with man x e = elim (cases_Bool (is_pawn man)) [
     | inl p ↦
@@ -409,7 +409,7 @@ module _ (others : List Man) (last : Man) (y : ℕ) where
     check_with : (side : Side) → in_check (map (from_to man.at a) men) side ≡ in_check (map (from_to man.at a) others ++ l ∷ []) side
     check_with side = ap (λ (ms : List Man). in_check ms side) moved_with
 
-    -- on which squares of the last man the man can have come from a square
+    -- the squares of the last man with which the man can have come from a square
     pub led_with : (side : Side) → same_side man.side (other_side side) ≡ true → comes others man a ≡ true
         → lets_pass others last side man.at a y ≡ came_from men side man a
     led_with side his e =
@@ -417,7 +417,7 @@ module _ (others : List Man) (last : Man) (y : ℕ) where
         (comes_with man a e)
         (λ k. check_before man a among_men apart side his (free_if_comes men man a k) ∙ check_with side)
 
-    -- and on which it can go to a square where no man stands
+    -- and with which it can go to an empty square
     pub going_with : (side : Side) → same_side man.side side ≡ true → goes_quietly others man a ≡ true
         → lets_pass others last side man.at a y ≡ (is_safe_target men side man a && not (is_occupied men a))
     unfolding is_safe_target
@@ -487,7 +487,7 @@ module _ (others : List Man) (last : Man) (y : ℕ) where
     check_itself : in_check (map (from_to y a) men) side ≡ has check a
     check_itself = ap (λ (ms : List Man). in_check ms side) moved_itself ∙ sym (tells a on)
 
-    -- whence it can have come, and where it can go, taking no man
+    -- its possible origins, and its targets without a capture
     pub led_itself : same_side last.side (other_side side) ≡ true → (comes others l a && not (has check a)) ≡ came_from men side l a
     led_itself his =
         ap (λ (b : Bool). b && not (has check a)) (sym (comes_itself a))

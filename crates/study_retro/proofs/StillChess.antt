@@ -1,4 +1,4 @@
--- Where nothing is attacked and no pawn is about to promote, each move is quiet.
+-- If nothing is attacked and no pawn is about to promote, each move is quiet.
 use Rattle.std.proofs.Common.{◌≡◌, ℕ, zero, suc, ◌<◌, ◌==◌, inl, inr, arith, Bool, true, false, not, ◌&&◌, List, [], ◌∷◌, length, get_or, Contains}
 use Rattle.std.proofs.Common.{Option, Some, None, refl, sym, ◌∙◌, ap, subst}
 use Rattle.std.specs.List.{list_any}
@@ -107,7 +107,7 @@ pub not_true : (b : Bool) → not b ≡ true → b ≡ false
 not_true false e = refl
 not_true true e = absurd (false≢true e)
 
--- a man that bears on none of the other side takes none
+-- a man that bears on no man of the other side captures none
 module _ (men : List Man) (side : Side) (man : Man) (ours : ℕ) (word : (x : ℕ) → x < 64 → has ours x ≡ bears_on men man x) where
   pub takes_none : list_any (λ m. same_side m.side (other_side side) && has ours m.at) men ≡ false → (o : Man) → Contains men o → o.at < 64
       → is_safe_target men side man o.at ≡ true → ⊥
@@ -154,7 +154,7 @@ stays_quiet c number q at low men side told takes promotes = quiet
             let plain = target_plain men side promotes man (among-of men man among) his m.target goes.0 in
             (sym (occupied_same c number q at low men side told m.target) ∙ free, unpromoted (reaches_last_rank man m.target) m.promoted plain choice)
 
--- ---- words of squares
+-- ---- sets of squares
 
 pub attacked_is : (men : List Man) (side : Side) (x : ℕ) → list_any (λ m. same_side m.side side && bears_on men m x) men ≡ is_attacked men side x
 unfolding is_attacked
@@ -169,7 +169,7 @@ any_alike : (p r : Man → Bool) (xs : List Man) → ((m : Man) → IsAmong m xs
 any_alike p r [] h = refl
 any_alike p r (x ∷ xs) h = rw (h x (inl refl), any_alike p r xs (λ m i. h m (inr i)))
 
--- what the men told tell of the position
+-- the encoded men determine the position
 module _ (c : Class) (number : ℕ) (q : Position) (at : position_numbered c number ≡ Some q) (men : List Man) (side : Side)
     (told : AreTold c number men side) where
   told_men_are : IsPermutation men q.men
@@ -183,13 +183,13 @@ module _ (c : Class) (number : ℕ) (q : Position) (at : position_numbered c num
   faultless : IsFaultless q.men q.to_move q.passed
   faultless = IsFaultless-from_first q.men q.to_move q.passed (told_decoded c number q at).valid.faultless
 
-  -- a word of the squares on which the men of a side bear
+  -- a set of the squares on which the men of a side bear
   module _ (by : Side) (set : ℕ) (word : (x : ℕ) → x < 64 → has set x ≡ is_attacked men by x) where
     pub by_word : (p : Man → Bool) → list_any (λ m. p m && has set m.at) men ≡ list_any (λ m. p m && is_attacked men by m.at) men
     by_word p = any_alike (λ m. p m && has set m.at) (λ m. p m && is_attacked men by m.at) men
         (λ m i. ap (λ (b : Bool). p m && b) (word m.at (on_board m i)))
 
-    -- whether a king of the other side is on it tells whether that side is in check
+    -- the side is in check exactly if a king of it is on the set
     pub check_by_word : (s : Side) → by ≡ other_side s → list_any (λ m. is_man s King m && has set m.at) men ≡ in_check q.men s
     unfolding in_check
     check_by_word s o =
@@ -197,7 +197,7 @@ module _ (c : Class) (number : ℕ) (q : Position) (at : position_numbered c num
         ∙ ap (λ (t : Side). list_any (λ m. is_man s King m && is_attacked men t m.at) men) o
         ∙ in_check_same men q.men told_men_are s
 
-  -- where the side to move bears on the other king there is no position
+  -- if the side to move bears on the other king the position is not valid
   pub no_capture_of_king : in_check q.men (other_side side) ≡ true → ⊥
   no_capture_of_king e =
       false≢true (sym faultless.safe ∙ ap (λ (t : Side). in_check q.men (other_side t)) (sym (side_is c number q at men side told)) ∙ e)
@@ -230,7 +230,7 @@ still_held c held number laws outer still = by_position (position_numbered c num
 -- ---- the legal moves by the men of the position
 
 module _ (c : Class) (number : ℕ) (q : Position) (at : position_numbered c number ≡ Some q) (dead : has_legal_en_passant q ≡ false) where
-  -- the men of the position tell its legal moves
+  -- the men of the position determine its legal moves
   pub own_targets : HasSafeTargets q q.men
   own_targets =
       let d = told_decoded c number q at in

@@ -72,7 +72,7 @@ taker p x v e =
     by_ways man n (inr (inl d)) = absurd (straight man.at n d.file)
     by_ways man n (inr (inr c)) = c
 
--- so a pawn of each side stand beside one another
+-- so the pawns of both sides stand side by side
 pub record AreAbreast (p : Position) : Type 0 where
   pub white : ℕ
   pub black : ℕ
@@ -158,7 +158,7 @@ HasTwin-from c n p at =
     by_live true e l = (refl, omega (arith, e))
     by_live false e l = absurd (omega (arith, e, l))
 
--- where a class has pawns of one side alone, or the pawns that the number encodes are not beside one another, there is none
+-- if only one side of a class has pawns, or the pawns that the number encodes are not side by side, there is none
 pub single_twinless : (c : Class) (n : ℕ) → has_both_pawns (lists_of c) ≡ false → IsTwinless c n
 single_twinless c n single p at =
     let t = HasTwin-from c n p at in
@@ -184,7 +184,7 @@ apart_twinless c n none p at =
     (subst (λ (x : ℕ). 3 ≤ rank_of x) (sym w) a.low)
     (subst (λ (x : ℕ). rank_of x ≤ 4) (sym w) a.high)
 
--- a position of the class has no legal capture in passing where none with its men has
+-- a position of the class has no legal capture in passing if no position with its men has one
 pub dead_twinless : (c : Class) (p : Position) → IsValid p → IsOf c p → (n : ℕ) → index_of (without_passed p) ≡ n → IsTwinless c n → has_legal_en_passant p ≡ false
 unfolding index_of least_number
 dead_twinless c p v o n is none = by_live (has_legal_en_passant p) refl

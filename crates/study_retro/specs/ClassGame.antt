@@ -14,7 +14,7 @@ use Rattle.study_table.specs.Game.{value_in}
 use Rattle.study_table.specs.Table.{Table}
 use Rattle.study_levels.specs.Numbered.{Numbered}
 
--- the positions of the class, and those of the classes that it needs, whose values the held tables tell
+-- the positions of the class, and those of the classes that it needs, whose values are in the loaded tables
 abbrev pub class_game : Class → List (Option Table) → Numbered Position
 class_game c held = record {
   legal = λ p m. is_legal p m ≡ true;

@@ -14,7 +14,7 @@ use Rattle.study_index.specs.Decoded.{slots_of, told_men, told_side}
 use Rattle.study_index.specs.Computed.{position_numbered}
 use Rattle.study_values.specs.Index.{index_of}
 
--- the move leads from a position without a passed square to the number's, and n is the number of that position, or of the one with the
+-- the move leads from a position without a passed square to the position of the number, and n is the number of that position, or of the position with the
 -- same men in which a capture in passing is legal
 pub record IsNumberBefore (c : Class) (q : Position) (number : ℕ) (m : Move) (n : ℕ) : Type 0 where
   pub from : Position
@@ -22,7 +22,7 @@ pub record IsNumberBefore (c : Class) (q : Position) (number : ℕ) (m : Move) (
   pub lands : index_of (after from m) ≡ number
   pub is : (n ≡ index_of from) ⊎ (n ≡ index_of from + 16777216) × ((p : Position) × (position_numbered c n ≡ Some p))
 
--- n is the number of the one position without a passed square from which the move leads to the number's
+-- n is the number of the one position without a passed square from which the move leads to the position of the number
 pub record IsPlainNumber (q : Position) (number : ℕ) (m : Move) (n : ℕ) : Type 0 where
   pub from : Position
   pub leads : LeadsQuietly from m q
@@ -34,7 +34,7 @@ pub record ComesBefore (c : Class) (q : Position) (number n : ℕ) : Type 0 wher
   pub by : Move
   pub is : IsNumberBefore c q number by n
 
--- one side alone of the class has pawns, or the move goes over other than two ranks: so it leaves no capture in passing
+-- only one side of the class has pawns, or the move is not across two ranks: so it leaves no capture in passing
 abbrev pub PassesNone : Class → ℕ → ℕ → Type 0
 PassesNone c a x = (has_both_pawns (lists_of c) ≡ false) ⊎ ((ranks_apart a x == 2) ≡ false)
 
@@ -42,7 +42,7 @@ PassesNone c a x = (has_both_pawns (lists_of c) ≡ false) ⊎ ((ranks_apart a x
 abbrev pub IsTwinless : Class → ℕ → Type 0
 IsTwinless c n = (p : Position) → position_numbered c (n + 16777216) ≡ Some p → ⊥
 
--- so that a quiet move after which the number is n leaves none
+-- so a quiet move after which the number is n leaves no capture in passing
 abbrev pub LeavesNone : Class → ℕ → ℕ → ℕ → Type 0
 LeavesNone c a x n = PassesNone c a x ⊎ IsTwinless c n
 
@@ -50,13 +50,13 @@ LeavesNone c a x n = PassesNone c a x ⊎ IsTwinless c n
 abbrev pub AreTold : Class → ℕ → List Man → Side → Type 0
 AreTold c number men side = (men ≡ told_men (slots_of c) (without_bit number)) × (side ≡ told_side (slots_of c) (without_bit number))
 
--- n is the number of a position from which a quiet move of the man, from a, leads to the number's
+-- n is the number of a position from which a quiet move of the man, from a, leads to the position of the number
 pub record IsBeforeFrom (c : Class) (number : ℕ) (man : Man) (a n : ℕ) : Type 0 where
   pub to : Position
   pub at : position_numbered c number ≡ Some to
   pub before : IsNumberBefore c to number (move_from man a) n
 
--- the same, from some square; and of some man
+-- `IsBeforeFrom` from some square; and for some man
 abbrev pub IsBeforeBy : Class → ℕ → Man → ℕ → Type 0
 IsBeforeBy c number man n = (a : ℕ) × (a < 64) × IsBeforeFrom c number man a n
 

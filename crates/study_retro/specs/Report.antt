@@ -14,18 +14,18 @@ loss_of (Win n) = None
 loss_of (Loss n) = Some n
 loss_of Draw = None
 
--- some cell has a distance, by a way to read distances off values
+-- some cell has a distance, as `distance` reads distances off values
 pub record Tells (distance : Value → Option ℕ) (cells : List ℕ) (n : ℕ) : Type 0 where
   pub cell : ℕ
   pub inside : cell < length cells
   pub is : distance (value_of (slice_index cells cell)) ≡ Some n
 
--- the greatest distance of the cells, None where no cell has one
+-- the greatest distance of the cells, None if no cell has one
 abbrev pub IsGreatest : (Value → Option ℕ) → List ℕ → Option ℕ → Type 0
 IsGreatest distance cells None = (n : ℕ) → Tells distance cells n → ⊥
 IsGreatest distance cells (Some n) = Tells distance cells n × ((m : ℕ) → Tells distance cells m → m ≤ n)
 
--- the greater of two distances, of those that there are
+-- the greater of two optional distances, or the only one
 abbrev pub greater : Option ℕ → Option ℕ → Option ℕ
 greater None b = b
 greater (Some m) None = Some m

@@ -1,4 +1,4 @@
--- Not part of any public contract: what comes before some of a row of numbers, 64 of them, one for each square of the last man.
+-- Not part of any public contract: the positions before those of a row of numbers: 64 numbers, one for each square of the last man.
 use Rattle.std.specs.Prelude.{◌≡◌, ℕ, ◌+◌, ◌*◌, ◌<◌, ◌⊎◌, true, List, [], ◌∷◌, ◌++◌, Some}
 use Rattle.study_board.specs.declared.men.Side.{Side}
 use Rattle.study_board.specs.declared.men.Side.TheVariants.{White, Black}
@@ -11,11 +11,11 @@ use Rattle.study_index.specs.Computed.{position_numbered}
 use Rattle.study_retro.specs.Predecessors.{IsBeforeBy, IsBeforeFrom, PassesNone}
 use Rattle.study_retro.specs.Still.{on_square}
 
--- n is the number, or that of the position with the same men in which a capture in passing is legal
+-- n is the number, or the number of the position with the same men in which a capture in passing is legal
 abbrev pub IsItOrTwin : Class → ℕ → ℕ → Type 0
 IsItOrTwin c number n = (n ≡ number) ⊎ (n ≡ number + 16777216) × ((p : Position) × (position_numbered c n ≡ Some p))
 
--- the same of one of the numbers of the row whose squares are in the set
+-- n is one of the numbers of the row whose squares are in the set, or of the positions with the same men in which a capture in passing is legal
 abbrev pub IsInRowOrTwin : Class → ℕ → ℕ → ℕ → Type 0
 IsInRowOrTwin c row set n = (y : ℕ) × (y < 64) × (has set y ≡ true) × IsItOrTwin c (64 * row + y) n
 
@@ -34,7 +34,7 @@ abbrev pub double_step_rank : Side → ℕ
 double_step_rank White = 3
 double_step_rank Black = 4
 
--- no move by which the man comes to y, beside any others, leaves a capture in passing
+-- no move by which the man comes to y, whatever the other men, leaves a capture in passing
 abbrev pub ComesPlainly : Class → Man → ℕ → Type 0
 ComesPlainly c last y = (men : List Man) (a : ℕ) → comes men (on_square last y) a ≡ true → PassesNone c a y
 

@@ -6,7 +6,7 @@ use Rattle.study_material.specs.declared.class.Class.{Class}
 use Rattle.study_index.specs.Computed.{position_numbered}
 use Rattle.study_retro.specs.Predecessors.{IsBefore}
 
--- the numbers of a row whose squares are in the set stand for positions: 64 numbers, one for each square
+-- the numbers of a row whose squares are in the set have positions: a row is 64 numbers, one for each square
 abbrev pub AreNumbered : Class → ℕ → ℕ → Type 0
 AreNumbered class row set = (y : ℕ) → y < 64 → has set y ≡ true → (q : Position) × (position_numbered class (64 * row + y) ≡ Some q)
 

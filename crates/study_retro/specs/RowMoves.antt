@@ -1,4 +1,4 @@
--- Not part of any public contract: what the men of a row are attacked by and where they go, by the square of the man of the last slot.
+-- Not part of any public contract: the attacks on the men of a row and their moves, by the square of the man of the last slot.
 use Rattle.std.specs.Prelude.{◌≡◌, ℕ, ◌<◌, ◌≤◌, Bool, not, ◌&&◌, ◌||◌, ◌==◌, List, [], ◌∷◌, ◌++◌, Option, None, IfSome, if◌then◌else◌, map, count_by}
 use Rattle.std.specs.List.{list_any}
 use Rattle.study_board.specs.declared.men.Side.{Side}
@@ -13,11 +13,11 @@ use Rattle.study_index.specs.Moved.{from_to}
 use Rattle.study_retro.specs.declared.row_checks.Bearer.{Bearer}
 use Rattle.study_retro.specs.Still.{facing, on_square}
 
--- the man bears on x where a further man stands on y
+-- the man bears on x with a further man on y
 abbrev pub bears_with : List Man → ℕ → Man → ℕ → Bool
 bears_with others y m x = bears_on others m x && not (is_slider m.kind && strictly_between m.at y x)
 
--- the king of the side is attacked where the last man stands on y
+-- the king of the side is attacked with the last man on y
 abbrev pub king_attacked_with : List Man → Man → Side → ℕ → Man → Bool
 king_attacked_with others last side y k = is_man side King k
     && (list_any (λ m. same_side m.side (other_side side) && bears_with others y m k.at) others
@@ -27,12 +27,12 @@ king_attacked_with others last side y k = is_man side King k
 abbrev pub AreApart : List Man → Type 0
 AreApart men = (x : ℕ) → count_by (λ m. m.at == x) men ≤ 1
 
--- a pawn goes from a to x, where no man stands, by a step or a double step
+-- a pawn goes from a to the empty square x, by a step or a double step
 abbrev pub pawn_goes : List Man → Side → ℕ → ℕ → Bool
 pawn_goes men side a x =
     (is_ahead side 1 a x || ((rank_of a == starting_rank side) && is_ahead side 2 a x && is_empty men (half_way a x))) && is_empty men x
 
--- the man goes to x, where no man stands
+-- the man goes to the empty square x
 abbrev pub goes_quietly : List Man → Man → ℕ → Bool
 goes_quietly men man x = reaches_target men None man x && not (is_occupied men x)
 
@@ -40,24 +40,24 @@ goes_quietly men man x = reaches_target men None man x && not (is_occupied men x
 abbrev pub hinders : ℕ → ℕ → ℕ → Bool
 hinders from to y = strictly_between from y to || (to == y)
 
--- where the last man stands on y, it is not in the way, and no king of the side is attacked with the man of the first square on the second
+-- the last man on y is not in the way, and no king of the side is attacked after the man has gone from the first square to the second
 abbrev pub lets_pass : List Man → Man → Side → ℕ → ℕ → ℕ → Bool
 lets_pass others last side from to y = not (hinders from to y || in_check (map (from_to from to) others ++ on_square last y ∷ []) side)
 
--- with the last man on y some man of the side, of the others or the last, bears on x
+-- with the last man on y some man of the side, the last or another, bears on x
 abbrev pub attacked_with_last : List Man → Man → Side → ℕ → ℕ → Bool
 attacked_with_last others last side x y = list_any (λ m. same_side m.side side && bears_with others y m x) others
     || (same_side last.side side && bears_on others (facing last x) y)
 
--- of the others those that do not stand on the square, by what some of them is
+-- the others that do not stand on the square, by the properties that one of them has
 abbrev pub AreRest : List Man → ℕ → List Man → Type 0
 AreRest others from rest = (p : Man → Bool) → list_any p rest ≡ list_any (λ m. not (m.at == from) && p m) others
 
--- k is where the only king of the side among the men stands
+-- k is the square of the only king of the side among the men
 abbrev pub IsOnlyKing : List Man → Side → ℕ → Type 0
 IsOnlyKing men side k = (f : ℕ → Bool) → list_any (λ m. is_man side King m && f m.at) men ≡ f k
 
--- where a man on a stands after the one on the first square has gone to the second
+-- the square of a man on a after the man on the first square has gone to the second
 abbrev pub gone_to : ℕ → ℕ → ℕ → ℕ
 gone_to from to a = if a == from then to else a
 
@@ -69,13 +69,13 @@ stands_aside m x y = not (is_slider m.kind && strictly_between m.at y x)
 abbrev pub bears_past : ℕ → ℕ → ℕ → Bearer → Bool
 bears_past z x y b = has b.squares x && (stands_aside b.man x z && stands_aside b.man x y)
 
--- of the men those of the side, each with the squares on which it bears, by what some of them is that bears on a square
+-- the men of the side, each with the squares on which it bears, by the properties of the men that bear on a square
 abbrev pub AreBearers : List Man → Side → List Bearer → Type 0
 AreBearers men side bearers = (x : ℕ) → x < 64 → (p : Man → Bool)
     → list_any (λ b. has b.squares x && p b.man) bearers ≡ list_any (λ m. (same_side m.side side && bears_on men m x) && p m) men
 
--- of the others those stay where the man goes; the bearers are those of them that are not of the side, and bear on the squares of the first
--- set; and from those of the other sets the last man and the one that goes, if they are not of the side, bear on the side's only king
+-- the others that stay when the man goes; the bearers are those of them that are not of the side, and bear on the squares of the first set; and from the
+-- squares of the other two sets the last man and the moving man, if they are not of the side, bear on the side's only king
 pub record AreStaying (others : List Man) (last man : Man) (side : Side) (staying : List Man) (bearers : List Bearer) (attacked : ℕ)
     (king : Option ℕ) (checks checks_of_man : ℕ) : Type 0 where
   pub rest : AreRest others man.at staying

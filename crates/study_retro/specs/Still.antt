@@ -1,4 +1,4 @@
--- Not part of any public contract: the quiet moves of a position, and what they lead to.
+-- Not part of any public contract: the quiet moves of a position, and their results.
 use Rattle.std.specs.Prelude.{◌≡◌, ℕ, ◌≤◌, Bool, true, false, not, ◌&&◌, ◌||◌, ◌==◌, ◌⊎◌, if◌then◌else◌, List, [], ◌∷◌, None, Some}
 use Rattle.std.specs.List.{list_any}
 use Rattle.study_board.specs.declared.men.Side.{Side}
@@ -35,11 +35,11 @@ IsStill q = (IsMate q → ⊥) × HasOnlyQuiet q
 abbrev pub move_to : Man → ℕ → Move
 move_to man x = record { origin = man.at; target = x; promoted = None }
 
--- the same with a promotion
+-- the move of the man to x with a promotion
 abbrev pub promotion_to : Man → ℕ → Kind → Move
 promotion_to man x kind = record { origin = man.at; target = x; promoted = Some kind }
 
--- its four promotions on x
+-- the four promotions of the man on x
 abbrev pub promotions_to : Man → ℕ → List Move
 promotions_to man x = promotion_to man x Queen ∷ promotion_to man x Rook ∷ promotion_to man x Bishop ∷ promotion_to man x Knight ∷ []
 
@@ -47,7 +47,7 @@ promotions_to man x = promotion_to man x Queen ∷ promotion_to man x Rook ∷ p
 abbrev pub is_about_to_promote : Man → Bool
 is_about_to_promote man = is_pawn man && (rank_of man.at == rank_before_last man.side)
 
--- the man can go to x where no capture in passing is legal, and does not promote there
+-- the man can go to x if no capture in passing is legal, and does not promote there
 abbrev pub GoesPlainly : Position → Man → ℕ → Type 0
 GoesPlainly q man x = (is_safe_target q.men q.to_move man x ≡ true) × (reaches_last_rank man x ≡ false)
 
@@ -55,7 +55,7 @@ GoesPlainly q man x = (is_safe_target q.men q.to_move man x ≡ true) × (reache
 abbrev pub IsWonAfter : Numbered Position → List ℕ → ℕ → Position → Move → Type 0
 IsWonAfter g cells k q by = (m : ℕ) × (label_by g cells (after q by) ≡ Win m) × (m ≤ k)
 
--- so after each quiet move; and after each of the man
+-- the other side wins after each quiet move; and after each quiet move of the man
 abbrev pub QuietMovesLose : Numbered Position → List ℕ → ℕ → Position → Type 0
 QuietMovesLose g cells k q = (m : Move) → is_legal q m ≡ true → IsQuiet q m → IsWonAfter g cells k q m
 
@@ -63,35 +63,35 @@ abbrev pub QuietMovesLoseBy : Numbered Position → List ℕ → ℕ → Positio
 QuietMovesLoseBy g cells k q man =
     (x : ℕ) → is_legal q (move_to man x) ≡ true → IsQuiet q (move_to man x) → IsWonAfter g cells k q (move_to man x)
 
--- none of the men of the side bears on one of the other side, none of its pawns is a step from its last rank, and it is not in check
+-- no man of the side bears on a man of the other side, none of its pawns is a step from its last rank, and it is not in check
 pub record AreStill (men : List Man) (side : Side) : Type 0 where
   pub spares : list_any (λ m. same_side m.side (other_side side) && is_attacked men side m.at) men ≡ false
   pub keeps : list_any (λ m. is_man side Pawn m && (rank_of m.at == rank_before_last side)) men ≡ false
   pub safe : in_check men side ≡ false
 
--- the man on another square; and one of the other side there, which bears on a square from where the man would bear on it
+-- the man on another square; and a man of the other side there, which bears on a square exactly if the man bears on x from it
 abbrev pub on_square : Man → ℕ → Man
 on_square man x = record { side = man.side; kind = man.kind; at = x }
 
 abbrev pub facing : Man → ℕ → Man
 facing man x = record { side = other_side man.side; kind = man.kind; at = x }
 
--- where the man bears on the other one, not all is still: that is one of the other side, and the king if it is not the man's turn
+-- if the man bears on the other one, the men are not still: that one is of the other side, and is the king if it is not the man's turn
 abbrev pub matters : Man → Side → Man → Bool
 matters man side m = not (same_side m.side man.side) && (same_side man.side side || same_kind m.kind King)
 
--- on x the man promotes with its next step, if it is the man's turn; or it stands on a square of the set, on which it can be taken
+-- on x the man promotes with its next step, if it is the man's turn; or x is in the set, so that the man can be taken
 abbrev pub is_exposed : Man → Side → ℕ → ℕ → Bool
 is_exposed man side attacked x = if same_side man.side side then is_pawn man && (rank_of x == rank_before_last side) else has attacked x
 
--- a king is the last man, or a man of the side bears on another of the others, or promotes with its next step, or the side is in check
+-- the last man is a king, or a man of the side bears on another of the others, or promotes with its next step, or the side is in check
 abbrev pub is_restless : List Man → Man → Side → ℕ → ℕ → Bool
 is_restless others last side ours theirs = same_kind last.kind King
     || list_any (λ m. same_side m.side (other_side side) && has ours m.at) others
     || list_any (λ m. is_man side Pawn m && (rank_of m.at == rank_before_last side)) others
     || list_any (λ m. is_man side King m && has theirs m.at) others
 
--- the men are still, or the other king could be taken, so that they have no position
+-- the men are still, or the other king could be taken, so that they are not a valid position
 abbrev pub AreStillOrNone : List Man → Side → Type 0
 AreStillOrNone men side = AreStill men side ⊎ (in_check men (other_side side) ≡ true)
 

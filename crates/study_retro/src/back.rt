@@ -1,4 +1,4 @@
-//! Steps back from a decided position by the squares that its number encodes, where no capture in passing is legal.
+//! Steps back from a decided position by the squares that its number encodes, if no capture in passing is legal.
 ghost use Rattle.std.specs.Prelude.{◌≡◌, ◌<◌, ℕ, length, Some, Contains};
 ghost use Rattle.study_board.specs.Position.{Position as Seen};
 ghost use Rattle.study_moves.specs.Unmoves.{CanHaveLed, move_from};
@@ -15,14 +15,14 @@ use study_material::Class;
 use study_moves::origins;
 use study_values::EN_PASSANT_BIT;
 
-/// What a step back writes to a cell: over 0, and if `over`, over more than that too.
+/// The value to write to a predecessor's cell; it replaces 0, and, if `over`, also any larger value.
 #[derive(Clone, Copy)]
 pub struct Change {
     pub cell: u8,
     pub over: bool,
 }
 
-/// Sets a cell, unless it has a mate, or one as near.
+/// Sets a cell, unless it has a mate already, or, if `over`, one as near.
 #[inline]
 pub fn write_cell(cells: &mut [u8], number: u32, change: Change)
     requires number { number < length cells.old }
@@ -37,8 +37,7 @@ pub fn write_cell(cells: &mut [u8], number: u32, change: Change)
     }
 }
 
-/// Sets the cells of the positions from which a quiet move of the man from the square leads to the position of the
-/// number that it departs from, going back.
+/// Sets the cells of the positions from which a quiet move of the man, from the square, leads to the position that the departure goes back from.
 #[inline]
 pub fn write_from(
     class: Class,
@@ -68,8 +67,7 @@ pub fn write_from(
     }
 }
 
-/// Sets the cells of the positions from which a quiet move of the man leads to the position of this number, and returns how
-/// many they are.
+/// Sets the cells of the positions from which a quiet move of the man leads to the position of this number, and returns the number of these positions.
 #[inline]
 pub fn write_before_man(
     class: Class,
@@ -105,8 +103,7 @@ pub fn write_before_man(
     u64::from(all.len())
 }
 
-/// Sets the cells of the positions from which a quiet move leads to the position of this number, and returns how many they
-/// are.
+/// Sets the cells of the positions from which a quiet move leads to the position of this number, and returns the number of these positions.
 pub fn write_before(class: Class, cells: &mut [u8], number: u32, change: Change) -> u64
     requires numbered { (q : Seen) × (position_numbered class number ≡ Some q) }
     requires plain { number < 16777216 }

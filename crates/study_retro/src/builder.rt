@@ -25,18 +25,18 @@ pub enum BuildFault {
     DistanceTooLarge,
 }
 
-/// What a build came to. Distances are in plies, for either side to move; None where no position is won, or lost.
+/// The report of a build. Distances are in plies, for either side to move; None if no position is won, or lost.
 #[derive(Clone, Copy, Debug, PartialEq, Eq)]
 pub struct BuildReport {
-    /// How many cells the table has.
+    /// The number of cells in the table.
     pub cells: u32,
-    /// How many cell numbers were decoded and positions gone back to, and not more than the last number of its type.
+    /// The number of cell numbers decoded and positions gone back to, at most the last number of its type.
     pub examined: u64,
     pub deepest_win: Option<u8>,
     pub deepest_loss: Option<u8>,
 }
 
-/// Builds the table of a class from the tables of the classes that it needs. It takes no memory but the room's.
+/// Builds the table of a class from the tables of the classes that it needs. It allocates nothing beyond the room.
 pub fn build<'a, A: Allocator>(
     class: Class,
     tables: &TableSet<'a, A>,
@@ -73,7 +73,7 @@ pub fn build<'a, A: Allocator>(
     Ok((Table::from_cells(class, cells), report))
 }
 
-/// Whether the table is right, whatever its cells say, where the held tables that its class needs are.
+/// Whether the table is right, whatever its cells are, if the loaded tables that its class needs are right.
 pub fn verify<'a, A: Allocator>(table: &Table<'a, A>, tables: &TableSet<'a, A>) -> bool
     requires { IsReady tables.now table.now.class }
     ensures { NeedsAreRight tables.now table.now.class → IsTrue result ↔ IsRight table.now }

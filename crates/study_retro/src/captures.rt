@@ -16,7 +16,7 @@ use arrayvec::ArrayVec;
 use study_board::{Kind, Man, Position, Side, Square, SquareSet, attacks};
 use study_moves::{MAX_MOVES, Move, MoveList, safe_targets};
 
-/// Whether the square is in the set, and the man no pawn that reaches its last rank there.
+/// Whether the square is in the set, and the man is not a pawn that reaches its last rank there.
 #[inline]
 fn goes_plainly(safe: SquareSet, man: &Man, target: Square) -> bool
     ensures { result ≡ (has safe target && not (reaches_last_rank man.now target)) }
@@ -44,7 +44,7 @@ fn is_about_to_promote(man: &Man) -> bool
     man.kind == Kind::Pawn && man.at.rank() == rank_before_last(man.side)
 }
 
-/// Adds the captures of a man of the side to move that do not promote. Most men bear on none of the other side.
+/// Adds the captures of a man of the side to move that do not promote. Most men bear on no man of the other side.
 fn add_captures_of(at: &Position, man: &Man, list: &mut MoveList)
     requires room { array_vec_len list.old + 4 ≤ MAX_MOVES }
     requires tells { HasSafeTargets at.now at.now.men }
@@ -70,7 +70,7 @@ fn add_captures_of(at: &Position, man: &Man, list: &mut MoveList)
     }
 }
 
-/// A range of squares that has each one to which a pawn goes that is one step from its last rank.
+/// A range of squares that contains each target of a pawn one step from its last rank.
 #[inline]
 fn promotion_range(pawn: &Man) -> (u8, u8)
     requires { is_about_to_promote pawn.now ≡ true }
@@ -152,7 +152,7 @@ fn add_leaving_of(at: &Position, man: &Man, list: &mut MoveList)
     }
 }
 
-/// The captures and the promotions of the side to move, where no capture in passing is legal.
+/// The captures and the promotions of the side to move, if no capture in passing is legal.
 pub fn captures_and_promotions(at: &Position) -> MoveList
     requires { HasSafeTargets at.now at.now.men }
     ensures only { (m : AMove) → Contains result.items m → is_legal at.now m ≡ true }

@@ -1,4 +1,4 @@
-//! Chess, as the builder sees it: the positions of a class by their numbers, and the values of those that it leads to.
+//! Chess, as the builder sees it: the positions of a class by their numbers, and the values of the positions that it leads to.
 ghost use Rattle.std.specs.Prelude.{◌≡◌, true, false, IsTrue, IfSome, Some};
 ghost use Rattle.study_moves.specs.Rules.{after, is_legal};
 ghost use Rattle.study_moves.specs.Unmoves.{IsQuiet};
@@ -25,7 +25,7 @@ use study_moves::{Move, MoveList, is_mate, legal_moves, played};
 use study_table::TableSet;
 use study_values::{EN_PASSANT_BIT, Value, cells, value_at};
 
-/// A class whose needs are held.
+/// A class whose needed tables are loaded.
 #[derive(Drop)]
 pub struct ClassGame<'t, 'a, A: Allocator> {
     pub class: Class,
@@ -91,7 +91,7 @@ impl<'t, 'a, A: Allocator> Game for ClassGame<'t, 'a, A> {
     }
 }
 
-/// Whether the move takes no man and promotes none, where no capture in passing is legal.
+/// Whether the move captures no man and promotes none, if no capture in passing is legal.
 #[inline]
 fn is_quiet(at: &Position, by: &Move) -> bool
     ensures { IsTrue result → IsQuiet at.now by.now }
@@ -108,8 +108,7 @@ fn has_passed(at: &Position) -> bool
     at.passed().is_some()
 }
 
-/// The number of the position after a move that takes no man and promotes none, where no capture in passing is legal before
-/// it or after it.
+/// The number of the position after a move that captures no man and promotes none, if no capture in passing is legal before it or after it.
 #[inline]
 fn number_after(class: Class, number: u32, at: &Position, by: &Move) -> Option<u32>
     requires at { position_numbered class number ≡ Some at.now }

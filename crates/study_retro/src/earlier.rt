@@ -1,4 +1,4 @@
-//! What leads to the position of a number, within its class.
+//! The positions of a class that lead to the position of a number.
 ghost use Rattle.std.specs.Prelude.{◌≡◌, ◌≢◌, ◌+◌, ◌*◌, ◌≤◌, ◌<◌, ◌⊎◌, ◌↔◌, ℕ, true, false, Some, None, IfSome, IfNone, IsTrue, Contains};
 ghost use Rattle.arrayvec.specs.ArrayVec.{array_vec_len};
 ghost use Rattle.study_board.specs.Position.{Position as Seen};
@@ -54,7 +54,7 @@ fn add_predecessor(
     }
 }
 
-/// The number of the position before the move, if that leads to the position of this number.
+/// The number of the position before the move, if the move leads from there to the position of this number.
 #[inline]
 fn plain_number(class: Class, at: &Position, number: u32, by: &Move) -> Option<u32>
     requires at { position_numbered class number ≡ Some at.now }
@@ -70,8 +70,7 @@ fn plain_number(class: Class, at: &Position, number: u32, by: &Move) -> Option<u
     }
 }
 
-/// Whether the move leads to the position of this number. Where one side alone has pawns no capture in passing is legal,
-/// and each does.
+/// Whether the move leads to the position of this number. If only one side has pawns no capture in passing is legal, and every such move does.
 #[inline]
 fn lands(class: Class, at: &Position, number: u32, by: &Move) -> bool
     requires at { position_numbered class number ≡ Some at.now }
@@ -84,8 +83,7 @@ fn lands(class: Class, at: &Position, number: u32, by: &Move) -> bool
     leads_to(at, &unplayed(at, *by), *by, number)
 }
 
-/// Whether the quiet move of the man from the square leads to the position of the number, where no capture in passing is
-/// legal in that.
+/// Whether the quiet move of the man from the square leads to the position of the number, if no capture in passing is legal in that position.
 #[inline]
 pub fn lands_from(class: Class, number: u32, man: &Man, origin: Square) -> bool
     requires numbered { (q : Seen) × (position_numbered class number ≡ Some q) }
@@ -103,7 +101,7 @@ pub fn lands_from(class: Class, number: u32, man: &Man, origin: Square) -> bool
     }
 }
 
-/// The quiet move of the man from the square to where it stands.
+/// The quiet move of the man from the square to its own square.
 #[inline]
 fn move_from(man: &Man, origin: Square) -> Move
     ensures { result ≡ move_from man.now origin }
@@ -115,7 +113,7 @@ fn move_from(man: &Man, origin: Square) -> Move
     }
 }
 
-/// Whether the move leads to the position of this number: where a square is passed after it, its number is looked at.
+/// Whether the move leads to the position of this number: the number is computed only if a square is passed after the move.
 #[inline]
 fn leads_to(at: &Position, from: &Position, by: Move, number: u32) -> bool
     requires at { index_of at.now ≡ number }
@@ -128,7 +126,7 @@ fn leads_to(at: &Position, from: &Position, by: Move, number: u32) -> bool
     index(&played(from, by)) == number
 }
 
-/// Whether a square is passed after a legal move. The ranks that a move goes over decide it for most moves.
+/// Whether a square is passed after a legal move. The ranks of the move decide it for most moves.
 #[inline]
 fn passes(from: &Position, by: &Move) -> bool
     requires { is_legal from.now by.now ≡ true }
@@ -151,7 +149,7 @@ pub fn has_both_pawns(class: Class) -> bool
     }
 }
 
-/// Whether a quiet move from the one square to the other may leave the other side a capture in passing.
+/// Whether a quiet move from the one square to the other may allow the other side a capture in passing.
 #[inline]
 pub fn may_pass(class: Class, origin: Square, target: Square) -> bool
     ensures { result ≡ false → PassesNone class origin target }
@@ -159,7 +157,7 @@ pub fn may_pass(class: Class, origin: Square, target: Square) -> bool
     has_both_pawns(class) && origin.rank().abs_diff(target.rank()) == 2
 }
 
-/// Whether two squares are beside each other on a rank from which a pawn can capture in passing.
+/// Whether two squares are side by side on a rank from which a pawn can capture in passing.
 #[inline]
 fn are_abreast(a: u32, b: u32) -> bool
     ensures { result ≡ false → rank_of a ≡ rank_of b → files_apart a b ≡ 1 → (3 ≤ rank_of a) → (rank_of a ≤ 4) → ⊥ }
@@ -176,7 +174,7 @@ pub fn may_have_twin(class: Class, number: u32) -> bool
     has_both_pawns(class) && are_abreast(number / 64 % 64, number % 64)
 }
 
-/// The squares beside one from which a pawn can capture in passing, and on the edge of the board the next by number.
+/// The squares beside this one from which a pawn can capture in passing; at the edge of the board one of them is the next square by number.
 #[inline]
 fn squares_abreast(a: Square) -> SquareSet
     ensures { (y : ℕ) → y < 64 → has result y ≡ false → rank_of a ≡ rank_of y → files_apart a y ≡ 1 → (3 ≤ rank_of a) → (rank_of a ≤ 4) → ⊥ }
@@ -188,8 +186,7 @@ fn squares_abreast(a: Square) -> SquareSet
     SquareSet::of(Square::at(number - 1)).union(SquareSet::of(Square::at(number + 1)))
 }
 
-/// Squares of the man of the last slot in a row of numbers with which no capture in passing is legal, by the squares of the
-/// pawns.
+/// Squares of the man of the last slot in a row of numbers with which no capture in passing is legal, by the squares of the pawns.
 #[inline]
 pub fn twinless_in_row(class: Class, row: u32) -> SquareSet
     ensures { (y : ℕ) → y < 64 → has result y ≡ true → IsTwinless class (64 * row + y) }
@@ -201,8 +198,7 @@ pub fn twinless_in_row(class: Class, row: u32) -> SquareSet
     squares_abreast(pawn).complement()
 }
 
-/// Whether a quiet move from the one square to the other, after which the men are those of the number, may leave the
-/// other side a legal capture in passing.
+/// Whether a quiet move from the one square to the other, after which the men are those of the number, may allow the other side a legal capture in passing.
 #[inline]
 pub fn may_leave_capture(class: Class, origin: Square, target: Square, number: u32) -> bool
     ensures { result ≡ false → LeavesNone class origin target number }

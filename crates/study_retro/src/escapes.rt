@@ -1,4 +1,4 @@
-//! Whether quiet moves lose, by the squares that a number encodes, where no capture in passing is legal.
+//! Whether quiet moves lose, by the squares that a number encodes, if no capture in passing is legal.
 ghost use Rattle.std.specs.Prelude.{◌≡◌, ◌<◌, ℕ, true, false, length, IsTrue, Some, Contains};
 ghost use Rattle.study_board.specs.Men.{same_side};
 ghost use Rattle.study_board.specs.Sets.{has};
@@ -74,8 +74,7 @@ fn wins_after<A: Allocator>(
     }
 }
 
-/// Whether the legal move of the man to the square, on which no man stands, is not quiet, or lets the other side win within
-/// `level` plies.
+/// Whether the legal move of the man to the square, which is empty, is not quiet, or lets the other side win within `level` plies.
 #[inline]
 pub fn loses_to<A: Allocator>(
     game: &ClassGame<A>,
@@ -113,14 +112,14 @@ pub fn loses_to<A: Allocator>(
     tells_win(cells[after as usize], level)
 }
 
-/// What quiet moves come to: whether the other side does not win within so many plies after one, and if not, whether one is legal.
+/// The result of looking at quiet moves: whether one of them avoids a loss within so many plies, and whether a legal one was seen.
 #[derive(Clone, Copy)]
 pub struct QuietMoves {
     pub escape: bool,
     pub some: bool,
 }
 
-/// What the quiet moves of the man come to.
+/// The result for the quiet moves of the man.
 #[inline]
 pub fn quiet_moves_of<A: Allocator>(
     game: &ClassGame<A>,
@@ -169,7 +168,7 @@ pub fn quiet_moves_of<A: Allocator>(
     }
 }
 
-/// What the quiet moves of the side to move come to.
+/// The result for the quiet moves of the side to move.
 pub fn quiet_moves<A: Allocator>(
     game: &ClassGame<A>,
     cells: &[u8],
@@ -201,7 +200,7 @@ pub fn quiet_moves<A: Allocator>(
     }
 }
 
-/// Whether the man is one of the side to move, and has a legal move.
+/// Whether the man belongs to the side to move, and has a legal move.
 #[inline]
 fn can_move(setup: &Setup, man: &Man) -> bool
     ensures yes { IsTrue result → (same_side man.now.side setup.now.to_move ≡ true) × ((x : ℕ) × (x < 64)

@@ -1,9 +1,8 @@
 //! Tables of distances to mate: built and verified.
 //!
-//! `build` answers a right table where the tables that its class needs are right: each cell has the least forced mate
-//! of its position, and a draw only where neither side forces mate in any number of plies. `verify` answers yes exactly
-//! to right tables, whatever their bytes. The levels of a table are those of study_levels, which is proved over any game
-//! whose positions have numbers; `class_game` is chess as such a game.
+//! `build` returns a right table if the tables that its class needs are right: each cell is the least forced mate of its position, and a draw only if neither
+//! side forces mate in any number of plies. `verify` returns true exactly for right tables, whatever their bytes. The levels of a table are those of
+//! study_levels, which is proved over any game whose positions have numbers; `class_game` is chess as such a game.
 #![tactic(auto)]
 
 mod back;

@@ -1,4 +1,4 @@
-//! A row of numbers: 64 that differ in the square of the man of the last slot alone.
+//! A row of numbers: 64 numbers that differ only in the square of the man of the last slot.
 ghost use Rattle.std.specs.Prelude.{◌≡◌, ◌<◌, ◌+◌, ◌*◌, ℕ, false, [], ◌∷◌, ◌++◌, IfSome};
 ghost use Rattle.study_board.specs.declared.men.Kind.TheVariants.{King};
 ghost use Rattle.study_board.specs.Men.{same_kind};
@@ -11,7 +11,7 @@ use study_board::{Kind, Man, Side};
 use study_index::told;
 use study_material::Class;
 
-/// A row of a class, without the bit of a capture in passing: its men but the last, and the last one, wherever it stands.
+/// A row of a class, without the bit of a capture in passing: its men without the last, and the last one, whose square varies.
 #[derive(Drop)]
 pub struct Row {
     pub class: Class,
@@ -26,7 +26,7 @@ pub struct Row {
 }
 
 impl Row {
-    /// The row of that number, the first at 0; none where the last man is a king.
+    /// The row of this number, counted from 0; `None` if the last man is a king.
     pub fn new(class: Class, number: u32) -> Option<Self>
         requires plain { number < 262144 }
         requires cell { 64 * number < cells_of class }

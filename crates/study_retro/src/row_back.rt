@@ -1,4 +1,4 @@
-//! Steps back from decided positions of a row of numbers: each man but the last goes back from all of them at once.
+//! Steps back from decided positions of a row of numbers: each man except the last goes back from all of them at once.
 ghost use Rattle.std.specs.Prelude.{◌≡◌, ◌==◌, ◌<◌, ◌+◌, ◌*◌, ℕ, true, false, length, Contains};
 ghost use Rattle.study_board.specs.Geometry.{rank_of};
 ghost use Rattle.study_board.specs.Position.{Position as Seen};
@@ -25,8 +25,8 @@ use study_index::{Departure, RowDeparture, row_of_last, told};
 use study_material::Class;
 use study_values::EN_PASSANT_BIT;
 
-/// Sets the cell of a number without the bit of a capture in passing, and that of the number with it, if it has a position:
-/// each unless it has a mate, or one as near.
+/// Sets the cell of a number without the bit of a capture in passing, and the cell of the number with the bit, if that has a position: each unless it has a
+/// mate already, or, if `over`, one as near.
 #[inline(always)]
 fn write_with_twin(class: Class, cells: &mut [u8], number: u32, change: Change)
     requires number { number < cells_of class }
@@ -42,7 +42,7 @@ fn write_with_twin(class: Class, cells: &mut [u8], number: u32, change: Change)
     }
 }
 
-/// The same of some numbers of a row.
+/// Sets the cells of some numbers of a row, each as `write_with_twin` does.
 #[inline]
 fn write_row(class: Class, cells: &mut [u8], row: u32, set: SquareSet, change: Change)
     requires numbers { (y : ℕ) → y < 64 → has set y ≡ true → (64 * row + y < cells_of class) × (64 * row + y < 16777216) }
@@ -63,8 +63,8 @@ fn write_row(class: Class, cells: &mut [u8], row: u32, set: SquareSet, change: C
     }
 }
 
-/// Sets the cells of the positions from which a quiet move of the man from the square leads to positions of the row that it
-/// departs from, going back: number by number.
+/// Sets the cells of the positions from which a quiet move of the man, from the square, leads to positions of the row that the
+/// departure goes back from: number by number.
 #[inline]
 fn write_each_led(
     cells: &mut [u8],
@@ -97,7 +97,7 @@ fn write_each_led(
     }
 }
 
-/// The same where the move leaves no capture in passing.
+/// `write_each_led` for a move that leaves no capture in passing: the numbers come from the departure.
 #[inline]
 fn write_each_moved(
     cells: &mut [u8],
@@ -130,7 +130,7 @@ fn write_each_moved(
     }
 }
 
-/// The same: at once, where the numbers before are a row and the move leaves no capture in passing.
+/// `write_each_led`, at once if the numbers before are a row and the move leaves no capture in passing.
 #[inline]
 fn write_led(
     cells: &mut [u8],
@@ -160,8 +160,8 @@ fn write_led(
     }
 }
 
-/// Sets the cells of the positions from which a quiet move of one of the other men leads to some positions of a row, and
-/// returns how many they are: number by number.
+/// Sets the cells of the positions from which a quiet move of one of the other men leads to some positions of a row, and returns the
+/// number of these positions: number by number.
 fn write_before_man_each(
     row: &Row,
     cells: &mut [u8],
@@ -193,7 +193,7 @@ fn write_before_man_each(
     count
 }
 
-/// The same by what the numbers have in common.
+/// `write_before_man_each` with the common part of the numbers computed once.
 fn write_before_man_from(
     row: &Row,
     cells: &mut [u8],
@@ -238,7 +238,7 @@ fn write_before_man_from(
     count
 }
 
-/// The same, if it is one of the side that moved.
+/// `write_before_man_from` for a man of any side: only men of the side that moved go back.
 fn write_before_man_of_row(
     row: &Row,
     cells: &mut [u8],
@@ -266,7 +266,8 @@ fn write_before_man_of_row(
     }
 }
 
-/// The same of the last man: number by number.
+/// Sets the cells of the positions from which a quiet move of the last man leads to some positions of a row, and returns the
+/// number of these positions: number by number.
 fn write_before_last_each(row: &Row, cells: &mut [u8], decided: SquareSet, change: Change) -> u64
     requires numbered { AreNumbered row.now.class row.now.number decided }
     requires cell { 0 < change.cell }
@@ -296,7 +297,7 @@ fn write_before_last_each(row: &Row, cells: &mut [u8], decided: SquareSet, chang
     count
 }
 
-/// The squares from which the last man can have come to some squares, and from how many it can for each of those in all.
+/// The squares from which the last man can have come to some squares, and the number of pairs of an origin and a target.
 #[derive(Clone, Copy)]
 struct LastOrigins {
     squares: SquareSet,
@@ -338,7 +339,7 @@ fn double_step_rank(side: Side) -> u8
     }
 }
 
-/// The squares of that rank.
+/// The squares of the rank to which a double step of the side leads.
 #[inline]
 fn double_step_squares(side: Side) -> SquareSet
     ensures { (y : ℕ) → y < 64 → has result y ≡ (rank_of y == double_step_rank side) }
@@ -350,7 +351,7 @@ fn double_step_squares(side: Side) -> SquareSet
         .union(SquareSet::of(last))
 }
 
-/// Squares on some of which the last man may have come by a move that leaves a capture in passing; on the others it has not.
+/// Squares to which the last man may have come by a move that leaves a capture in passing; no move to any other square does.
 #[inline]
 fn passing_squares(class: Class, last: &Man) -> SquareSet
     ensures { (y : ℕ) → y < 64 → has result y ≡ false → ComesPlainly class last.now y }
@@ -364,7 +365,7 @@ fn passing_squares(class: Class, last: &Man) -> SquareSet
     }
 }
 
-/// The same of the last man: at once, where the numbers before are a row and no move leaves a capture in passing.
+/// Steps back by the last man at once, if the numbers before are a row and no move leaves a capture in passing.
 fn write_before_last_at_once(
     row: &Row,
     cells: &mut [u8],
@@ -389,7 +390,7 @@ fn write_before_last_at_once(
     origins.count
 }
 
-/// The same: at once but from the squares where a move may leave a capture in passing.
+/// Steps back by the last man at once, except from the squares to which a move may leave a capture in passing.
 fn write_before_last_apart(
     row: &Row,
     cells: &mut [u8],
@@ -414,7 +415,7 @@ fn write_before_last_apart(
     count.saturating_add(write_before_last_at_once(row, cells, plain, before, change))
 }
 
-/// The same, of any side: at once, where the numbers before are a row and no move leaves a capture in passing.
+/// Steps back by the last man, of any side: at once if the numbers before are a row and no move leaves a capture in passing.
 fn write_before_last(row: &Row, cells: &mut [u8], decided: SquareSet, change: Change) -> u64
     requires numbered { AreNumbered row.now.class row.now.number decided }
     requires cell { 0 < change.cell }
@@ -432,7 +433,7 @@ fn write_before_last(row: &Row, cells: &mut [u8], decided: SquareSet, change: Ch
     }
 }
 
-/// The same of all men.
+/// Steps back by all men.
 fn write_before_men(row: &Row, cells: &mut [u8], decided: SquareSet, change: Change) -> u64
     requires numbered { AreNumbered row.now.class row.now.number decided }
     requires cell { 0 < change.cell }
@@ -449,8 +450,8 @@ fn write_before_men(row: &Row, cells: &mut [u8], decided: SquareSet, change: Cha
     count
 }
 
-/// Sets the cells of the positions from which a quiet move leads to the position of a number of the row whose square is in
-/// the set, and returns how many they are.
+/// Sets the cells of the positions from which a quiet move leads to the position of a number of the row whose square is in the set,
+/// and returns the number of these positions.
 pub fn write_before_row(
     class: Class,
     cells: &mut [u8],

@@ -1,4 +1,4 @@
-//! On which squares of the man of the last slot a king is attacked: in a row of numbers that man alone stands elsewhere.
+//! The squares of the man of the last slot with which a king is attacked: only that man's square varies in a row of numbers.
 ghost use Rattle.std.specs.Prelude.{◌≡◌, ◌<◌, ◌≤◌, ◌&&◌, ◌||◌, ℕ, not, true, false, length, map, [], ◌∷◌, ◌++◌, Some, IfSome};
 ghost use Rattle.std.specs.List.{list_any, All, Contains};
 ghost use Rattle.study_board.specs.declared.men.Kind.TheVariants.{King};
@@ -14,7 +14,7 @@ ghost use Rattle.study_retro.specs.Still.{facing, on_square};
 use arrayvec::ArrayVec;
 use study_board::{Kind, Man, Side, Square, SquareSet, attacks, between};
 
-/// The squares on which a further man does not come between the man and the square.
+/// The squares on which a further man does not interrupt the man's line to the square.
 #[inline]
 fn squares_aside(m: &Man, x: Square) -> SquareSet
     ensures { (y : ℕ) → y < 64 → has result y ≡ not (is_slider m.now.kind && strictly_between m.now.at y x) }
@@ -26,8 +26,7 @@ fn squares_aside(m: &Man, x: Square) -> SquareSet
     }
 }
 
-/// Whether the man bears on the square. Most men would not do so on an empty board; those that go along no lines do so on
-/// any board, if on that.
+/// Whether the man bears on the square. Most men would not do so on an empty board; men that do not move along lines bear on it whatever the other men.
 #[inline(always)]
 #[tactic(auto, using(crate::proofs::RowLemmas::bears_alone, crate::proofs::RowLemmas::bears_stepping))]
 fn bears(others: &[Man], m: &Man, x: Square) -> bool
@@ -120,7 +119,7 @@ pub fn squares_of_check(others: &[Man], last: &Man, side: Side) -> SquareSet
     set
 }
 
-/// A man and the squares on which it bears without the last man.
+/// A man and the squares on which it bears if the last man is not on the board.
 #[derive(Clone, Copy)]
 pub struct Bearer {
     pub man: Man,
@@ -136,9 +135,8 @@ impl Default for Bearer {
     }
 }
 
-/// The others where one of them goes, as they attack the king of a side: those that stay, those of them that attack it, the
-/// squares on which these bear, the square of the king before, if there is just one, and the squares from which the last man
-/// and the one that goes bear on it.
+/// Checks to the king of a side while one of the others moves: the men that stay, the attackers among them, the squares on which these bear, the square of
+/// the king before the move, if it is unique, and the squares from which the last man and the moving man bear on it.
 #[derive(Drop)]
 pub struct Staying {
     pub men: ArrayVec<Man, 4>,
@@ -150,7 +148,7 @@ pub struct Staying {
 }
 
 impl Staying {
-    /// Those that stay where the man goes.
+    /// The state for a move of the man.
     #[inline(always)]
     pub fn new(others: &[Man], last: &Man, man: &Man, side: Side) -> Self
         requires { length others.now ≤ 4 }
@@ -187,7 +185,7 @@ impl Staying {
     }
 }
 
-/// The square of the king of the side, if there is just one.
+/// The square of the king of the side, if it is unique.
 #[inline]
 fn only_king(men: &[Man], side: Side) -> Option<Square>
     ensures { IfSome result (λ k. IsOnlyKing men.now side k) }
@@ -244,7 +242,7 @@ fn bearers_of(men: &[Man], by: Side) -> ArrayVec<Bearer, 4>
     list
 }
 
-/// The squares on which some of them bear.
+/// The squares on which at least one of them bears.
 #[inline]
 fn squares_borne_on(bearers: &[Bearer]) -> SquareSet
     ensures { (x : ℕ) → x < 64 → has result x ≡ list_any (λ b. has b.squares x) bearers.now }
@@ -267,7 +265,7 @@ fn squares_bearing(b: &Bearer, x: Square) -> SquareSet
     squares_aside(&b.man, x)
 }
 
-/// The squares of a further man with which some of them bear on the square, given the squares on which some of them bear.
+/// The squares of a further man with which at least one of them bears on the square, given the squares on which they bear without it.
 #[inline(always)]
 fn squares_attacking_of(bearers: &[Bearer], attacked: SquareSet, x: Square) -> SquareSet
     requires { (z : ℕ) → z < 64 → has attacked z ≡ list_any (λ b. has b.squares z) bearers.now }
@@ -284,7 +282,7 @@ fn squares_attacking_of(bearers: &[Bearer], attacked: SquareSet, x: Square) -> S
     set
 }
 
-/// The squares of a further man with which the man bears on the square, one standing on `to`.
+/// The squares of a further man with which the man bears on the square past a man on `to`.
 #[inline]
 fn squares_bearing_past(b: &Bearer, to: Square, x: Square) -> SquareSet
     ensures { (y : ℕ) → y < 64 → has result y ≡ bears_past to x y b.now }
@@ -300,8 +298,7 @@ fn squares_bearing_past(b: &Bearer, to: Square, x: Square) -> SquareSet
     set
 }
 
-/// The squares of a further man with which some of them bear on the square, one standing on `to`, given the squares on which
-/// some of them bear.
+/// The squares of a further man with which at least one of them bears on the square past a man on `to`, given the squares on which they bear without both.
 #[inline(always)]
 fn squares_attacking_past(
     bearers: &[Bearer],
@@ -323,7 +320,7 @@ fn squares_attacking_past(
     set
 }
 
-/// The man, put on `to` if it stands on `from`.
+/// The man, on `to` if it stands on `from`.
 #[inline]
 fn put(man: &Man, from: Square, to: Square) -> Man
     ensures { result ≡ from_to from to man.now }
@@ -340,7 +337,7 @@ fn put(man: &Man, from: Square, to: Square) -> Man
 }
 
 /// The squares of the man of the last slot with which the square is attacked by it or by men that stay, given the squares on
-/// which those of the side bear without it.
+/// which the men of the side bear without it.
 #[inline(always)]
 fn squares_attacking_by(
     staying: &[Man],
@@ -358,7 +355,7 @@ fn squares_attacking_by(
     squares_attacking_of(bearers, attacked, x).union(squares_of_last(staying, last, by, x))
 }
 
-/// The squares of a further man with which the man, on `to`, bears on the square, given those from which it does so without.
+/// The squares of a further man with which the man, on `to`, bears on the square, given the squares from which it does so without the further man.
 #[inline(always)]
 fn squares_bearing_from(checks: SquareSet, man: &Man, to: Square, x: Square) -> SquareSet
     ensures { (y : ℕ) → y < 64 → has result y ≡ (has checks to && stands_aside (on_square man.now to) x y) }
@@ -374,8 +371,8 @@ fn squares_bearing_from(checks: SquareSet, man: &Man, to: Square, x: Square) -> 
     squares_aside(&gone, x)
 }
 
-/// The squares from which the man of the last slot bears on the square past the man on `to`, given those from which it does so
-/// with that one off the board.
+/// The squares from which the man of the last slot bears on the square past the man on `to`, given the squares from
+/// which it does so with that man off the board.
 #[inline(always)]
 fn squares_of_last_past(
     checks: SquareSet,
@@ -403,8 +400,7 @@ fn squares_of_last_past(
     checks.intersection(attacks(&[gone], &facing))
 }
 
-/// The squares of the man of the last slot with which the only king of the side, on that square before, is attacked with the
-/// man on `to`.
+/// The squares of the man of the last slot with which the only king of the side, on that square before the move, is attacked with the man on `to`.
 #[inline(always)]
 fn squares_attacking_after(
     others: &[Man],
@@ -437,7 +433,7 @@ fn squares_attacking_after(
         .union(of_last)
 }
 
-/// The men, the one on `from` put on `to`.
+/// The men, with the man on `from` put on `to`.
 #[inline]
 fn with_man_on(others: &[Man], from: Square, to: Square) -> ArrayVec<Man, 4>
     requires { length others.now ≤ 4 }
@@ -450,7 +446,7 @@ fn with_man_on(others: &[Man], from: Square, to: Square) -> ArrayVec<Man, 4>
     list
 }
 
-/// The squares of the man of the last slot with which a king of the side is attacked with the man, one of the others, on `to`.
+/// The squares of the man of the last slot with which a king of the side is attacked after one of the other men has gone to `to`.
 #[inline(always)]
 pub fn squares_of_check_after(
     others: &[Man],

@@ -1,5 +1,4 @@
-//! Which positions of a row of numbers are lost, where no capture in passing is legal: each man but the last is moved in all
-//! of them at once.
+//! The lost positions of a row of numbers, if no capture in passing is legal: each man except the last is moved in all of them at once.
 ghost use Rattle.std.specs.Prelude.{◌≡◌, ◌≤◌, ◌<◌, ◌+◌, ◌*◌, ◌==◌, ◌⊎◌, ◌++◌, ◌∷◌, [], ℕ, true, false, length, slice_index, IsTrue, Some, Contains};
 ghost use Rattle.study_board.specs.Men.{same_side};
 ghost use Rattle.study_board.specs.Geometry.{rank_of};
@@ -31,7 +30,7 @@ use study_board::{Kind, Man, Side, Square, SquareSet, between};
 use study_index::{Departure, RowDeparture, row_of_last, told};
 use study_levels::{is_lost_by_moves, tells_win};
 
-/// Of some squares of a row, those whose cell has a win within `level` plies.
+/// The squares, among some of a row, whose cell has a win within `level` plies.
 #[inline]
 fn squares_won(cells: &[u8], row: u32, set: SquareSet, level: u8) -> SquareSet
     requires row { row < 1048576 }
@@ -55,8 +54,8 @@ fn squares_won(cells: &[u8], row: u32, set: SquareSet, level: u8) -> SquareSet
     won
 }
 
-/// The squares of some numbers of a row at which the legal move of the man to the square, on which no man stands, is not quiet,
-/// or lets the other side win within `level` plies: number by number.
+/// The squares of some numbers of a row at which the legal move of the man to the square, which is empty, is not quiet, or lets the other side
+/// win within `level` plies: number by number.
 fn losing_each<A: Allocator>(
     game: &ClassGame<A>,
     cells: &[u8],
@@ -94,7 +93,7 @@ fn losing_each<A: Allocator>(
     losing
 }
 
-/// The same of a quiet move that leaves no capture in passing.
+/// `losing_each` for a quiet move that leaves no capture in passing.
 #[inline]
 fn losing_each_moved<A: Allocator>(
     game: &ClassGame<A>,
@@ -135,7 +134,7 @@ fn losing_each_moved<A: Allocator>(
     losing
 }
 
-/// The same: at once, where the numbers after the move are a row and leave no capture in passing.
+/// `losing_each`, at once if the numbers after the move are a row and leave no capture in passing.
 #[inline]
 fn losing_after<A: Allocator>(
     game: &ClassGame<A>,
@@ -172,15 +171,14 @@ fn losing_after<A: Allocator>(
     }
 }
 
-/// What the quiet moves seen of a row come to: the squares of the numbers at which none escapes, and of those at which a
-/// legal move was seen.
+/// The result of the quiet moves seen in a row: the squares of the numbers at which no move escapes, and of those at which a legal move was seen.
 #[derive(Clone, Copy)]
 struct RowMoves {
     losing: SquareSet,
     some: SquareSet,
 }
 
-/// What the quiet moves seen come to with those of one of the other men: number by number.
+/// The result with the moves of one of the other men added: number by number.
 fn quiet_moves_of_man_each<A: Allocator>(
     game: &ClassGame<A>,
     cells: &[u8],
@@ -222,7 +220,7 @@ fn quiet_moves_of_man_each<A: Allocator>(
     RowMoves { losing, some }
 }
 
-/// The same by what the numbers have in common.
+/// `quiet_moves_of_man_each` with the common part of the numbers computed once.
 fn quiet_moves_of_man_from<A: Allocator>(
     game: &ClassGame<A>,
     cells: &[u8],
@@ -276,7 +274,7 @@ fn quiet_moves_of_man_from<A: Allocator>(
     RowMoves { losing, some }
 }
 
-/// The same, if it is one of the side to move, and some are left to lose.
+/// `quiet_moves_of_man_from` for a man of any side: only men of the side to move go, and only if some numbers may still lose.
 fn quiet_moves_of_row<A: Allocator>(
     game: &ClassGame<A>,
     cells: &[u8],
@@ -311,7 +309,7 @@ fn quiet_moves_of_row<A: Allocator>(
     }
 }
 
-/// What the quiet moves seen come to with those of the last man, on each of its squares in turn.
+/// The result with the moves of the last man added, on each of its squares in turn.
 fn quiet_moves_of_last_each<A: Allocator>(
     game: &ClassGame<A>,
     cells: &[u8],
@@ -379,7 +377,7 @@ fn last_rank_squares(side: Side) -> SquareSet
         .union(SquareSet::of(last))
 }
 
-/// The squares on which the man promotes: those of its last rank, if it is a pawn.
+/// The squares on which the man promotes: its last rank, if it is a pawn.
 #[inline]
 fn promotion_squares(man: &Man) -> SquareSet
     ensures { (x : ℕ) → x < 64 → has result x ≡ reaches_last_rank man.now x }
@@ -391,7 +389,7 @@ fn promotion_squares(man: &Man) -> SquareSet
     }
 }
 
-/// Whether there is a square in the set.
+/// Whether the set is not empty.
 #[inline]
 fn has_any(set: SquareSet) -> bool
     ensures some { IsTrue result → (x : ℕ) × (x < 64) × (has set x ≡ true) }
@@ -404,8 +402,8 @@ fn has_any(set: SquareSet) -> bool
     true
 }
 
-/// The squares to which the last man, of the side to move, goes in some positions of a row by a move that takes no man, given
-/// those on which it lets a king of its side be attacked.
+/// The squares to which the last man, of the side to move, goes without a capture in some positions of a row, given the squares on
+/// which it leaves a king of its side attacked.
 fn targets_in_row(row: &Row, set: SquareSet, check: SquareSet) -> SquareSet
     requires side { same_side row.now.last.side row.now.to_move ≡ true }
     requires check { (x : ℕ) → x < 64 → has check x ≡ in_check (row.now.others.items ++ on_square row.now.last x ∷ []) row.now.to_move }
@@ -427,7 +425,7 @@ fn targets_in_row(row: &Row, set: SquareSet, check: SquareSet) -> SquareSet
     squares
 }
 
-/// What the moves seen come to with those of the last man, of the side to move, given the squares on which it does not escape.
+/// The result with the moves of the last man, of the side to move, added, given the squares on which it does not escape.
 fn moves_of_last(row: &Row, so_far: RowMoves, check: SquareSet, lost: SquareSet) -> RowMoves
     requires side { same_side row.now.last.side row.now.to_move ≡ true }
     requires check { (x : ℕ) → x < 64 → has check x ≡ in_check (row.now.others.items ++ on_square row.now.last x ∷ []) row.now.to_move }
@@ -462,8 +460,7 @@ fn moves_of_last(row: &Row, so_far: RowMoves, check: SquareSet, lost: SquareSet)
     RowMoves { losing, some }
 }
 
-/// What the quiet moves seen come to with those of the last man: at once, where the numbers after are a
-/// row and no move leaves a capture in passing.
+/// The result with the moves of the last man added: at once if the numbers after are a row and no move leaves a capture in passing.
 fn quiet_moves_of_last<A: Allocator>(
     game: &ClassGame<A>,
     cells: &[u8],
@@ -499,7 +496,7 @@ fn quiet_moves_of_last<A: Allocator>(
     }
 }
 
-/// What the quiet moves of all men come to, at some numbers of a row.
+/// The result for the quiet moves of all men, at some numbers of a row.
 fn quiet_moves_in_row<A: Allocator>(
     game: &ClassGame<A>,
     cells: &[u8],
@@ -526,8 +523,7 @@ fn quiet_moves_in_row<A: Allocator>(
     quiet_moves_of_last(game, cells, row, moves, level)
 }
 
-/// Whether the position of a number, whose quiet moves each lead to a win within `level` plies, has a move, and each leads to
-/// such a win.
+/// Whether the position of a number whose quiet moves each lead to a win within `level` plies has a move, and all its moves lead to such a win.
 fn is_lost_after_quiet<A: Allocator>(
     game: &ClassGame<A>,
     cells: &[u8],
@@ -553,8 +549,7 @@ fn is_lost_after_quiet<A: Allocator>(
     is_lost_by_moves(game, cells, number, level)
 }
 
-/// Of the numbers of a row at which no quiet move escapes, those whose position has a move, and each leads to a win within
-/// `level` plies.
+/// The numbers, among those of a row at which no quiet move escapes, whose position has a move, and whose moves each lead to a win within `level` plies.
 fn lost_after_quiet<A: Allocator>(
     game: &ClassGame<A>,
     cells: &[u8],
@@ -589,8 +584,8 @@ fn lost_after_quiet<A: Allocator>(
     lost
 }
 
-/// Of some positions of a row, those that have a move, and each leads to a win within `level` plies, where no capture in
-/// passing is legal and the last man is no king.
+/// The positions, among some of a row, that have a move, and whose moves each lead to a win within `level` plies, if no capture in passing
+/// is legal and the last man is not a king.
 fn lost_of_row<A: Allocator>(
     game: &ClassGame<A>,
     cells: &[u8],
@@ -611,8 +606,7 @@ fn lost_of_row<A: Allocator>(
     lost_after_quiet(game, cells, row.number, moves.losing, moves.some, level)
 }
 
-/// Of some positions of a row, those that have a move, and each leads to a win within `level` plies, where no capture in
-/// passing is legal.
+/// The positions, among some of a row, that have a move, and whose moves each lead to a win within `level` plies, if no capture in passing is legal.
 pub fn lost_in_plain_row<A: Allocator>(
     game: &ClassGame<A>,
     cells: &[u8],

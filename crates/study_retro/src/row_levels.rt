@@ -1,4 +1,4 @@
-//! Steps back from decided positions of a row of numbers, and tests of those that may be lost: each number of a set in turn.
+//! Steps back from decided positions of a row of numbers, and tests of positions that may be lost: each number of a set in turn.
 ghost use Rattle.std.specs.Prelude.{◌≡◌, ◌≢◌, ◌+◌, ◌*◌, ◌<◌, ℕ, true, false, length, slice_index, IsTrue, Some};
 ghost use Rattle.study_board.specs.Position.{Position as Seen};
 ghost use Rattle.study_board.specs.Sets.{has};
@@ -20,8 +20,7 @@ use study_index::told;
 use study_levels::{Game, LabelledGame, is_lost_by_moves, lower_by_moves, mark_by_moves};
 use study_material::Class;
 
-/// Positions of a row that are lost in `level` plies, each gone back from by its moves: what leads to one of them is won in
-/// one more.
+/// For positions of a row that are lost in `level` plies: the positions before them are won in one more. Each is gone back from by its moves.
 pub fn lower_each<G: Game>(
     game: &G,
     cells: &mut [u8],
@@ -50,8 +49,7 @@ pub fn lower_each<G: Game>(
     count
 }
 
-/// Positions of a row that are won in `level` plies, each gone back from by its moves: what leads to one of them is marked,
-/// where it has no mate yet.
+/// For positions of a row that are won in `level` plies: the positions before them are marked, if they have no mate yet. Each is gone back from by its moves.
 pub fn mark_each<G: Game>(
     game: &G,
     cells: &mut [u8],
@@ -80,7 +78,7 @@ pub fn mark_each<G: Game>(
     count
 }
 
-/// Of some positions of a row, those that have a move, and each leads to a win within `level` plies: each by its moves.
+/// The positions, among some of a row, that have a move, and whose moves each lead to a win within `level` plies: each tested by its moves.
 pub fn lost_of_each<G: LabelledGame>(
     game: &G,
     cells: &[u8],
@@ -113,8 +111,8 @@ pub fn lost_of_each<G: LabelledGame>(
     lost
 }
 
-/// Sets the cells of the positions from which a quiet move leads to the position of a number of the row whose square is in
-/// the set, and returns how many they are.
+/// Sets the cells of the positions from which a quiet move leads to the position of a number of the row whose square is in the set,
+/// and returns the number of these positions.
 pub fn write_before_each(
     class: Class,
     cells: &mut [u8],
@@ -142,8 +140,7 @@ pub fn write_before_each(
     count
 }
 
-/// Whether the position of a number has a move, and each leads to a win within `level` plies, where no capture in passing is
-/// legal.
+/// Whether the position of a number has a move, and each move leads to a win within `level` plies, if no capture in passing is legal.
 fn is_lost_plainly<A: Allocator>(game: &ClassGame<A>, cells: &[u8], number: u32, level: u8) -> bool
     requires laws { IsNumberedClass (class_game game.now.class game.now.tables.now) }
     requires numbered { HasPosition (class_game game.now.class game.now.tables.now) number }
@@ -164,8 +161,7 @@ fn is_lost_plainly<A: Allocator>(game: &ClassGame<A>, cells: &[u8], number: u32,
     is_lost_by_moves(game, cells, number, level)
 }
 
-/// Of some positions of a row, those that have a move, and each leads to a win within `level` plies, where no capture in
-/// passing is legal.
+/// The positions, among some of a row, that have a move, and whose moves each lead to a win within `level` plies, if no capture in passing is legal.
 pub fn lost_plainly_each<A: Allocator>(
     game: &ClassGame<A>,
     cells: &[u8],

@@ -1,4 +1,4 @@
-//! Whence the men of a row of numbers can have come, and where they can go, by the square of the man of the last slot.
+//! Unmoves and moves of the men of a row of numbers, as sets of squares of the man of the last slot with which they are possible.
 ghost use Rattle.std.specs.Prelude.{◌≡◌, ◌<◌, ◌≤◌, ◌&&◌, ◌||◌, ◌==◌, ℕ, not, true, false, length, [], ◌∷◌, ◌++◌};
 ghost use Rattle.std.specs.List.{Contains};
 ghost use Rattle.study_board.specs.declared.men.Kind.TheVariants.{King};
@@ -16,7 +16,7 @@ use crate::row_checks::{Staying, squares_of_check_after};
 use study_board::{Kind, Man, Side, Square, SquareSet, attacks, between};
 use study_moves::{origins_of_kind, pawn_step_targets};
 
-/// The squares from which the man can have come, as its kind goes, with the others alone on the board.
+/// The squares from which the man can have come, by the moves of its kind, with only the others on the board.
 #[inline]
 pub fn origins_beside(others: &[Man], man: &Man) -> SquareSet
     ensures { (a : ℕ) → a < 64 → has result a ≡ comes others.now man.now a }
@@ -24,7 +24,7 @@ pub fn origins_beside(others: &[Man], man: &Man) -> SquareSet
     origins_of_kind(others, man)
 }
 
-/// The squares of the man of the last slot on which it neither stands in the way of the man nor lets a king of the side be
+/// The squares of the man of the last slot on which it neither stands in the way of the man nor leaves a king of the side
 /// attacked with the man on the other square.
 #[inline(always)]
 fn squares_letting(
@@ -72,7 +72,7 @@ pub fn squares_led(
     squares_letting(others, staying, last, to_move, man, origin)
 }
 
-/// The empty squares to which the man goes, as its kind goes, with the others alone on the board.
+/// The empty squares to which the man goes, by the moves of its kind, with only the others on the board.
 #[inline]
 pub fn targets_beside(others: &[Man], man: &Man) -> SquareSet
     ensures { (x : ℕ) → x < 64 → has result x ≡ goes_quietly others.now man.now x }
@@ -84,7 +84,7 @@ pub fn targets_beside(others: &[Man], man: &Man) -> SquareSet
     }
 }
 
-/// The squares of the man of the last slot with which the man can go to the square by a move that takes no man.
+/// The squares of the man of the last slot with which the man can go to the square without a capture.
 #[inline]
 pub fn squares_going(
     others: &[Man],
@@ -120,8 +120,8 @@ fn on(man: &Man, square: Square) -> Man
     }
 }
 
-/// The squares from which the man of the last slot can have come to the square by a quiet move, given those on which it lets
-/// a king of the side to move be attacked.
+/// The squares from which the man of the last slot can have come to the square by a quiet move, given the squares on which it
+/// leaves a king of the side to move attacked.
 #[inline]
 pub fn origins_of_last(others: &[Man], last: &Man, square: Square, check: SquareSet) -> SquareSet
     ensures { (side : Side) → same_side last.now.side (other_side side) ≡ true
@@ -132,8 +132,7 @@ pub fn origins_of_last(others: &[Man], last: &Man, square: Square, check: Square
     origins_beside(others, &on(last, square)).without(check)
 }
 
-/// The squares to which the man of the last slot can go from the square by a move that takes no man, given those on which it
-/// lets a king of its side be attacked.
+/// The squares to which the man of the last slot can go from the square without a capture, given the squares on which it leaves a king of its side attacked.
 #[inline]
 pub fn targets_of_last(others: &[Man], last: &Man, square: Square, check: SquareSet) -> SquareSet
     ensures { (side : Side) → same_side last.now.side side ≡ true

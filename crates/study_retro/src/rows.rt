@@ -1,5 +1,5 @@
-//! Numbers in a row, 64 that differ in the square of the man of the last slot alone: on which of its squares nothing is known
-//! before the levels is found for all of them at once.
+//! Rows of numbers, 64 that differ only in the square of the man of the last slot: the squares of that man with which nothing is known before the levels
+//! are found for all numbers of a row at once.
 ghost use Rattle.std.specs.Prelude.{◌≡◌, ◌<◌, ◌+◌, ◌*◌, ◌&&◌, ◌⊎◌, ◌==◌, ℕ, true, [], ◌∷◌, ◌++◌, Some};
 ghost use Rattle.std.specs.List.{list_any, All};
 ghost use Rattle.study_board.specs.Geometry.{rank_of};
@@ -17,7 +17,7 @@ use study_board::{Kind, Man, Side, Square, SquareSet, attacks, between};
 use study_index::{Setup, told};
 use study_material::Class;
 
-/// Whether all is not still where the man of the last slot bears on the other one.
+/// Whether the men are not still if the man of the last slot bears on the other one.
 #[inline]
 fn matters(last: &Man, to_move: Side, m: &Man) -> bool
     ensures { result ≡ matters last.now to_move m.now }
@@ -25,7 +25,7 @@ fn matters(last: &Man, to_move: Side, m: &Man) -> bool
     m.side != last.side && (last.side == to_move || m.kind == Kind::King)
 }
 
-/// The squares from which the man of the last slot would bear on the other one on an empty board, where that matters.
+/// The squares from which the man of the last slot would bear on the other one on an empty board, if that matters.
 #[inline]
 fn squares_against(last: &Man, to_move: Side, m: &Man) -> SquareSet
     ensures { (y : ℕ) → y < 64 → has result y ≡ (matters last.now to_move m.now && bears_on [] (facing last.now m.now.at) y) }
@@ -41,7 +41,7 @@ fn squares_against(last: &Man, to_move: Side, m: &Man) -> SquareSet
     attacks(&[], &facing)
 }
 
-/// The squares from which the man of the last slot would bear on a man where that matters.
+/// The squares from which the man of the last slot would, on an empty board, bear on a man for which that matters.
 #[inline]
 fn squares_bearing(others: &[Man], last: &Man, to_move: Side) -> SquareSet
     ensures { (y : ℕ) → y < 64 → has result y ≡ list_any (λ m. matters last.now to_move m && bears_on [] (facing last.now m.at) y) others.now }
@@ -65,7 +65,7 @@ fn promoting_squares(side: Side) -> SquareSet
         .union(SquareSet::of(last))
 }
 
-/// The squares on which the man of the last slot is not to stand: those from which it promotes, or on which it can be taken.
+/// The squares that the man of the last slot must avoid: those from which it promotes, or on which it can be taken.
 #[inline]
 fn squares_exposed(last: &Man, to_move: Side, attacked: SquareSet) -> SquareSet
     ensures { (y : ℕ) → y < 64 → has result y ≡ is_exposed last.now to_move attacked y }
@@ -97,7 +97,7 @@ fn are_restless(
         || has_king_in(others, to_move, theirs)
 }
 
-/// Squares of the man of the last slot with which the other king could be taken; none if that man is a king.
+/// Squares of the man of the last slot with which the other king could be taken; empty if that man is a king.
 #[inline]
 fn squares_without_position(others: &[Man], last: &Man, to_move: Side) -> SquareSet
     ensures { (y : ℕ) → y < 64 → has result y ≡ true → in_check (others.now ++ on_square last.now y ∷ []) (other_side to_move) ≡ true }
@@ -125,7 +125,7 @@ fn still_squares(others: &[Man], last: &Man, to_move: Side) -> SquareSet
         .complement()
 }
 
-/// Squares of the man of the last slot with which the men are still, or have no position.
+/// Squares of the man of the last slot with which the men are still, or are not a valid position.
 #[inline]
 fn unknown_squares(others: &[Man], last: &Man, to_move: Side) -> SquareSet
     ensures { (y : ℕ) → y < 64 → has result y ≡ true → All (λ m. m.at < 64) others.now
@@ -136,7 +136,7 @@ fn unknown_squares(others: &[Man], last: &Man, to_move: Side) -> SquareSet
         .union(occupied(others))
 }
 
-/// Squares of the man of the last slot in a row of numbers with which no position is worth anything before the levels.
+/// Squares of the man of the last slot in a row of numbers with which nothing is known before the levels.
 pub fn still_in_row(class: Class, row: u32) -> SquareSet
     requires { row < 262144 }
     ensures { (y : ℕ) → y < 64 → has result y ≡ true → (q : Seen) → position_numbered class (64 * row + y) ≡ Some q → IsStill q }

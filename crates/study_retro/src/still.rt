@@ -1,5 +1,5 @@
-//! Numbers at which nothing can be worth anything before the levels: those without a position, and those where the side to
-//! move is not mated, and can neither take nor promote.
+//! Numbers at which nothing can be known before the levels: those without a position, and those in which the side to move is not
+//! mated and can neither capture nor promote.
 ghost use Rattle.std.specs.Prelude.{◌≡◌, ◌<◌, ◌&&◌, ◌==◌, ℕ, false, IsTrue, Some};
 ghost use Rattle.std.specs.List.{list_any};
 ghost use Rattle.study_board.specs.declared.men.Kind.TheVariants.{King, Pawn};
@@ -30,7 +30,7 @@ pub fn rank_before_last(side: Side) -> u8
     }
 }
 
-/// The squares on which the man bears, if it is one of the side.
+/// The squares on which the man bears, if it is of the side.
 #[inline]
 fn attacks_if_side(men: &[Man], m: &Man, side: Side) -> SquareSet
     ensures { (x : ℕ) → x < 64 → has result x ≡ (same_side m.now.side side && bears_on men.now m.now x) }
@@ -54,7 +54,7 @@ pub fn attacked_squares(men: &[Man], side: Side) -> SquareSet
     set
 }
 
-/// Whether a man of the side stands on a square of the set. The loop has no way out, so that it is no guess for the processor.
+/// Whether a man of the side stands on a square of the set. The loop has no early exit, so that the processor has no branch to predict.
 #[inline]
 pub fn has_man_in(men: &[Man], side: Side, set: SquareSet) -> bool
     ensures { result ≡ list_any (λ m. same_side m.side side && has set m.at) men.now }
@@ -152,8 +152,8 @@ fn is_no_mate(class: Class, number: u32, setup: &Setup) -> bool
     has_move(class, number, setup)
 }
 
-/// Whether nothing is known of a number without the bit before the levels: it has no position, or one in which the side to
-/// move is not mated and has quiet moves alone. Some numbers without a position are left out.
+/// Whether nothing is known of a number without the bit before the levels: it has no position, or one in which the side to move is not mated and has only
+/// quiet moves. The answer is `false` for some numbers without a position.
 #[inline]
 fn begins_still(class: Class, number: u32) -> bool
     requires { number < 16777216 }
@@ -167,8 +167,7 @@ fn begins_still(class: Class, number: u32) -> bool
     could_take_king(class, number, &setup, attacked)
 }
 
-/// Whether nothing is known of the number before the levels. Of numbers with the bit only such are counted as have no position
-/// by the squares of their pawns.
+/// Whether nothing is known of the number before the levels. For numbers with the bit only the squares of their pawns are used.
 pub fn begins_unknown(class: Class, number: u32) -> bool
     ensures { IsTrue result → (q : Seen) → position_numbered class number ≡ Some q → (number < 16777216) × IsStill q }
 {

@@ -1,4 +1,4 @@
--- Questions, one after the other.
+-- Probes, one after the other.
 use Rattle.std.proofs.Common.{◌≡◌, ℕ, List, [], ◌∷◌, ◌++◌, Result, Ok, Err, IsErrOf, inl, inr, refl, subst}
 use Rattle.study_board.specs.Position.{Position, IsValid}
 use Rattle.study_text.specs.Counts.{counted}
@@ -13,7 +13,7 @@ use Rattle.study_marks.proofs.FaultsTold.{told-append}
 use Rattle.study_review.specs.Asked.{HasTold}
 
 module _ {V : Type 0} (gives : V → Position → ProbeAnswer → Type 0) (may_fail : V → Class → SourceFault → Type 0) (asked_of : V → ℕ) where
-  -- some positions were probed, and the value of each was read; or of each but the last
+  -- some positions were probed, and each value was read; or each except the last
   abbrev pub SomeTold : V → V → Type 0
   SomeTold old new = (asked : List Position) × WereTold gives may_fail asked_of old asked new
 

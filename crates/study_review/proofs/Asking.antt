@@ -67,17 +67,17 @@ module _ {V : Type 0} (held : V → Class → Bool) (gives : V → Position → 
   asks-then old mid new (Err OutOfMemory) h k = all-then old mid new h k
   asks-then old mid new (Err (Untold f)) h k = stops-then old mid new f h k
 
-  -- an error that is handed on
+  -- an error that is passed on
   pub same-asks : {T : Type 0} (old new : V) (r : Result T NotMade) (e : NotMade) → IsErrAnd r (λ x. x ≡ e)
       → Asks {T = T} old (Err e) new → Asks old r new
   same-asks old new (Ok x) e is h = absurd is
   same-asks {T = T} old new (Err x) e is h = subst (λ (y : NotMade). Asks {T = T} old (Err y) new) (sym is) h
 
-  -- want of memory where all was told
+  -- want of memory after all values were read
   pub no-memory : {T : Type 0} (old new : V) (r : Result T NotMade) → IsErrAnd r (λ x. x ≡ OutOfMemory) → Told old new → Asks old r new
   no-memory {T = T} old new r is h = same-asks {T = T} old new r OutOfMemory is h
 
-  -- what the answers of a call say
+  -- the consequences of the answers of a call
   pub of-told : (old new : V) → ((asked : List Position) × WereTold gives may_fail asked_of old asked new)
       → failed_of new ≡ failed_of old → (is_honest old → is_honest new) → ((c : Class) → held new c ≡ held old c) → Told old new
   of-told old new h n i t = record { told = h; failures = n; honest = i; tables = t }
@@ -116,7 +116,7 @@ module _ {V : Type 0} (held : V → Class → Bool) (gives : V → Position → 
   pub review-fails : {T : Type 0} (old new : V) (r : Result T ReviewFault) → IsErrAnd r (λ x. x ≡ fault.Device) → Told old new → Reviews old r new
   review-fails old new r is h = same-reviews old new r fault.Device is h
 
-  -- the answer to one question
+  -- the answer to one probe
   abbrev pub Answered : V → ProbeAnswer → V → Type 0
   Answered old (Ok v) new = Told old new
   Answered old (Err f) new = Stops old f new

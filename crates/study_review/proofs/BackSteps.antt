@@ -1,4 +1,4 @@
--- What some or each of the legal moves leads to, by their list.
+-- The positions that some or each of the legal moves lead to, by their list.
 use Rattle.std.proofs.Common.{◌≡◌, ℕ, ◌-◌, ◌+◌, ◌<◌, ◌≤◌, Bool, true, false, List, [], ◌∷◌, inl}
 use Rattle.std.proofs.Common.{inr, Result, Ok, Err, IfOk, ◌↔◌, length, suc, zero, arith, refl, sym, subst, ◌∙◌}
 use Rattle.std.specs.List.{Contains}
@@ -105,7 +105,7 @@ some-later P q m ms rest next w r e n is h g =
       (λ s. elim s [ inl x ↦ absurd (none x) | inr y ↦ k.1 y ]),
     )) g
 
--- not within m either
+-- and not within m
 pub none-more : (line : List Position) (q : Position) (m : ℕ) (b : Bool) → ((k : ℕ) → k < m → ¬ (IsBack line k q)) → b ≡ false
     → ((b ≡ true) ↔ IsBack line m q) → (k : ℕ) → k < m + 1 → ¬ (IsBack line k q)
 none-more line q m b h e now k l back = go (nat_lt k m) refl

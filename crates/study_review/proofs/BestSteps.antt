@@ -62,7 +62,7 @@ legal-goes-on p next x old mid new (Ok y) legal e t g = (
   g.2 ∙ ap (λ (l : List Continuation). l ++ g.0) t ∙ append_assoc old (x ∷ []) g.0,
 )
 
--- best play from moves that were told
+-- best play from evaluated moves
 pub play-told : (p next : Position) (x : Continuation) (told empty mid new : List Continuation) (o : Option Continuation)
     → AreChosen (λ v. true) p (legal_list p) told → o ≡ first_best told → o ≡ Some x → next ≡ after p x.played → empty ≡ []
     → mid ≡ empty ++ x ∷ [] → IsPlayed 19 next mid new → IsBestPlay 20 p new

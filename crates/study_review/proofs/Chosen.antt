@@ -1,4 +1,4 @@
--- Moves chosen one by one.
+-- Moves selected one by one.
 use Rattle.std.proofs.Common.{◌≡◌, ◌<◌, List, [], ◌∷◌, ◌++◌, Bool, true, Result, Ok, Err, OnOk, suc, length, arith, sym, ap, subst, ◌∙◌, append_assoc}
 use Rattle.std.proofs.lemmas.List.{append-nil}
 use Rattle.study_board.specs.Position.{Position}
@@ -11,7 +11,7 @@ use Rattle.study_marks.specs.Annotated.{AreValuesAfter}
 use Rattle.study_review.specs.declared.continuation.Continuation.{Continuation}
 use Rattle.study_review.specs.Continuations.{kept, chosen}
 
--- the wanted ones of these moves are added
+-- the wanted moves among these are added
 abbrev pub AreAdded : (Value → Bool) → Position → List Move → List Continuation → List Continuation → Type 0
 AreAdded f p ms old new = (all : List Value) × AreValuesAfter p ms all × (new ≡ old ++ chosen f ms all)
 

@@ -78,7 +78,7 @@ or-none-at : (a : Aim) (c : Bool) (xs : List Fault) → (c ≡ false → AreAtSo
 or-none-at a true xs h = tt
 or-none-at a false xs h = h refl
 
--- below a node of the solution; of the hero's children the first alone
+-- below a node of the solution; of the hero's children only the first
 at-from : (a : Aim) (d : ℕ) (path : List ℕ) (k : ℕ) (f : Forest Mark) → d ≡ length path → in_solution a 0 path ≡ true
     → (not (hero_moves a d) || (k == 0)) ≡ true → AreAtSolution a (faults_from a d path k f)
 at-from a d path k none depth h t = tt

@@ -71,7 +71,7 @@ pub record IsFirstIn (p : Position) (ms : List Move) (x : Continuation) : Type 0
   pub best : (m : Move) (v : Value) → Contains ms m → IsValueOf (after p m) v → is_better v x.value ≡ false
   pub first : (m : Move) (v : Value) → Contains ms m → IsValueOf (after p m) v → IsBefore m x.played → is_better x.value v ≡ true
 
--- one of the moves is the first or stands behind it
+-- a move of the list is the first, or comes after it
 abbrev in-rest : Move → List Move → Move → Type 0
 in-rest m ms n = (m ≡ n) ⊎ Contains ms n
 

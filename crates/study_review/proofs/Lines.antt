@@ -15,7 +15,7 @@ along-last : (p : Position) (ms : List Move) (m : Move)
 along-last p [] m = refl
 along-last p (n ∷ ms) m = ap (λ (l : List Position). p ∷ l) (along-last (after p n) ms m)
 
--- the line goes on by one position
+-- the line continues by one position
 pub line-last : {L : Type 0} (s : Study L) (steps front : List ℕ) (k : ℕ) (m : Move) (before next : Position) (mid new : List Position)
     → steps ≡ front ++ k ∷ [] → played_by (spot_at s.tree steps) ≡ Some m → IsPlayable s.start.position s.tree.below
     → before ≡ position_at s front → next ≡ after before m → mid ≡ line_to s front → new ≡ mid ++ next ∷ [] → new ≡ line_to s steps
@@ -28,7 +28,7 @@ line-last s steps front k m before next mid new path e h b n l t =
 pub line-root : {L : Type 0} (s : Study L) (steps : List ℕ) (p : Position) → steps ≡ [] → p ≡ s.start.position → p ∷ [] ≡ line_to s steps
 line-root s steps p e h = ap (λ q. q ∷ []) h ∙ ap (line_to s) (sym e)
 
--- before each move of the tree there is a node
+-- there is a node before each move of the tree
 pub no-front : {L : Type 0} (t : Plain L) (steps front : List ℕ) (k : ℕ) (m : Move) → steps ≡ front ++ k ∷ []
     → played_by (spot_at t steps) ≡ Some m → spot_at t front ≡ None → ⊥
 no-front {L = L} t steps front k m path e none = go (spot_at t steps) refl

@@ -71,7 +71,7 @@ one-loses x = go (is_some x.time) refl
     go true e = rw e refl
     go false e = rw e refl
 
--- as many lose time as there are exactly where each does
+-- all lose time exactly if each does
 pub all-counted : (list : List Alternative) → (times_lost list == length list) ≡ all_lose_time list
 all-counted [] = refl
 all-counted (x ∷ xs) = go (all-counted xs) (is_some x.time) refl
@@ -116,7 +116,7 @@ module _ (path : List ℕ) (a : Aim) (d : ℕ) (line : List Position) (p : Posit
   no-alternatives [] text e = ([], ([], tt, refl, refl), sym (append-nil text))
   no-alternatives (x ∷ xs) text e = absurd (omega (arith, e))
 
-  -- this one is another that holds
+  -- the only other move that holds
   pub one-besides : (x : Continuation) (y : Alternative) (n : ℕ) (old new : List ℕ) → is_among x.played (m ∷ []) ≡ false
       → holds a (d + 1) x.value ≡ true → y.played ≡ x.played → y.value ≡ x.value → IsTimeTold a.goal line (after p x.played) y.time
       → (if is_some y.time then 1 else 0) ≡ n → new ≡ old ++ also_line path p y → Grew (AreAlsoLines path a d line p m (x ∷ []) n) old new

@@ -1,4 +1,4 @@
--- What a node shows.
+-- The contents of a node.
 use Rattle.std.proofs.Common.{◌≡◌, ◌==◌, ℕ, suc, zero, Bool, true, false, not, ◌&&◌, List, [], ◌∷◌, ◌++◌, refl, sym, ap, ◌∙◌, subst, arith}
 use Rattle.std.proofs.lemmas.List.{append-nil}
 use Rattle.std.proofs.lemmas.Bool.{ne_eqb}
@@ -42,7 +42,7 @@ idle-more (more m x b r) (zero ∷ js) k =
     ∙ and-assoc (not (is_idle x.on_move)) (none_idle b js) (not (is_idle (on_move_of (twig_spot (node_in (below_at b js) k [])))))
 idle-more (more m x b r) (suc j ∷ js) k = idle-more r (j ∷ js) k
 
--- no move on the way to a node is idle where none before the last is, nor the last
+-- no move on the path to a node is idle if none before the last is, and the last is not
 pub idle-last : (t : Plain Mark) (steps front : List ℕ) (k : ℕ) → steps ≡ front ++ k ∷ []
     → none_idle t.below steps ≡ (none_idle t.below front && not (is_idle (on_move_of (spot_at t steps))))
 idle-last t steps front k e =
@@ -56,11 +56,11 @@ none-narrow : {L : Type 0} (f : Forest L) → (width f == 0) ≡ has_none f
 none-narrow none = refl
 none-narrow (more m l b r) = not-zero (width (more m l b r)) (λ e. absurd (omega (arith, e)))
 
--- a node has no child where it has so many, and these are none
+-- a node with 0 children has no child
 pub none-counted : {L : Type 0} (f : Forest L) (n : ℕ) → width f ≡ n → (n == 0) ≡ has_none f
 none-counted f n e = ap (λ k. k == 0) (sym e) ∙ none-narrow f
 
--- lines that there are, and that there are not
+-- lines if the test is true, and no lines if it is not
 pub not-there : (b : Bool) (Lines : List ℕ → Type 0) (text : List ℕ) → b ≡ false → Grew (OnlyWhere b Lines) text text
 not-there b Lines text e =
     ([], subst (λ c. OnlyWhere c Lines []) (sym e) refl, sym (append-nil text))

@@ -50,7 +50,7 @@ module _ (s : Study Mark) (path : List ℕ) where
         let three = subst (λ (l : List Position). AreTimedAlternatives (aim_of s) (length (front_of path)) l p m list) h.line two in
         subst (λ (q : Position). AreTimedAlternatives (aim_of s) (length (front_of path)) (line_to s (front_of path)) q m list) h.before.position three
 
-    -- the alternatives of a dual, of the moves that were told
+    -- the alternatives of a dual, among the evaluated moves
     pub timed-told : (told : List Continuation) (n : ℕ) (text : List ℕ) → AreChosen (λ v. true) p (legal_list p) told
         → AreAlsoLines path a d line p m told n text
         → (list : List Alternative) × AreTimedAlternatives a d line p m list × (n ≡ times_lost list) × (text ≡ flat_map (also_line path p) list)
@@ -140,7 +140,7 @@ module _ (s : Study Mark) (path : List ℕ) where
         let none : (if alone then 1 else 0) ≡ 0 = ap (λ b. if b then 1 else 0) is in
         (0, no-time-where (sym so), λ few. (let z : new ≡ old + 0 = ap (λ i. i) (rose (omega (arith, few, none))) ∙ ap (λ i. old + i) none in z))
 
-    -- a move with no such mark has no such line
+    -- a move without such a mark has no such line
     abbrev IsPlain : Option MoveMark → Type 0
     IsPlain None = Unit {0}
     IsPlain (Some Only) = Unit {0}
@@ -182,7 +182,7 @@ module _ (s : Study Mark) (path : List ℕ) where
 
   -- ---- the node
 
-  -- one kind behind the other
+  -- one kind of line after the other
   pub own-told : (t0 t1 t2 t3 : List ℕ) → Grew (RefutedLines s path) t0 t1 → Grew (MissingLines s path) t1 t2 → Grew (EndLines s path) t2 t3
       → Grew (OwnLines s path) t0 t3
   own-told t0 t1 t2 t3 b c d = (
@@ -236,7 +236,7 @@ module _ (s : Study Mark) (path : List ℕ) where
         let one = subst (λ (q : Position). IsEnd path q v grew.0) h.position grew.1 in
         are-there (is_open_end s path) _ old new is (grew.0, subst (λ w. IsEnd path (position_at s path) w grew.0) e one, grew.2)
 
-    -- no lines where there is nothing to tell
+    -- no lines if there is nothing to report
     pub own-none : (v : Value) (solution : Bool) (children : ℕ) (text : List ℕ) → v ≡ value_at s path → solution ≡ in_solution (aim_of s) 0 path
         → children ≡ width (below_at s.tree.below path) → (children == 0) ≡ false → is_try s path ≡ false
         → (not (hero_moves a d) && (holds a d v && solution)) ≡ false → Grew (OwnLines s path) text text
@@ -247,7 +247,7 @@ module _ (s : Study Mark) (path : List ℕ) where
         (sym (open-here children (length (legal_list p)) c refl) ∙ ap (λ b. b && not (length (legal_list p) == 0)) some) in
         own-told text text text text r m n
 
-  -- the line of a mutual zugzwang, behind the others of its node
+  -- the line of a mutual zugzwang, after the other lines of its node
   pub here-told : (p : Position) (t0 t1 t2 : List ℕ) → p ≡ position_at s path → Grew (OwnLines s path) t0 t1
       → ((z : Option Zugzwang) × IsZugzwangOf p z × (t2 ≡ t1 ++ zugzwang_line path z)) → Grew (HereLines s path) t0 t2
   here-told p t0 t1 t2 e x y =
@@ -257,7 +257,7 @@ module _ (s : Study Mark) (path : List ℕ) where
         y.2 ∙ ap (λ (t : List ℕ). t ++ line) x.2 ∙ append_assoc t0 x.0 line,
       )
 
-  -- the lines of a node, behind those of the move to it
+  -- the lines of a node, after those of the move to it
   pub node-told : (t0 t1 t2 : List ℕ) → Grew (AlsoLines s path) t0 t1 → Grew (HereLines s path) t1 t2 → Grew (NodeLines s path) t0 t2
   node-told t0 t1 t2 x y =
       let k = y.1 in

@@ -1,4 +1,4 @@
--- A study has one review.
+-- A study has exactly one review.
 use Rattle.std.proofs.Common.{◌≡◌, ℕ, ◌+◌, ◌<◌, suc, zero, Bool, true, false, not, List, []}
 use Rattle.std.proofs.Common.{◌∷◌, ◌++◌, Option, Some, None, length, refl, sym, ap, subst, ◌∙◌, arith}
 use Rattle.std.specs.Prelude.{MatchOption, if◌then◌else◌}
@@ -193,7 +193,7 @@ one-each Lines f [] t u h j = h ∙ sym j
 one-each Lines f (x ∷ xs) t u h j =
     h.4 ∙ ap (λ (o : List ℕ). o ++ h.1) (f x h.0 j.0 h.2 j.2) ∙ ap (λ (r : List ℕ). j.0 ++ r) (one-each Lines f xs h.1 j.1 h.3 j.3) ∙ sym j.4
 
--- ---- how many faults lose time alone
+-- ---- the number of faults that lose time alone
 
 abbrev pub OneNumber : (ℕ → Type 0) → Type 0
 OneNumber Count = (m n : ℕ) → Count m → Count n → m ≡ n

@@ -1,4 +1,4 @@
--- Where a position does not hold, some reply keeps it so.
+-- If a position does not hold, some reply keeps it so.
 use Rattle.std.proofs.Common.{◌≡◌, ℕ, ◌+◌, ◌-◌, ◌≤◌, ◌<◌, Bool, true, false, not, List, [], ◌∷◌, length, zero, suc, arith, refl, sym, ap, subst, ◌∙◌, inr}
 use Rattle.std.specs.Prelude.{nat_le, is_some, if◌then◌else◌, slice_index_or, ◌↔◌, ◌%◌, ◌==◌}
 use Rattle.std.specs.List.{Contains}
@@ -24,7 +24,7 @@ abbrev EachHas : (Value → Type 0) → Position → List Move → Type 0
 EachHas P q [] = Unit {0}
 EachHas P q (m ∷ ms) = ((w : Value) × IsValueOf (after q m) w × P w) × EachHas P q ms
 
--- none was chosen, so none is wanted
+-- none was selected, so none is wanted
 none-wanted : (f : Value → Bool) (m : Move) (ms : List Move) (v : Value) (vs : List Value) → chosen (λ u. not (f u)) (m ∷ ms) (v ∷ vs) ≡ []
     → (f v ≡ true) × (chosen (λ u. not (f u)) ms vs ≡ [])
 none-wanted f m ms v vs e = go (f v) refl
@@ -48,7 +48,7 @@ at-place P q [] h m k l e = absurd (omega (arith, l))
 at-place P q (n ∷ ms) h m zero l e = subst (λ (x : Move). (w : Value) × IsValueOf (after q x) w × P w) e h.0
 at-place P q (n ∷ ms) h m (suc k) l e = at-place P q ms h.1 m k (let z : k < length ms = omega (arith, l) in z) e
 
--- ---- what holds for the hero who is to move
+-- ---- the positions that hold if the hero is to move
 
 abbrev Won : Position → Value → Type 0
 Won q w = (n : ℕ) × (w ≡ values.Win n)

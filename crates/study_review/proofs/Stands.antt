@@ -1,4 +1,4 @@
--- A walk goes on by one move.
+-- A walk continues by one move.
 use Rattle.std.proofs.Common.{◌≡◌, ◌==◌, ℕ, ◌+◌, ◌<◌, true, not, ◌&&◌, ◌||◌, List, [], ◌∷◌, ◌++◌}
 use Rattle.std.proofs.Common.{Option, Some, None, length, refl, sym, ap, ◌∙◌, arith, length-append}
 use Rattle.std.specs.Prelude.{IsTrue}
@@ -29,7 +29,7 @@ use Rattle.study_review.proofs.Lines.{line-last}
 use Rattle.study_review.proofs.NodesShown.{front-is, idle-last}
 use Rattle.study_review.proofs.WrittenOrder.{node-here}
 
--- the node that shows this
+-- the node with these contents
 record Shows (o : Option (Spot Mark)) (by : Arrival) : Type 0 where
   pub spot : Spot Mark
   pub is : o ≡ Some spot
@@ -107,7 +107,7 @@ module _ (s : Study Mark) (steps : List ℕ) (by : Arrival) (e : arrival_of (spo
         (st.position ∙ sym (position-last s.start.position before.position s.tree steps front k by.played path arrival-played h at))
         (m ∙ ap (line_to s) same) n
 
--- ---- where a node stands
+-- ---- the place of a node
 
 made-by : (a : Aim) (steps front : List ℕ) (k : ℕ) → steps ≡ front ++ k ∷ [] → hero_made a steps ≡ hero_moves a (length front)
 made-by a steps front k e = ap (hero_made a) e ∙ go front

@@ -26,7 +26,7 @@ module _ (P : List ℕ → ℕ → Type 0) where
   each-sum (x ∷ xs) ys m n h k =
       (h.0, h.1 + n, h.2, each-sum xs ys h.1 n h.3 k, let z : m + n ≡ h.0 + (h.1 + n) = omega (arith, h.4) in z)
 
-  -- since the loop's start the count rose so that any numbers of the nodes that are left make numbers of all
+  -- since the loop's start the count rose such that it and any numbers of the remaining nodes add up to numbers of all
   abbrev pub SumGoesOn : List ℕ → Forest Mark → ℕ → ℕ → ℕ → Type 0
   SumGoesOn path f k initial now =
       (done : ℕ) × (initial + done < 2 ^ 32 → now ≡ initial + done)
@@ -69,7 +69,7 @@ module _ (P : List ℕ → ℕ → Type 0) where
             (subst (λ j. SumOfEach P (paths_from steps (k + 1) (skipped j g)) rest) (add-one k) left)))),
       )
 
-  -- the number of a node, and those of others behind it
+  -- the number of a node, and the numbers of the others after it
   pub both-summed : (path : List ℕ) (paths : List (List ℕ)) (t0 t1 t2 : ℕ) → Rose (P path) t0 t1 → Rose (SumOfEach P paths) t1 t2
       → Rose (SumOfEach P (path ∷ paths)) t0 t2
   both-summed path paths t0 t1 t2 x y = (x.0 + y.0, (x.0, y.0, x.1, y.1, refl), rose-twice t0 t1 t2 x.0 y.0 x.2 y.2)
@@ -83,14 +83,14 @@ module _ (P : List ℕ → ℕ → Type 0) where
       subst (λ (r : Forest Mark). SumOfEach P (paths_from steps k r) 0) (sym (skipped-end k g few)) refl in
       (h.0, subst (λ w. SumOfEach P (paths_from steps 0 g) w) (let z : h.0 + 0 ≡ h.0 = omega arith in z) (h.2 0 end), h.1)
 
-  -- all children are counted, behind the node's own number
+  -- all children are counted, after the node's own number
   pub all-summed : (f : Forest Mark) (steps : List ℕ) (k : ℕ) (old mid new : ℕ) → width (below_at f steps) ≤ k
       → Rose (P steps) old mid → SumGoesOn steps (below_at f steps) k mid new
       → Rose (SumOfEach P (steps ∷ paths_from steps 0 (below_at f steps))) old new
   all-summed f steps k old mid new few own h =
       both-summed steps (paths_from steps 0 (below_at f steps)) old mid new own (below-summed f steps k mid new few h)
 
-  -- of at most one each there are at most as many as there are paths
+  -- with at most one each, the total is at most the number of paths
   few-summed : ((path : List ℕ) (n : ℕ) → P path n → n ≤ 1) → (paths : List (List ℕ)) (n : ℕ) → SumOfEach P paths n → n ≤ length paths
   few-summed one [] n h = omega (arith, h)
   few-summed one (x ∷ xs) n h =
@@ -141,7 +141,7 @@ module _ (s : Study Mark) where
       let all = paths-counted [] 0 s.tree.below in
       omega (arith, few, all)
 
-  -- a move that is no dual does not lose time alone
+  -- a move that is not a dual does not lose time alone
   plain-time : (path : List ℕ) (m : Move) (mark : Option MoveMark) → is_dual mark ≡ false → IsTimeFaultOf s path m mark 0
   plain-time path m None i = refl
   plain-time path m (Some Only) i = refl

@@ -30,11 +30,11 @@ use Rattle.study_review.proofs.FaultsListed.{step-on}
 use Rattle.study_review.proofs.OneReview.{one-alternatives}
 
 module _ (law : EachHasAtMostOneValue) (s : Study Mark) where
-  -- 1 where the move to the node is a fault of the solution
+  -- 1 if the move to the node is a fault of the solution
   abbrev weight : List ℕ → ℕ
   weight path = if is_solution_fault s path then 1 else 0
 
-  -- a number that is at most another, and equal exactly where it is so
+  -- a number that is at most another, and equal to it exactly if the claim holds
   abbrev Counts : ℕ → ℕ → Type 0 → Type 0
   Counts n w So = (n ≤ w) × ((n ≡ w) ↔ So)
 
@@ -174,7 +174,7 @@ module _ (law : EachHasAtMostOneValue) (s : Study Mark) where
             (all-moved path (k + 1) r (ap (λ j. skipped j (below_at s.tree.below path)) (add-one k) ∙ at.1)),
       )
 
-  -- no fault of the solution is below a node that is not of it
+  -- no fault of the solution is below a node outside it
   outside-weight : (path : List ℕ) → in_solution (aim_of s) 0 path ≡ false → weight path ≡ 0
   outside-weight path e = go (hero_made (aim_of s) path) (in_solution (aim_of s) 0 path) e
     where

@@ -1,4 +1,4 @@
--- Moves that were told, and those of them that a line is written of.
+-- Evaluated moves, and those of them that have a line.
 use Rattle.std.proofs.Common.{◌≡◌, ℕ, ◌+◌, Bool, true, false, not, ◌&&◌, List, [], ◌∷◌, ◌++◌, Result, Ok, Err, OnOk}
 use Rattle.std.proofs.Common.{refl, ap, subst, ◌∙◌}
 use Rattle.std.specs.List.{filter}
@@ -22,7 +22,7 @@ pub told-one : {T E : Type 0} (p : Position) (m : Move) (ms rest : List Move) (o
     → OnOk r (AreTold p rest mid new) → OnOk r (AreTold p ms old new)
 told-one p m ms rest old mid new r e h k = one-added (λ v. true) p m ms rest h.0 old mid new r e h.1 h.2 k
 
--- all legal moves are told
+-- all legal moves are evaluated
 pub told-all : {T E : Type 0} (p : Position) (ms : List Move) (old new : List Continuation) (r : Result T E) → ms ≡ legal_list p → old ≡ []
     → OnOk r (AreTold p ms old new) → OnOk r (AreChosen (λ v. true) p (legal_list p) new)
 told-all p ms old new (Err x) e n h = tt
@@ -52,7 +52,7 @@ failing-told a d p list h = some-told (λ v. not (holds a (d + 1) v)) p (legal_l
 pub drawing-told : (p : Position) (list : List Continuation) → AreChosen (λ v. true) p (legal_list p) list → AreDrawingMoves p (drawing list)
 drawing-told p list h = some-told is_draw p (legal_list p) list h
 
--- ---- those that are none of these
+-- ---- the moves that are not in the list
 
 module _ (p : Position) (g : Move → Bool) (f : Value → Bool) (h : Continuation → Bool) (same : (x : Continuation) → h x ≡ (g x.played && f x.value)) where
   abbrev IsPicked : List Move → List Value → Type 0

@@ -1,4 +1,4 @@
--- The parts of a review, one behind the other.
+-- The parts of a review, one after the other.
 use Rattle.std.specs.Prelude.{codes, decimal}
 use Rattle.std.proofs.Common.{◌≡◌, ◌≤◌, ◌<◌, ◌+◌, ◌^◌, ℕ, Bool, true, false, List, [], ◌∷◌, ◌++◌, refl, sym, ap, subst, ◌∙◌, append_assoc, ◌-◌, length, take, arith, length-append}
 use Rattle.std.proofs.lemmas.List.{append-nil}
@@ -54,7 +54,7 @@ module _ (s : Study Mark) where
       both-written (NodeLines s) [] (paths_from [] 0 s.tree.below) t0 t1 t2 own
       (subst (λ (q : List ℕ). Grew (LinesOfEach (NodeLines s) (paths_from q 0 (below_at s.tree.below q))) t1 t2) e h)
 
--- where the count begins at 0, it is the number of the faults that lose time alone
+-- if the count begins at 0, it is the number of the faults that lose time alone
 pub time-counted : (s : Study Mark) (size old new : ℕ) → old ≡ 0 → size ≡ size_of s.tree → size ≤ 4096
     → Rose (AreTimeFaults s) old new → AreTimeFaults s new
 time-counted s size old new zero is few h =

@@ -1,4 +1,4 @@
--- What is asked stays within the classes that a position needs.
+-- Probes stay within the classes that a position needs.
 use Rattle.std.proofs.Common.{◌≡◌, ℕ, not, zero, suc, Bool, true, List, [], ◌∷◌, Result, Ok, Err, IsErrOf, inl, inr, refl, sym, ap, subst, map, ◌∙◌}
 use Rattle.std.specs.List.{All}
 use Rattle.std.proofs.lemmas.List.Elements.{All-filter}
@@ -134,7 +134,7 @@ module _ {V : Type 0} (gives : V → Position → ProbeAnswer → Type 0) where
   )
 
 module _ {V : Type 0} (may_fail : V → Class → SourceFault → Type 0) (asked_of : V → ℕ) where
-  -- the same, where more may be answered
+  -- the same, with more possible answers
   answers-more : (G H : V → Position → ProbeAnswer → Type 0) (old : V) (p : Position) (a : ProbeAnswer) (new : V) → (G old p a → H old p a)
       → Answers G may_fail asked_of old p a new → Answers H may_fail asked_of old p a new
   answers-more G H old p a new f h = record {
@@ -171,7 +171,7 @@ module _ {V : Type 0} (may_fail : V → Class → SourceFault → Type 0) (asked
     fault-each old new (q ∷ qs) e r n (inr (v, mid, a, h)) =
         inr (v, mid, answers-more gives (within p gives) old q (Ok v) mid (λ g. (g, r.0, value-within p v)) a, fault-each mid new qs e r.1 n h)
 
-    -- these were probed, to each of which the position leads
+    -- these positions were probed, and the position leads to each
     pub some-told : (old new : V) (qs : List Position) → EachReached p qs → WereTold gives may_fail asked_of old qs new
         → (asked : List Position) × WereTold (within p gives) may_fail asked_of old asked new
     some-told old new qs r h = (qs, told-each old new qs r h)
@@ -180,7 +180,7 @@ module _ {V : Type 0} (may_fail : V → Class → SourceFault → Type 0) (asked
         → IsFirstFault gives may_fail asked_of old qs e new → (asked : List Position) × IsFirstFault (within p gives) may_fail asked_of old asked e new
     some-fault held old new qs e r n h = (qs, fault-each old new qs e r (untold-needed p held qs e r n) h)
 
-    -- the same of a position that leads to it
+    -- the same for a position that leads to it
     module _ (q : Position) (lead : LeadsTo p q) where
       pub told-wider : (old new : V) → ((asked : List Position) × WereTold (within q gives) may_fail asked_of old asked new)
           → (asked : List Position) × WereTold (within p gives) may_fail asked_of old asked new
@@ -224,7 +224,7 @@ module _ {V : Type 0} (held : V → Class → Bool) (gives : V → Position → 
   asks-wider old new (Err OutOfMemory) h = all-wider old new h
   asks-wider old new (Err (Untold f)) h = stops-wider old new f h
 
--- ---- what the fault says
+-- ---- the meaning of the fault
 
 module _ {V : Type 0} (gives : V → Position → ProbeAnswer → Type 0) (may_fail : V → Class → SourceFault → Type 0) (asked_of : V → ℕ) (p : Position) (valid : IsValid p) where
   missed-in : (old new : V) (qs : List Position) (f : ProbeFault) (c : Class) → IsFirstFault (within p gives) may_fail asked_of old qs f new
@@ -242,12 +242,12 @@ module _ {V : Type 0} (gives : V → Position → ProbeAnswer → Type 0) (may_f
   unread-in old new (q ∷ qs) f x (inr (v, mid, a, h)) e =
       let y = unread-in mid new qs f x h e in (y.0, y.1, a.fails_as_before y.0 x y.2)
 
-  -- a table that is missed is one that the position needs
+  -- the missing table is one that the position needs
   pub missed-needed : (old new : V) (f : ProbeFault) (c : Class) → ((asked : List Position) × IsFirstFault (within p gives) may_fail asked_of old asked f new)
       → f ≡ probe.NoTable c → NeedsClass p c
   missed-needed old new f c h e = missed-in old new h.0 f c h.1 e
 
-  -- so is one that cannot be read, which may fail so
+  -- and so is one that could not be read, which may fail so
   pub unread-needed : (old new : V) (f : ProbeFault) (x : SourceFault) → ((asked : List Position) × IsFirstFault (within p gives) may_fail asked_of old asked f new)
       → f ≡ probe.TableRead x → (c : Class) × NeedsClass p c × may_fail old c x
   unread-needed old new f x h e = unread-in old new h.0 f x h.1 e

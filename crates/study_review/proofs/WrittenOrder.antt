@@ -24,7 +24,7 @@ module _ {L : Type 0} where
   node-here (more m l b r) zero h = (record { played = m; label = l; below = b }, refl, refl)
   node-here (more m l b r) (suc k) h = node-here r k (let z : k < width r = omega (arith, h) in z)
 
-  -- no node from a place on has a node below it where the one at this place has none, nor those after it
+  -- no node from a place on has children, if the node at this place has none, nor those after it
   pub none-here : (f : Forest L) (k next n : ℕ) (b : Bool) → k < width f → n ≡ width (below_at f (k ∷ [])) → next ≡ k + 1
       → b ≡ none_below (skipped next f) → ((n == 0) && b) ≡ none_below (skipped k f)
   none-here f k next n b lt e j h =
@@ -50,7 +50,7 @@ module _ (P : List ℕ → List ℕ → Type 0) where
   each-append (x ∷ xs) ys t u h k =
       (h.0, h.1 ++ u, h.2, each-append xs ys h.1 u h.3 k, ap (λ (w : List ℕ). w ++ u) h.4 ∙ append_assoc h.0 h.1 u)
 
-  -- since the loop's start lines were written that any lines of the nodes that are left make lines of all
+  -- since the loop's start lines were written such that they and any lines of the remaining nodes are lines of all
   abbrev pub GoesOn : List ℕ → Forest Mark → ℕ → List ℕ → List ℕ → Type 0
   GoesOn path f k initial text =
       (done : List ℕ) × (text ≡ initial ++ done)
@@ -59,7 +59,7 @@ module _ (P : List ℕ → List ℕ → Type 0) where
   pub none-yet : (path : List ℕ) (f : Forest Mark) (text : List ℕ) → GoesOn path f 0 text text
   none-yet path f text = ([], sym (append-nil text), λ rest h. h)
 
-  -- the lines of a child and of what is below it are written
+  -- the lines of a child and of the nodes below it are written
   pub child-written : (f : Forest Mark) (steps path : List ℕ) (k : ℕ) (initial old new : List ℕ) → path ≡ steps ++ k ∷ []
       → k < width (below_at f steps) → Grew (LinesOfEach P (path ∷ paths_from path 0 (below_at f path))) old new
       → GoesOn steps (below_at f steps) k initial old → GoesOn steps (below_at f steps) (k + 1) initial new
@@ -83,7 +83,7 @@ module _ (P : List ℕ → List ℕ → Type 0) where
             (subst (λ j. LinesOfEach P (paths_from steps (k + 1) (skipped j g)) rest) (add-one k) left)))),
       )
 
-  -- all children are written, behind the node's own lines
+  -- all children are written, after the node's own lines
   pub all-written : (f : Forest Mark) (steps : List ℕ) (k : ℕ) (old mid new : List ℕ) → width (below_at f steps) ≤ k
       → Grew (P steps) old mid → GoesOn steps (below_at f steps) k mid new
       → Grew (LinesOfEach P (steps ∷ paths_from steps 0 (below_at f steps))) old new
@@ -97,7 +97,7 @@ module _ (P : List ℕ → List ℕ → Type 0) where
         h.1 ∙ ap (λ (u : List ℕ). u ++ h.0) own.2 ∙ append_assoc old own.0 h.0,
       )
 
-  -- the lines of a node, and those of others behind them
+  -- the lines of a node, and those of the others after them
   pub both-written : (path : List ℕ) (paths : List (List ℕ)) (t0 t1 t2 : List ℕ) → Grew (P path) t0 t1 → Grew (LinesOfEach P paths) t1 t2
       → Grew (LinesOfEach P (path ∷ paths)) t0 t2
   both-written path paths t0 t1 t2 x y =

@@ -16,7 +16,7 @@ use Rattle.study_review.specs.Zugzwang.{turned_to, IsZugzwangOf, kind_of}
 use Rattle.study_review.specs.Asked.{IsReached}
 use Rattle.study_review.proofs.Within.{LeadsTo, leads-nowhere}
 
--- ---- which classes the other side's position is of
+-- ---- the class of the position with the other side to move
 
 -- a position leads to the same men with the other side to move
 pub leads-across : (p q : Position) → q ≡ handed_on p → IsValid q → LeadsTo p q
@@ -91,7 +91,7 @@ module _ (law : EachHasAtMostOneValue) (p : Position) (passed : has_legal_en_pas
       (is-zugzwang (omega (arith, z)), subst (λ k. Scores p k) a here, subst (λ k. Scores (handed_on p) k) b there)
   kind-from false e = rest-of (eqb-false (i + j) 0 e) (i + j == 1) refl
 
-  -- it is of the kind that the points say
+  -- it is of the kind that the points give
   pub kind-told : IsZugzwangOf p (kind_of p.to_move i j)
   kind-told = kind-from (i + j == 0) refl
 
@@ -107,12 +107,12 @@ none-passing p e z = false≢true (sym z.none_passed ∙ e)
 pub none-other : (p : Position) → ¬ (IsValid (handed_on p)) → IsZugzwangOf p None
 none-other p n z = n z.other
 
--- ---- a position is of one kind
+-- ---- a position has exactly one kind
 
 zero-one : EachHasAtMostOneValue → (q : Position) → Scores q 0 → Scores q 1 → ⊥
 zero-one law q a b = let e : ◌≡◌ {A = ℕ} 0 1 = one-score law q 0 1 a b in absurd (omega (arith, e))
 
--- no side scores half a point where each scores nothing
+-- no side scores half a point if both score nothing
 full-half : EachHasAtMostOneValue → (p : Position) (side : Side) → Scores p 0 → Scores (handed_on p) 0 → Scores (turned_to side p) 1 → ⊥
 full-half law p side a b c = go (same_side p.to_move side) c
   where

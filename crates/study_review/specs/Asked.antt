@@ -1,4 +1,4 @@
--- What was asked where each question depends on the answers before it.
+-- The probes of a call in which each probe depends on the answers before it.
 use Rattle.std.specs.Prelude.{◌≡◌, ℕ, Bool, false, List, Result, Ok, Err}
 use Rattle.study_board.specs.Position.{Position, IsValid}
 use Rattle.study_material.specs.declared.class.Class.{Class}
@@ -11,19 +11,19 @@ use Rattle.study_values.specs.declared.values.ProbeFault.TheVariants.{NoTable}
 use Rattle.study_marks.specs.Told.{failures_told}
 use Rattle.study_marks.specs.Answers.{WereTold, IsFirstFault}
 
--- each class of q is one that p needs
+-- each class of q is a class that p needs
 abbrev pub IsReached : Position → Position → Type 0
 IsReached p q = IsValid p → (c : Class) → IsOf c q → NeedsClass p c
 
--- an answer for want of a table is for one that p needs
+-- if the answer is that a table is missing, p needs its class
 abbrev pub IsWithinNeeds : Position → ProbeAnswer → Type 0
 IsWithinNeeds p answer = IsValid p → (c : Class) → answer ≡ Err (NoTable c) → NeedsClass p c
 
--- the answers of values, to no question but for positions of the classes that p needs, and for want of no other table
+-- the answers of values, to probes of positions of the classes that p needs only, and with no other table missing
 abbrev pub within : {V : Type 0} → Position → (V → Position → ProbeAnswer → Type 0) → V → Position → ProbeAnswer → Type 0
 within p gives v q answer = gives v q answer × IsReached p q × IsWithinNeeds p answer
 
--- Positions were probed one after the other, and the value of each was read; or of each but the last, whose answer was the fault.
+-- Positions were probed one after the other, and each value was read; or each except the last, whose answer was the fault.
 abbrev pub HasTold : {V T : Type 0} → (V → Position → ProbeAnswer → Type 0) → (V → Class → SourceFault → Type 0)
     → (V → ℕ) → V → Result T ProbeFault → V → Type 0
 HasTold gives may_fail asked_of old (Ok x) new = (asked : List Position) × WereTold gives may_fail asked_of old asked new
@@ -38,7 +38,7 @@ module _ {V : Type 0} (held : V → Class → Bool) (gives : V → Position → 
     pub honest : is_honest old → is_honest new
     pub tables : (c : Class) → held new c ≡ held old c
 
-  -- some positions were probed, and each value was read but the last, for this fault
+  -- some positions were probed, and each value was read except the last, for this fault
   pub record Stopped (old : V) (f : ProbeFault) (new : V) : Type 0 where
     pub told : (asked : List Position) × IsFirstFault gives may_fail asked_of old asked f new
     pub untold : (c : Class) → f ≡ NoTable c → held old c ≡ false

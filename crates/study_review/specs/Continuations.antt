@@ -1,4 +1,4 @@
--- Which moves of a position a review lists, with the values after them.
+-- The moves of a position that a review lists, with the values after them.
 use Rattle.std.specs.Prelude.{◌≡◌, ℕ, ◌+◌, Bool, true, false, not, ◌||◌, List, [], ◌∷◌, ◌++◌, map, if◌then◌else◌}
 use Rattle.std.specs.List.{filter}
 use Rattle.study_board.specs.Position.{Position}
@@ -23,7 +23,7 @@ abbrev pub is_among : Move → List Move → Bool
 is_among m [] = false
 is_among m (n ∷ ns) = same_move m n || is_among m ns
 
--- the legal moves of p but for these
+-- the legal moves of p except these
 abbrev pub others : List Move → Position → List Move
 others without p = filter (λ m. not (is_among m without)) (legal_list p)
 
@@ -36,7 +36,7 @@ chosen wanted [] vs = []
 chosen wanted (m ∷ ms) [] = []
 chosen wanted (m ∷ ms) (v ∷ vs) = kept wanted m v ++ chosen wanted ms vs
 
--- the list is of those of these moves of p whose value is wanted, each with the game's value after it, in order
+-- the list has those of these moves of p whose value is wanted, each with the game's value after it, in order
 abbrev pub AreChosen : (Value → Bool) → Position → List Move → List Continuation → Type 0
 AreChosen wanted p ms list = (all : List Value) × AreValuesAfter p ms all × (list ≡ chosen wanted ms all)
 
@@ -44,15 +44,15 @@ AreChosen wanted p ms list = (all : List Value) × AreValuesAfter p ms all × (l
 abbrev pub AreHoldingMoves : Aim → ℕ → Position → List Continuation → Type 0
 AreHoldingMoves a d p list = AreChosen (holds a (d + 1)) p (legal_list p) list
 
--- the legal moves after which it does not hold
+-- the legal moves after which the position does not hold
 abbrev pub AreRefutations : Aim → ℕ → Position → List Continuation → Type 0
 AreRefutations a d p list = AreChosen (λ v. not (holds a (d + 1) v)) p (legal_list p) list
 
--- the legal moves other than m after which it holds
+-- the legal moves other than m after which the position holds
 abbrev pub AreAlternatives : Aim → ℕ → Position → Move → List Continuation → Type 0
 AreAlternatives a d p m list = AreChosen (holds a (d + 1)) p (others (m ∷ []) p) list
 
--- the legal moves that are none of these
+-- the legal moves that are not in the list
 abbrev pub AreMissing : Position → List Move → List Continuation → Type 0
 AreMissing p there list = AreChosen (λ v. true) p (others there p) list
 
@@ -65,7 +65,7 @@ is_draw Draw = true
 abbrev pub AreDrawingMoves : Position → List Continuation → Type 0
 AreDrawingMoves p list = AreChosen is_draw p (legal_list p) list
 
--- which values are wanted after a move from depth d
+-- whether a value after a move from depth d is wanted
 abbrev pub is_wanted : Wanted → Aim → ℕ → Value → Bool
 is_wanted Holding a d v = holds a (d + 1) v
 is_wanted Failing a d v = not (holds a (d + 1) v)

@@ -27,7 +27,7 @@ use Rattle.study_review.specs.Nodes.{front_of, is_dual, mark_at, is_solution_mov
 use Rattle.study_review.specs.TimeFaults.{all_lose_time}
 use Rattle.study_review.specs.Review.{AreTimeFaults, written_order}
 
--- where the hero is to win and the opponent moves, a position with this value holds exactly where the side to move is mated
+-- if the hero is to win and the opponent moves, a position with this value holds exactly if the side to move is mated
 abbrev pub WonPositionsHold : Type 0
 WonPositionsHold = (a : Aim) (d : ℕ) (p : Position) (v : Value) → a.goal ≡ Win → hero_moves a d ≡ false → IsValueOf p v
     → (holds a d v ≡ true) ↔ HasLost p
@@ -39,25 +39,25 @@ AlternativesAreCounted =
     → IsLegal p m → IsValueOf (after p m) w → IsMoveMark a d p v w mark → AreAlternatives a d p m list
     → ((k : ℕ) → mark ≡ Dual k → length list ≡ k) × (mark ≡ Only → length list ≡ 0)
 
--- where the opponent is to move in a position that does not hold, and has a legal move, some move refutes
+-- if the opponent is to move in a position that does not hold, and has a legal move, some move refutes
 abbrev pub FailuresAreRefuted : Type 0
 FailuresAreRefuted =
     (a : Aim) (d : ℕ) (q : Position) (v : Value) (list : List Continuation) → IsValid q → hero_moves a d ≡ false
     → IsValueOf q v → holds a d v ≡ false → ((m : Move) × IsLegal q m) → AreRefutations a d q list → ¬ (list ≡ [])
 
--- A hero who answers by this rule wherever some move wins, and by a move that wins.
+-- A hero who answers by this rule whenever some move wins, and then by a winning move.
 abbrev pub AnswersByWins : (Position → Move) → Type 0
 AnswersByWins answer = (r : Position) → ((h : Move) × Wins r h) → Wins r (answer r)
 
--- a play from q, in which the opponent moves first, by legal moves, and the hero by his rule, in positions where it wins
+-- a play from q, in which the opponent moves first, by legal moves, and the hero answers by his rule, in positions in which it wins
 abbrev pub IsPlayAgainst : (Position → Move) → Position → List Move → Type 0
 IsPlayAgainst answer q [] = Unit {0}
 IsPlayAgainst answer q (n ∷ []) = IsLegal q n
 IsPlayAgainst answer q (n ∷ h ∷ rest) =
     IsLegal q n × (h ≡ answer (after q n)) × Wins (after q n) h × IsPlayAgainst answer (after (after q n) h) rest
 
--- where a position is back within m, the opponent has a play of at most m moves and one more to a position of the line,
--- by whatever rule the hero answers with moves that win
+-- if a position is back within m, the opponent has a play of at most m moves and one more to a position of the line, by whatever
+-- rule the hero answers with winning moves
 abbrev pub TimeLossIsForced : Type 0
 TimeLossIsForced =
     (line : List Position) (m : ℕ) (q : Position) (answer : Position → Move) → IsBack line m q → AnswersByWins answer
@@ -79,7 +79,7 @@ LosesTimeAlone s path m =
     → AreTimedAlternatives (aim_of s) (length (front_of path)) (line_to s (front_of path)) (position_at s (front_of path)) m list
     → all_lose_time list ≡ true)
 
--- where the move to the node is a fault of the solution, it loses time alone
+-- if the move to the node is a fault of the solution, it loses time alone
 abbrev pub LosesTimeAt : Study Mark → List ℕ → Type 0
 LosesTimeAt s path = (m : Move) → played_by (spot_at s.tree path) ≡ Some m → is_solution_fault s path ≡ true → LosesTimeAlone s path m
 
@@ -87,8 +87,8 @@ abbrev pub EachLosesTime : Study Mark → List (List ℕ) → Type 0
 EachLosesTime s [] = Unit {0}
 EachLosesTime s (path ∷ paths) = LosesTimeAt s path × EachLosesTime s paths
 
--- as many faults lose time alone as an annotated study has exactly where there is no mistake, and each dual of the solution would be an only move
--- but for moves that lose time
+-- all faults of an annotated study lose time alone exactly if there is no mistake, and each dual of the solution would be
+-- an only move but for moves that lose time
 abbrev pub TimeFaultsAreAll : Type 0
 TimeFaultsAreAll =
     (s : Study Mark) (n : ℕ) → IsAnnotated s → AreTimeFaults s n → (n ≡ s.tree.label.faults) ↔ EachLosesTime s (written_order s)

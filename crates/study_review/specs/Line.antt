@@ -1,4 +1,4 @@
--- The line of a node: the positions on the way to it.
+-- The line of a node: the positions on the path to it.
 use Rattle.std.specs.Prelude.{◌≡◌, ℕ, List, [], ◌∷◌, ◌++◌, length, Some}
 use Rattle.study_board.specs.Position.{Position}
 use Rattle.study_moves.specs.declared.moves.Move.{Move}
@@ -11,17 +11,17 @@ use Rattle.study_marks.specs.Goals.{aim_of}
 use Rattle.study_review.specs.declared.line.Place.{Place}
 use Rattle.study_review.specs.declared.line.Made.{Made}
 
--- the position, and those after moves that are played in order
+-- the position, then the positions after moves that are played in order
 abbrev pub positions_along : Position → List Move → List Position
 positions_along p [] = p ∷ []
 positions_along p (m ∷ ms) = p ∷ positions_along (after p m) ms
 
 module _ {L : Type 0} where
-  -- the positions on the path from the root to the node, both counted
+  -- the positions on the path from the root to the node, both included
   abbrev pub line_to : Study L → List ℕ → List Position
   line_to s steps = positions_along s.start.position (moves_to s.tree.below steps)
 
-  -- Where the node at the path stands: what the study wants, its depth, its position and its line.
+  -- The place of the node at the path: the stipulation, its depth, its position and its line.
   pub record IsPlaceOf (s : Study L) (steps : List ℕ) (x : Place) : Type 0 where
     pub aim : x.aim ≡ aim_of s
     pub depth : x.depth ≡ length steps
@@ -36,7 +36,7 @@ module _ {L : Type 0} where
     pub played : played_by (spot_at s.tree steps) ≡ Some x.played
     pub before : IsPlaceOf s front x.before
 
-  -- the moves of nodes that stand side by side
+  -- the moves of sibling nodes
   abbrev pub moves_of : Forest L → List Move
   moves_of none = []
   moves_of (more m l b r) = m ∷ moves_of r

@@ -1,4 +1,4 @@
--- Not part of any public contract: how a review is made.
+-- Not part of any public contract: the invariants of writing a review.
 use Rattle.std.specs.Prelude.{◌≡◌, ℕ, ◌+◌, ◌<◌, ◌^◌, Bool, List, ◌++◌, Result, Ok, Err}
 use Rattle.study_board.specs.Position.{Position}
 use Rattle.study_material.specs.declared.class.Class.{Class}
@@ -10,16 +10,16 @@ use Rattle.study_review.specs.declared.fault.NotMade.{NotMade}
 use Rattle.study_review.specs.declared.fault.NotMade.TheVariants.{OutOfMemory, Untold}
 use Rattle.study_review.specs.Asked.{AllTold, Stopped}
 
--- what is told where the text is not made
+-- the fault of the review for the fault with which its text was not made
 abbrev pub fault_of : NotMade → ReviewFault
 fault_of OutOfMemory = fault.OutOfMemory
 fault_of (Untold f) = fault.Values f
 
--- the text grew by some such lines
+-- the text grew by lines with the property
 abbrev pub Grew : (List ℕ → Type 0) → List ℕ → List ℕ → Type 0
 Grew Lines old new = (text : List ℕ) × Lines text × (new ≡ old ++ text)
 
--- the count rose by such a number, where the sum fits into 32 bits
+-- the count rose by a number with the property, if the sum fits into 32 bits
 abbrev pub Rose : (ℕ → Type 0) → ℕ → ℕ → Type 0
 Rose Count old new = (n : ℕ) × Count n × (old + n < 2 ^ 32 → new ≡ old + n)
 

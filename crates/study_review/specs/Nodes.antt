@@ -35,7 +35,7 @@ front_of [] = []
 front_of (k ∷ []) = []
 front_of (k ∷ j ∷ js) = k ∷ front_of (j ∷ js)
 
--- these lines where it is so, and none where it is not
+-- these lines if the test is true, otherwise no lines
 abbrev pub OnlyWhere : Bool → (List ℕ → Type 0) → List ℕ → Type 0
 OnlyWhere true Lines text = Lines text
 OnlyWhere false Lines text = text ≡ []
@@ -71,7 +71,7 @@ is_stalemate p = length (legal_list p) == 0 && not (in_check p.men p.to_move)
 abbrev pub mark_at : Study Mark → List ℕ → Option MoveMark
 mark_at s path = on_move_of (spot_at s.tree path)
 
--- the value of a node; a draw where there is none
+-- the value of a node; a draw if there is no such node
 abbrev pub value_of_spot : Option (Spot Mark) → Value
 value_of_spot None = Draw
 value_of_spot (Some x) = x.label.value
@@ -95,7 +95,7 @@ AlsoLines s path text =
 
 -- ---- refuted
 
--- an idle move, where the solution leads to it, and the first
+-- an idle move that the solution leads to, the first on its path
 abbrev pub is_first_idle : Study Mark → Aim → List ℕ → Bool
 is_first_idle s a path = is_idle (mark_at s path) && (in_solution a 0 (front_of path) && none_idle s.tree.below (front_of path))
 
@@ -106,7 +106,7 @@ is_try s path = hero_made (aim_of s) path && (is_mistake (mark_at s path) || is_
 abbrev pub refuted_text : List ℕ → Position → List Continuation → List ℕ
 refuted_text path q list = if is_stalemate q then stalemate_line path else flat_map (refuted_line path q) list
 
--- a line for each refutation of a try, or that it stalemates
+-- a line for each refutation of a try, or the line that it stalemates
 abbrev pub RefutedLines : Study Mark → List ℕ → List ℕ → Type 0
 RefutedLines s path text =
     OnlyWhere (is_try s path) (λ t. (list : List Continuation)
@@ -133,11 +133,11 @@ abbrev pub has_none : {L : Type 0} → Forest L → Bool
 has_none none = true
 has_none (more m l b r) = false
 
--- the tree ends here, and the game does not
+-- the tree ends here, but not the game
 abbrev pub is_open_end : Study Mark → List ℕ → Bool
 is_open_end s path = has_none (below_at s.tree.below path) && not (length (legal_list (position_at s path)) == 0)
 
--- best play where a side wins, and the moves that keep a draw
+-- best play if a side wins, otherwise the moves that keep a draw
 abbrev pub IsPlay : List ℕ → Position → Value → List ℕ → Type 0
 IsPlay path p v text = (list : List Continuation) × IsBestPlay 20 p list × (text ≡ play_line path p v list)
 
@@ -160,7 +160,7 @@ NodeLines s path text =
 
 -- ---- fault
 
--- the last move of the path is the hero's, and of the solution
+-- the last move of the path is the hero's, and part of the solution
 abbrev pub is_solution_move : Study Mark → List ℕ → Bool
 is_solution_move s path = hero_made (aim_of s) path && in_solution (aim_of s) 0 path
 

@@ -1,4 +1,4 @@
--- Not part of any public contract: where a walk of a study stands.
+-- Not part of any public contract: the state of a walk of a study.
 use Rattle.std.specs.Prelude.{◌≡◌, ℕ, List, length, Option, Some, None}
 use Rattle.study_board.specs.Position.{Position}
 use Rattle.study_moves.specs.declared.moves.Move.{Move}
@@ -16,7 +16,7 @@ use Rattle.study_review.specs.Faults.{in_solution}
 use Rattle.study_review.specs.Line.{line_to}
 use Rattle.study_review.specs.Nodes.{front_of, none_idle}
 
--- what a node shows, if it is there and not the root
+-- the contents of a node, if it exists and is not the root
 abbrev pub arrival_by : Option Move → Mark → ℕ → Option Arrival
 arrival_by None x n = None
 arrival_by (Some m) x n = Some (record { played = m; mark = x; children = n })
@@ -25,14 +25,14 @@ abbrev pub arrival_of : Option (Spot Mark) → Option Arrival
 arrival_of None = None
 arrival_of (Some s) = arrival_by s.played s.label s.children
 
--- what a walk knows of the node at the path
+-- the walk state at the node at the path
 pub record IsStand (s : Study Mark) (path : List ℕ) (x : Stand) : Type 0 where
   pub position : x.position ≡ position_at s path
   pub children : x.children ≡ width (below_at s.tree.below path)
   pub solution : x.solution ≡ in_solution (aim_of s) 0 path
   pub quiet : x.quiet ≡ none_idle s.tree.below path
 
--- a node at its depth, with what the study wants
+-- a node at its depth, with the stipulation
 pub record IsNodeAt (s : Study Mark) (path : List ℕ) (a : Aim) (d : ℕ) (p : Position) : Type 0 where
   pub aim : a ≡ aim_of s
   pub depth : d ≡ length path

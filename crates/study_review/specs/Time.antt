@@ -11,7 +11,7 @@ use Rattle.study_review.specs.declared.time.Alternative.{Alternative}
 use Rattle.study_review.specs.Continuations.{AreAlternatives}
 use Rattle.study_review.specs.Back.{IsTimeLost}
 
--- the time that is lost by a move to q: it is told where the hero is to win, and nowhere else
+-- the time that is lost by a move to q: given if the hero is to win, `None` for any other goal
 abbrev pub IsTimeTold : Goal → List Position → Position → Option ℕ → Type 0
 IsTimeTold Win line q time = IsTimeLost line q time
 IsTimeTold Draw line q time = time ≡ None

@@ -16,21 +16,21 @@ use Rattle.study_review.specs.Time.{AreTimedAlternatives}
 use Rattle.study_review.specs.Line.{line_to}
 use Rattle.study_review.specs.Nodes.{front_of, mark_at, is_solution_move}
 
--- of these other moves each loses time
+-- each of these other moves loses time
 abbrev pub all_lose_time : List Alternative → Bool
 all_lose_time list = list_all (λ x. is_some x.time) list
 
--- a number where it is so, and 0 where it is not
+-- a number with the property if the test is true, otherwise 0
 abbrev pub CountWhere : Bool → (ℕ → Type 0) → ℕ → Type 0
 CountWhere true Count n = Count n
 CountWhere false Count n = n ≡ 0
 
--- a dual, a move from p, the last of a line: 1 where each other move that holds loses time, and else 0
+-- for a dual, a move from p, the last of a line: 1 if each other move that holds loses time, otherwise 0
 abbrev pub IsTimeDual : Aim → ℕ → List Position → Position → Move → ℕ → Type 0
 IsTimeDual a d line p m n =
     (list : List Alternative) × AreTimedAlternatives a d line p m list × (n ≡ (if all_lose_time list then 1 else 0))
 
--- a dual, and nothing else, can lose time alone
+-- only a dual can lose time alone
 abbrev pub IsTimeFaultOf : Study Mark → List ℕ → Move → Option MoveMark → ℕ → Type 0
 IsTimeFaultOf s path m None n = n ≡ 0
 IsTimeFaultOf s path m (Some (Dual k)) n =
@@ -40,7 +40,7 @@ IsTimeFaultOf s path m (Some Only) n = n ≡ 0
 IsTimeFaultOf s path m (Some Idle) n = n ≡ 0
 IsTimeFaultOf s path m (Some Reply) n = n ≡ 0
 
--- 1 where the move to the node at the path is a fault of the solution that loses time alone, and else 0
+-- 1 if the move to the node at the path is a fault of the solution that loses time alone, otherwise 0
 abbrev pub IsTimeFault : Study Mark → List ℕ → ℕ → Type 0
 IsTimeFault s path n =
     CountWhere (is_solution_move s path)

@@ -1,4 +1,4 @@
--- Not part of any public contract: what is written of moves whose values were read.
+-- Not part of any public contract: the lines of moves whose values were read.
 use Rattle.std.specs.Prelude.{◌≡◌, ℕ, ◌+◌, true, not, ◌&&◌, List, [], ◌∷◌, ◌++◌, length}
 use Rattle.std.specs.List.{flat_map, filter}
 use Rattle.study_board.specs.Position.{Position}
@@ -24,44 +24,44 @@ use Rattle.study_review.specs.Words.{also_line, missing_line, times_lost}
 abbrev pub AreTold : Position → List Move → List Continuation → List Continuation → Type 0
 AreTold p ms old new = (all : List Value) × AreValuesAfter p ms all × (new ≡ old ++ chosen (λ v. true) ms all)
 
--- of moves that were told at depth d, those after which the position does not hold
+-- the evaluated moves at depth d after which the position does not hold
 abbrev pub failing : Aim → ℕ → List Continuation → List Continuation
 failing a d list = filter (λ x. not (holds a (d + 1) x.value)) list
 
--- those after which it is drawn
+-- the evaluated moves after which the position is drawn
 abbrev pub drawing : List Continuation → List Continuation
 drawing list = filter (λ x. is_draw x.value) list
 
--- those that are none of these
+-- the evaluated moves that are not in the tree
 abbrev pub apart : List Move → List Continuation → List Continuation
 apart there list = filter (λ x. not (is_among x.played there)) list
 
--- those that are none of these, and after which it holds
+-- the evaluated moves that are not in the tree, and after which the position holds
 abbrev pub besides : Aim → ℕ → List Move → List Continuation → List Continuation
 besides a d there list = filter (λ x. not (is_among x.played there) && holds a (d + 1) x.value) list
 
--- a line for each of these alternatives of a move from p, the last of a line; so many of them lose time
+-- a line for each of these alternatives of a move from p, the last of a line; n of them lose time
 abbrev pub AreAlsoLines : List ℕ → Aim → ℕ → List Position → Position → Move → List Continuation → ℕ → List ℕ → Type 0
 AreAlsoLines path a d line p m list n text =
     (timed : List Alternative) × AreTimed a.goal line p (besides a d (m ∷ []) list) timed
     × (n ≡ times_lost timed) × (text ≡ flat_map (also_line path p) timed)
 
--- a line for each of these defences that is missing, with its answers
+-- a line for each of these missing defences, with its answers
 abbrev pub AreMissingLines : List ℕ → Aim → ℕ → Position → List Move → List Continuation → List ℕ → Type 0
 AreMissingLines path a d p there list text =
     (answered : List Defence) × AreAnswered a d p (apart there list) answered × (text ≡ flat_map (missing_line path p) answered)
 
--- of these moves of q at depth d, how many hold, and which, where it is one
+-- the number of these moves of q at depth d that hold, and the move if it is the only one
 abbrev pub AreAnswers : Aim → ℕ → Position → List Move → Answers → Type 0
 AreAnswers a d q ms y =
     (list : List Continuation) × AreChosen (holds a (d + 1)) q ms list × (y.count ≡ length list) × (y.only ≡ the_only list)
 
--- the lines of a node by the values after its legal moves
+-- the lines of a node from the values after its legal moves
 abbrev pub OwnLines : Study Mark → List ℕ → List ℕ → Type 0
 OwnLines s path text =
     (refuted missing end : List ℕ) × RefutedLines s path refuted × MissingLines s path missing × EndLines s path end
     × (text ≡ refuted ++ (missing ++ end))
 
--- the lines of a node but for those of the move to it
+-- the lines of a node except those of the move to it
 abbrev pub HereLines : Study Mark → List ℕ → List ℕ → Type 0
 HereLines s path text = (own zugzwang : List ℕ) × OwnLines s path own × ZugzwangLines s path zugzwang × (text ≡ own ++ zugzwang)

@@ -27,7 +27,7 @@ front_words kind path = kind ++ (path_text path ++ codes " ")
 unfoldable pub told_move : Position → Move → Value → List ℕ
 told_move p m v = move_text p m ++ (codes " " ++ value_words v)
 
--- the time that is lost, where some is
+-- the time that is lost, if any
 abbrev pub time_words : Option ℕ → List ℕ
 time_words None = []
 time_words (Some m) = codes " time " ++ decimal m
@@ -43,7 +43,7 @@ refuted_line path p x = front_words (codes "refuted ") path ++ (told_move p x.pl
 unfoldable pub stalemate_line : List ℕ → List ℕ
 stalemate_line path = front_words (codes "refuted ") path ++ codes "stalemate\n"
 
--- how many answers there are in q; which one, where it is one; and that there is none for stalemate
+-- the number of answers in q; the answer, if it is the only one; or the word for stalemate if q has no move
 abbrev pub only_words : Position → Option Move → List ℕ
 only_words q None = []
 only_words q (Some m) = codes " " ++ move_text q m
@@ -59,7 +59,7 @@ unfoldable pub missing_line : List ℕ → Position → Defence → List ℕ
 missing_line path p y =
     front_words (codes "missing ") path ++ (told_move p y.played y.value ++ (answers_words (after p y.played) y.answers y.only ++ codes "\n"))
 
--- moves that are played one after the other, each behind a space
+-- moves played one after the other, each after a space
 abbrev pub play_words : Position → List Continuation → List ℕ
 play_words p [] = []
 play_words p (x ∷ xs) = codes " " ++ (move_text p x.played ++ play_words (after p x.played) xs)
@@ -68,7 +68,7 @@ play_words p (x ∷ xs) = codes " " ++ (move_text p x.played ++ play_words (afte
 unfoldable pub play_line : List ℕ → Position → Value → List Continuation → List ℕ
 play_line path p v list = front_words (codes "play ") path ++ (value_words v ++ (play_words p list ++ codes "\n"))
 
--- moves of one position, each behind a space
+-- moves of one position, each after a space
 unfoldable pub move_words : Position → Continuation → List ℕ
 move_words p x = codes " " ++ move_text p x.played
 
@@ -78,7 +78,7 @@ keep_line path p list =
     front_words (codes "keep ") path
     ++ (decimal (length list) ++ (codes " " ++ (decimal (length (legal_list p)) ++ (flat_map (move_words p) list ++ codes "\n"))))
 
--- of alternatives, those that lose time
+-- the number of alternatives that lose time
 abbrev pub times_lost : List Alternative → ℕ
 times_lost list = count_by (λ x. is_some x.time) list
 
@@ -88,7 +88,7 @@ dual_line path p m v k t =
     front_words (codes "fault ") path
     ++ (told_move p m v ++ (codes " dual " ++ (decimal k ++ (codes " time " ++ (decimal t ++ codes "\n")))))
 
--- `sound but for loss of time` where all of so many faults lose time alone, and else how many do: `unsound 5, 4 lose time alone`
+-- `sound but for loss of time` if all faults lose time alone, otherwise the number that do: `unsound 5, 4 lose time alone`
 abbrev pub alone_words : ℕ → List ℕ
 alone_words n = if n == 1 then codes " loses time alone" else codes " lose time alone"
 

@@ -15,14 +15,14 @@ use Rattle.study_review.specs.Words.{front_words}
 abbrev pub turned_to : Side → Position → Position
 turned_to side p = if same_side p.to_move side then p else handed_on p
 
--- no mutual zugzwang; one for a full point, where each side loses if it is to move; or one for half a point of a side, which draws if it is
--- to move, and wins if the other is
+-- no mutual zugzwang; one for a full point, if each side loses when it is to move; or one for half a point of a side, which draws when it is
+-- to move, and wins when the other side is
 abbrev pub IsZugzwangOf : Position → Option Zugzwang → Type 0
 IsZugzwangOf p None = ¬ (IsZugzwang p)
 IsZugzwangOf p (Some Full) = IsZugzwang p × Scores p 0 × Scores (handed_on p) 0
 IsZugzwangOf p (Some (Half side)) = IsZugzwang p × Scores (turned_to side p) 1 × Scores (turned_to (other_side side) p) 0
 
--- by the half points that each side scores where it is to move, this one and the other
+-- by the half points that each side scores when it is to move, this one and the other
 abbrev pub kind_of : Side → ℕ → ℕ → Option Zugzwang
 kind_of side i j =
     if i + j == 0 then Some Full
@@ -38,6 +38,6 @@ abbrev pub zugzwang_line : List ℕ → Option Zugzwang → List ℕ
 zugzwang_line path None = []
 zugzwang_line path (Some z) = front_words (codes "zugzwang ") path ++ (zugzwang_words z ++ codes "\n")
 
--- a line where the position of the node is a mutual zugzwang
+-- a line if the position of the node is a mutual zugzwang
 abbrev pub ZugzwangLines : Study Mark → List ℕ → List ℕ → Type 0
 ZugzwangLines s path text = (z : Option Zugzwang) × IsZugzwangOf (position_at s path) z × (text ≡ zugzwang_line path z)

@@ -1,4 +1,4 @@
-//! Defences that are missing, each with its answers.
+//! Missing defences, each with its answers.
 ghost use Rattle.std.specs.Prelude.{◌≡◌, ◌+◌, ◌++◌, ◌≤◌, ◌<◌, ◌^◌, ◌==◌, if◌then◌else◌, true, length, Some, None, OnOk, IfOk, IfSome};
 ghost use Rattle.std.specs.List.{All};
 ghost use Rattle.study_moves.specs.Rules.{is_legal, after};
@@ -22,14 +22,14 @@ use study_moves::{MAX_MOVES, Move, legal_moves, played};
 use study_text::Text;
 use study_values::Values;
 
-/// How many moves hold, and the move where it is one.
+/// The number of moves that hold, and the move if it is the only one.
 #[derive(Clone, Copy)]
 pub struct Answers {
     pub count: u16,
     pub only: Option<Move>,
 }
 
-/// One more move that holds, before these.
+/// The answers with one more move that holds, before these.
 fn one_more(m: Move, later: Answers) -> Answers
     requires { later.count + 1 < 2 ^ 16 }
     ensures count { result.count ≡ later.count + 1 }
@@ -42,7 +42,7 @@ fn one_more(m: Move, later: Answers) -> Answers
     }
 }
 
-/// Those of these moves after which the position holds.
+/// The answers among these moves: those after which the position holds.
 fn answers_among<V: Values>(
     node: &Node<'_>,
     moves: &[Move],
@@ -107,7 +107,7 @@ fn add_defence<A: Allocator, V: Values>(
     Ok(())
 }
 
-/// A line for each of these moves that is none of those in the tree.
+/// A line for each of these moves that is not in the tree.
 pub fn add_defences<A: Allocator, V: Values>(
     text: &mut Text<'_, A>,
     steps: &[u16],

@@ -14,7 +14,7 @@ use study_marks::hero_loses;
 use study_moves::{MAX_MOVES, Move, legal_moves, played, values_are_unique};
 use study_values::{ProbeFault, Values};
 
-/// Whether the position is one of the line.
+/// Whether the position is in the line.
 fn stands_in(line: &[Position], q: &Position) -> bool
     ensures { result ≡ stands_in line.now q.now }
 {
@@ -38,7 +38,7 @@ fn leads_into(line: &[Position], q: &Position, moves: &[Move]) -> bool
     }
 }
 
-/// Whether the position is one of the line, or a legal move leads to one.
+/// Whether the position is in the line, or a legal move leads into it.
 fn is_near(line: &[Position], q: &Position) -> bool
     ensures { (result ≡ true) ↔ IsNear line.now q.now }
 {
@@ -60,7 +60,7 @@ fn has_lost<V: Values>(q: &Position, values: &mut V) -> Result<bool, ProbeFault>
     ensures tables { (c : AClass) → V.held values.new c ≡ V.held values.old c }
 {
     values_are_unique();
-    // (the position is valid, as the clauses on its answer say)
+    // (the clauses of `men` say that the position is valid)
     let _men = q.men();
     match values.value(q) {
         Err(fault) => Err(fault),
@@ -68,7 +68,7 @@ fn has_lost<V: Values>(q: &Position, values: &mut V) -> Result<bool, ProbeFault>
     }
 }
 
-/// Whether of these moves of the hero, or before them, some wins, and each that wins leads back within m.
+/// Whether some of these moves of the hero wins, or one before them does, and each winning move leads back within m.
 #[cycle(back)]
 fn are_back<V: Values>(
     line: &[Position],
@@ -105,7 +105,7 @@ fn are_back<V: Values>(
     }
 }
 
-/// Whether the hero, who moves, can win, and wins only by moves that lead back within m.
+/// Whether the hero, who moves, can win, and only by moves that lead back within m.
 #[cycle(back)]
 fn goes_back<V: Values>(
     line: &[Position],
@@ -125,7 +125,7 @@ fn goes_back<V: Values>(
     are_back(line, m, r, false, moves.as_slice(), values)
 }
 
-/// Whether one of these moves of the opponent leads to a position in which the hero can only go back within m.
+/// Whether one of these moves of the opponent leads to a position in which the hero can win only by moves that lead back within m.
 #[cycle(back)]
 fn forces_back<V: Values>(
     line: &[Position],
@@ -158,7 +158,7 @@ fn forces_back<V: Values>(
     }
 }
 
-/// Whether the position is back within m.
+/// Whether the opponent can force a repetition of the line within m moves.
 #[cycle(back)]
 pub fn is_back<V: Values>(
     line: &[Position],
@@ -185,7 +185,7 @@ pub fn is_back<V: Values>(
     forces_back(line, m - 1, q, moves.as_slice(), values)
 }
 
-/// The least m up to 2 within which the position is back, if there is one.
+/// The least m up to 2 within which the position is back, `None` if there is none.
 pub fn time_lost<V: Values>(
     line: &[Position],
     q: &Position,

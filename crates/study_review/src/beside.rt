@@ -1,4 +1,4 @@
-//! Legal moves beside some.
+//! Legal moves other than some.
 ghost use Rattle.std.specs.Prelude.{◌≡◌, true};
 ghost use Rattle.std.specs.List.{All};
 ghost use Rattle.study_moves.specs.Rules.{is_legal};
@@ -8,7 +8,7 @@ use arrayvec::ArrayVec;
 use study_board::Position;
 use study_moves::{Move, MoveList, legal_moves};
 
-/// Whether the move is one of these.
+/// Whether the move is in the list.
 pub fn is_among(m: &Move, moves: &[Move]) -> bool
     ensures { result ≡ is_among m.now moves.now }
 {
@@ -18,7 +18,7 @@ pub fn is_among(m: &Move, moves: &[Move]) -> bool
     }
 }
 
-/// The legal moves but for these.
+/// The legal moves except these.
 pub fn others(p: &Position, without: &[Move]) -> MoveList
     ensures value { result.items ≡ others without.now p.now }
     ensures legal { All (λ m. is_legal p.now m ≡ true) result.items }

@@ -21,7 +21,7 @@ use study_board::Position;
 use study_moves::{Move, legal_moves, played, values_are_unique};
 use study_values::{ProbeFault, Value, Values};
 
-/// Whether the first of two values after moves is better for the one who made them.
+/// Whether the first of two values after moves is better for the side that made them.
 fn is_better(v: Value, w: Value) -> bool
     ensures { result ≡ is_better v w }
 {
@@ -34,7 +34,7 @@ fn is_better(v: Value, w: Value) -> bool
     }
 }
 
-/// The move, unless what follows it is better.
+/// The move, unless the best of the later ones is better.
 pub fn better_of(x: Continuation, later: Option<Continuation>) -> Continuation
     ensures { result ≡ better_of x later }
 {
@@ -81,7 +81,7 @@ fn best_among<V: Values>(
     }
 }
 
-/// The first legal move with the best value, if there is a legal move.
+/// The first legal move with the best value, `None` if there is no legal move.
 pub fn best_move<V: Values>(
     p: &Position,
     values: &mut V,

@@ -26,7 +26,7 @@ fn child_move<'b, B: Allocator>(bench: &Bench<'b, B>, steps: &[u16], place: u16)
     move_to(bench, child.as_slice())
 }
 
-/// Puts one more move last.
+/// Appends a move to the list.
 fn push_move<'a, A: Allocator>(moves: &mut Vec<Move, &'a A>, m: Move) -> Result<(), AllocError>
     ensures { OnOk result (moves.new.items ≡ moves.old.items ++ m ∷ []) }
 {
@@ -61,7 +61,7 @@ fn add_children<'a, 'b, A: Allocator, B: Allocator>(
     }
 }
 
-/// The moves of the children of the node at the path, in their order; none if there is no such node.
+/// The moves of the children of the node at the path, in order; empty if there is no such node.
 pub fn children_in<'a, 'b, A: Allocator, B: Allocator>(
     alloc: &'a A,
     bench: &Bench<'b, B>,

@@ -7,7 +7,7 @@ use study_marks::{Aim, holds};
 use study_moves::Move;
 use study_values::Value;
 
-/// A move, and the value of the position after it, seen from the side to move there.
+/// A move, and the value of the position after it, for the side to move there.
 #[derive(Clone, Copy, Debug, PartialEq, Eq)]
 pub struct Continuation {
     pub played: Move,
@@ -28,7 +28,7 @@ impl Default for Continuation {
     }
 }
 
-/// A position at a depth of a study, and what the study wants.
+/// A position at a depth of a study, and the stipulation.
 #[derive(Clone, Copy)]
 pub struct Node<'n> {
     pub aim: &'n Aim,
@@ -42,7 +42,7 @@ pub fn is_draw(value: Value) -> bool
     value == Value::Draw
 }
 
-/// Which moves are wanted: those after which the position holds, those after which it does not, those after which it is drawn, or all.
+/// The moves that are wanted: those after which the position holds, those after which it does not, those after which it is drawn, or all.
 #[derive(Clone, Copy, Debug, PartialEq, Eq)]
 pub enum Wanted {
     Holding,

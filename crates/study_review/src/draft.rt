@@ -1,11 +1,11 @@
-//! What a review is made of, before it is whole.
+//! The parts of a review before it is whole.
 
 use crate::continuation::Continuation;
 use std::alloc::Allocator;
 use study_board::Position;
 use study_text::Text;
 
-/// The lines of the faults, how many of these lose time alone, the lines of the nodes, and the moves that were evaluated last.
+/// The lines of the faults, the number of faults that lose time alone, the lines of the nodes, and the buffer of evaluated moves.
 #[derive(Drop)]
 pub struct Draft<'a, A: Allocator> {
     pub faults: Text<'a, A>,
@@ -14,7 +14,7 @@ pub struct Draft<'a, A: Allocator> {
     pub told: Vec<Continuation, &'a A>,
 }
 
-/// The path of a node, and the positions from the root to it, both counted.
+/// The path of a node, and the positions from the root to it, both included.
 #[derive(Drop)]
 pub struct Trail<'a, A: Allocator> {
     pub steps: Vec<u16, &'a A>,

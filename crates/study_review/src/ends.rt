@@ -1,4 +1,4 @@
-//! How it goes on where the tree ends.
+//! The lines at the ends of the tree.
 ghost use Rattle.std.specs.Prelude.{◌≡◌, ◌<◌, ◌^◌, true, length, OnOk, IfOk, IfSome};
 ghost use Rattle.std.specs.List.{All};
 ghost use Rattle.study_moves.specs.Rules.{is_legal};
@@ -36,7 +36,7 @@ fn best_of(p: &Position, told: &[Continuation]) -> Option<Continuation>
     }
 }
 
-/// Best play of at most 20 plies, of which the first is one of these legal moves.
+/// Best play of at most 20 plies, beginning with one of these legal moves.
 fn play_from<V: Values>(
     p: &Position,
     told: &[Continuation],

@@ -1,11 +1,11 @@
-//! Why no review is written.
+//! Why a review is not written.
 
 use std::alloc::{AllocError, AllocFailed};
 use study_text::DeviceFailed;
 use study_values::ProbeFault;
 use thiserror::Error;
 
-/// Why the review of a study is not written, or not whole.
+/// Why the review of a study is not written, or only in part.
 #[derive(Clone, Copy, Debug, PartialEq, Eq, Error)]
 pub enum ReviewFault {
     #[error("no memory is left for the text")]
@@ -16,7 +16,7 @@ pub enum ReviewFault {
     Values(ProbeFault),
 }
 
-/// Why the text is not made.
+/// Why the text of a review is not made.
 #[derive(Clone, Copy, Debug, PartialEq, Eq)]
 pub enum NotMade {
     OutOfMemory,

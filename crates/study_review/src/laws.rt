@@ -5,7 +5,7 @@ ghost use Rattle.study_review.specs.Laws.{AlternativesAreCounted, FailuresAreRef
 use study_marks::{annotations_are_unique, duals_count_other_moves};
 use study_moves::{legal_list_is_exact, mates_are_sound, values_are_unique};
 
-/// Where the hero is to win and the opponent moves, a position holds exactly where the opponent is mated.
+/// If the hero is to win and the opponent moves, a position holds exactly if the opponent is mated.
 pub fn won_positions_hold()
     ensures { WonPositionsHold }
 {
@@ -28,19 +28,19 @@ pub fn failures_are_refuted()
     legal_list_is_exact();
 }
 
-/// Where a move loses time, the opponent has a play to a position of the line against each way to go on winning.
+/// If a move loses time, the opponent has a play to a position of the line against each way to continue winning.
 pub fn time_loss_is_forced()
     ensures { TimeLossIsForced }
 {}
 
-/// A study has one review.
+/// A study has exactly one review.
 pub fn reviews_are_unique()
     ensures { ReviewsAreUnique }
 {
     values_are_unique();
 }
 
-/// A plain study has one review: that of its annotation.
+/// A plain study has exactly one review: that of its annotation.
 pub fn plain_studies_have_one_review()
     ensures { PlainStudiesHaveOneReview }
 {
@@ -48,8 +48,8 @@ pub fn plain_studies_have_one_review()
     reviews_are_unique();
 }
 
-/// As many faults lose time alone as a study has exactly where no move of the solution is a mistake, and each dual of it would be an only
-/// move but for moves that lose time.
+/// All faults of a study lose time alone exactly if no move of the solution is a mistake, and each dual of it would be
+/// an only move but for moves that lose time.
 pub fn time_faults_are_all()
     ensures { TimeFaultsAreAll }
 {

@@ -1,11 +1,10 @@
 //! The review of a study: facts of its nodes, by the game's values.
 //!
-//! `place_in` finds a node of a study, with its line, `made_in` a move and the node before it, `children_in` the moves that
-//! the tree has there. `holding_moves`, `alternatives`, `refutations` and `missing_moves`
-//! list legal moves of a position with the values after them, `timed_alternatives` also with the time that they lose:
-//! `time_lost` says whether a move only loses time. `best_move` and `best_play` give the best play from a position.
-//! `is_in_solution` is true of the nodes of the solution. `write_review` writes all of it, a fact a line, in one
-//! walk. Values are probed where they are needed, and kept for the lines of one node.
+//! `place_in` finds a node of a study, with its line, `made_in` a move and the node before it, `children_in` the moves that the tree has there.
+//! `holding_moves`, `alternatives`, `refutations` and `missing_moves` list legal moves of a position with the values after them, `timed_alternatives` also
+//! with the time that they lose: `time_lost` returns whether a move only loses time. `best_move` and `best_play` return the best play from a position.
+//! `is_in_solution` is true of the nodes of the solution. `write_review` writes all of it, one fact per line, in one walk. Values are probed when they are
+//! needed, and kept for the lines of one node.
 #![tactic(auto)]
 
 mod answers;

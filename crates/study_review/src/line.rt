@@ -14,11 +14,10 @@ use study_board::Position;
 use study_marks::{Aim, Bench, aim_of};
 use study_moves::{Move, played};
 
-/// Positions from the root of a study on, which has at most 256 plies.
+/// Positions from the root of a study on; a study has at most 256 plies.
 pub type Line = ArrayVec<Position, 257>;
 
-/// Where a node of a study stands: what the study wants, the node's depth in plies, its position, and the positions from
-/// the root to it, both counted.
+/// The place of a node of a study: the stipulation, the node's depth in plies, its position, and the positions from the root to it, both included.
 #[derive(Drop)]
 pub struct Place {
     pub aim: Aim,
@@ -27,14 +26,14 @@ pub struct Place {
     pub line: Line,
 }
 
-/// A move of a study: where the node before it stands, and the move.
+/// A move of a study: the place of the node before it, and the move.
 #[derive(Drop)]
 pub struct Made {
     pub before: Place,
     pub played: Move,
 }
 
-/// The move that led to the node, if there is one that is not the root.
+/// The move that led to the node, `None` if there is no such node, or it is the root.
 pub fn move_to<'b, B: Allocator>(bench: &Bench<'b, B>, steps: &[u16]) -> Option<Move>
     ensures { result ≡ played_by (spot_at (marked bench.now).tree steps.now) }
 {
@@ -44,7 +43,7 @@ pub fn move_to<'b, B: Allocator>(bench: &Bench<'b, B>, steps: &[u16]) -> Option<
     }
 }
 
-/// Adds the positions from the root to the node, and gives the node's own.
+/// Adds the positions from the root to the node, and returns the node's own.
 fn walk_to<'b, B: Allocator>(bench: &Bench<'b, B>, steps: &[u16], line: &mut Line) -> Position
     requires found { IsTrue (has_spot (marked bench.now).tree steps.now) }
     requires shallow { length steps.now ≤ 256 }
@@ -73,7 +72,7 @@ fn walk_to<'b, B: Allocator>(bench: &Bench<'b, B>, steps: &[u16], line: &mut Lin
     }
 }
 
-/// Where the node at the path stands, if there is one.
+/// The place of the node at the path, `None` if there is no such node.
 pub fn place_in<'b, B: Allocator>(bench: &Bench<'b, B>, steps: &[u16]) -> Option<Place>
     ensures none { IfNone result (spot_at (marked bench.now).tree steps.now ≡ None) }
     ensures some { IfSome result (λ _. IsSome (spot_at (marked bench.now).tree steps.now)) }
@@ -97,8 +96,7 @@ pub fn place_in<'b, B: Allocator>(bench: &Bench<'b, B>, steps: &[u16]) -> Option
     }
 }
 
-/// The move that led to the node at the path, and the path of the node before it, if there is such a node and it is not
-/// the root.
+/// The move that led to the node at the path, and the place of the node before it; `None` if there is no such node, or it is the root.
 pub fn made_in<'b, B: Allocator>(bench: &Bench<'b, B>, steps: &[u16]) -> Option<Made>
     ensures none { IfNone result (played_by (spot_at (marked bench.now).tree steps.now) ≡ None) }
     ensures made { IfSome result (IsMadeIn (marked bench.now) steps.now) }

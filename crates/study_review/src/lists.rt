@@ -39,7 +39,7 @@ fn keep(
     }
 }
 
-/// Asks the values after these moves, and adds those that are wanted.
+/// Probes the values after these moves, and adds the wanted ones.
 fn choose<V: Values>(
     node: &Node<'_>,
     wanted: Wanted,
@@ -78,7 +78,7 @@ fn choose<V: Values>(
     }
 }
 
-/// The wanted ones of these moves.
+/// The wanted moves among these.
 fn chosen<V: Values>(
     node: &Node<'_>,
     wanted: Wanted,
@@ -200,7 +200,7 @@ pub fn alternatives<V: Values>(
     chosen(node, Wanted::Holding, moves.as_slice(), values)
 }
 
-/// The legal moves that are none of these, which stand in the tree.
+/// The legal moves that are not in this list, the moves of the tree.
 pub fn missing_moves<V: Values>(
     node: &Node<'_>,
     there: &[Move],

@@ -1,4 +1,4 @@
-//! Defences that are missing, with their answers.
+//! Missing defences, with their answers.
 ghost use Rattle.std.specs.Prelude.{◌≡◌, ◌+◌, ◌++◌, ◌∷◌, [], ◌≤◌, ◌<◌, ◌^◌, List, true, false, length, IfOk, OnOk, IfErr, IsErrOf};
 ghost use Rattle.std.specs.List.{All};
 ghost use Rattle.arrayvec.specs.ArrayVec.{array_vec_len};
@@ -18,8 +18,8 @@ use study_board::Position;
 use study_moves::{MAX_MOVES, Move, played};
 use study_values::{ProbeFault, Value, Values};
 
-/// A move of the opponent: the value of the position after it, seen from the hero, how many of the hero's moves hold
-/// there, and that move where it is one.
+/// A move of the opponent: the value of the position after it, for the hero, the number of the hero's moves that hold
+/// there, and that move if it is the only one.
 #[derive(Clone, Copy, Debug, PartialEq, Eq)]
 pub struct Defence {
     pub played: Move,
@@ -43,7 +43,7 @@ impl Default for Defence {
     }
 }
 
-/// The move, where there is one alone.
+/// The move, if there is exactly one.
 fn the_only(list: &[Continuation]) -> Option<Move>
     ensures { result ≡ the_only list.now }
 {
@@ -123,7 +123,7 @@ fn answer_each<V: Values>(
     }
 }
 
-/// The legal moves that are none of these, which stand in the tree, each with its answers.
+/// The legal moves that are not in this list, the moves of the tree, each with its answers.
 pub fn defences<V: Values>(
     node: &Node<'_>,
     there: &[Move],

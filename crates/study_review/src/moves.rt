@@ -37,8 +37,7 @@ pub struct Step<'n> {
     pub played: Move,
 }
 
-/// A line for another move, with the time that it loses, and 1 where it loses time; no line, and 0, where it is the move
-/// itself or does not hold.
+/// A line for another move, with the time that it loses, and 1 if it loses time; no line, and 0, if it is the move itself or does not hold.
 fn add_alternative<A: Allocator, V: Values>(
     text: &mut Text<'_, A>,
     step: &Step<'_>,
@@ -71,7 +70,7 @@ fn add_alternative<A: Allocator, V: Values>(
     }
 }
 
-/// A line for each of these moves that is an alternative, and how many of them lose time.
+/// A line for each of these moves that is an alternative, and the number of them that lose time.
 pub fn add_alternatives<A: Allocator, V: Values>(
     text: &mut Text<'_, A>,
     step: &Step<'_>,
@@ -96,7 +95,7 @@ pub fn add_alternatives<A: Allocator, V: Values>(
     }
 }
 
-/// The line of a dual with so many others, of which so many lose time, if it is listed.
+/// The line of a dual with so many others, so many of which lose time, if it is listed.
 fn add_listed_dual<A: Allocator>(
     text: &mut Text<'_, A>,
     step: &Step<'_>,
@@ -118,7 +117,7 @@ fn add_listed_dual<A: Allocator>(
     add_dual(text, step.steps, step.before.position, &x, counts)
 }
 
-/// Whether it is another move, and one that holds.
+/// Whether this is another move, and one that holds.
 fn is_alternative(step: &Step<'_>, x: &Continuation) -> bool
     requires { step.now.before.depth + 1 < 2 ^ 64 }
     ensures { result ≡ (not (is_among x.now.played (step.now.played ∷ []))
@@ -128,7 +127,7 @@ fn is_alternative(step: &Step<'_>, x: &Continuation) -> bool
     !is_among(&x.played, &[step.played]) && holds(before.aim, before.depth + 1, x.value)
 }
 
-/// How many of these moves are alternatives.
+/// The number of alternatives among these moves.
 fn count_alternatives(step: &Step<'_>, told: &[Continuation]) -> u16
     requires depth { step.now.before.depth + 1 < 2 ^ 64 }
     requires few { length told.now < 2 ^ 16 }
@@ -143,14 +142,14 @@ fn count_alternatives(step: &Step<'_>, told: &[Continuation]) -> u16
     }
 }
 
-/// Whether a dual with so many others, of which so many lose time, is listed and loses time alone.
+/// Whether a dual with so many others, so many of which lose time, is listed and loses time alone.
 fn loses_time_alone(listed: bool, others: u16, time: u16) -> bool
     ensures { result ≡ (listed && (time == others)) }
 {
     listed && time == others
 }
 
-/// The count with one more, where it is so; it stays at the last value of its type.
+/// The count plus one if the test is true; it stays at the last value of its type.
 pub fn count_where(count: u32, so: bool) -> u32
     ensures { count + (if so then 1 else 0) < 2 ^ 32 → result ≡ count + (if so then 1 else 0) }
 {

@@ -1,4 +1,4 @@
-//! The lines of a node: refutations, defences that are missing, and how it goes on.
+//! The lines of a node: refutations, missing defences, and the play after an end of the tree.
 ghost use Rattle.std.specs.Prelude.{◌≡◌, ◌++◌, Option, ◌+◌, ◌^◌, ◌<◌, ◌==◌, true, not, ◌&&◌, length, IsTrue, OnOk};
 ghost use Rattle.std.specs.List.{All};
 ghost use Rattle.study_moves.specs.Rules.{is_legal};
@@ -33,7 +33,7 @@ use study_moves::in_check;
 use study_text::Text;
 use study_values::{Value, Values};
 
-/// A node of a study: its path, what it shows, whether its path is of the solution, and whether the move to it is a try.
+/// A node of a study: its path, its contents, whether its path is in the solution, and whether the move to it is a try.
 #[derive(Clone, Copy)]
 pub struct Here<'n> {
     pub node: Node<'n>,
@@ -52,7 +52,7 @@ fn is_stalemate(q: &Position, told: &[Continuation]) -> bool
     told.is_empty() && !in_check(q)
 }
 
-/// A line for each of these moves that refutes, or that the move to the node stalemates.
+/// A line for each of these moves that refutes, or the line that the move to the node stalemates.
 fn add_refutations<A: Allocator>(
     text: &mut Text<'_, A>,
     steps: &[u16],
@@ -91,7 +91,7 @@ fn add_refuted<'b, A: Allocator, B: Allocator>(
     add_refutations(text, here.steps, &here.node, told)
 }
 
-/// Whether the opponent is to move at the node, which is of the solution and holds.
+/// Whether the opponent is to move at the node, which is in the solution and holds.
 fn is_defended(here: &Here<'_>) -> bool
     ensures { result ≡ (not (hero_moves here.now.node.aim.now here.now.node.depth)
         && (holds here.now.node.aim.now here.now.node.depth here.now.value && here.now.solution)) }
@@ -101,7 +101,7 @@ fn is_defended(here: &Here<'_>) -> bool
         && here.solution
 }
 
-/// The defences that are missing.
+/// The lines of the missing defences.
 fn add_missing<'a, 'b, A: Allocator, B: Allocator, V: Values>(
     alloc: &'a A,
     text: &mut Text<'_, A>,
@@ -128,14 +128,14 @@ fn add_missing<'a, 'b, A: Allocator, B: Allocator, V: Values>(
     }
 }
 
-/// Whether the tree ends at the node, where the game does not.
+/// Whether the tree ends at the node, but not the game.
 fn is_open_end(here: &Here<'_>, told: &[Continuation]) -> bool
     ensures { result ≡ ((here.now.children == 0) && not (length told.now == 0)) }
 {
     here.children == 0 && !told.is_empty()
 }
 
-/// How it goes on where the tree ends.
+/// The line of the play after an end of the tree.
 fn add_end<'b, A: Allocator, B: Allocator, V: Values>(
     text: &mut Text<'_, A>,
     bench: &Bench<'b, B>,
@@ -193,7 +193,7 @@ fn add_told<'a, 'b, A: Allocator, B: Allocator, V: Values>(
     add_end(text, bench, here, told, values)
 }
 
-/// The lines of a node by the values after its legal moves. They are evaluated once, where any line may need them.
+/// The lines of a node from the values after its legal moves, which are evaluated once, if any line may need them.
 fn add_own<'a, 'b, A: Allocator, B: Allocator, V: Values>(
     alloc: &'a A,
     text: &mut Text<'_, A>,
@@ -237,7 +237,7 @@ fn add_zugzwang<A: Allocator, V: Values>(
     }
 }
 
-/// The lines of a node but for those of the move to it.
+/// The lines of a node except those of the move to it.
 pub fn add_here<'a, 'b, A: Allocator, B: Allocator, V: Values>(
     alloc: &'a A,
     text: &mut Text<'_, A>,

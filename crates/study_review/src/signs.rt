@@ -1,4 +1,4 @@
-//! The facts of a study that its marks have.
+//! The facts of a study that follow from its marks.
 ghost use Rattle.std.specs.Prelude.{◌≡◌, ◌&&◌, ◌||◌};
 ghost use Rattle.study_marks.specs.Goals.{aim_of};
 ghost use Rattle.study_marks.specs.BenchState.{marked};
@@ -29,21 +29,21 @@ pub fn is_idle(mark: Option<MoveMark>) -> bool
     }
 }
 
-/// Whether a move with this mark is a try: of the hero, and a mistake, or an idle move, and the first, where the solution leads.
+/// Whether a move with this mark is a try: the hero's, and a mistake, or an idle move that the solution leads to, the first on its path.
 pub fn is_try(made: bool, mark: Option<MoveMark>, before: &Stand) -> bool
     ensures { result ≡ (made && (is_mistake mark || (is_idle mark && (before.now.solution && before.now.quiet)))) }
 {
     made && (is_mistake(mark) || (is_idle(mark) && before.solution && before.quiet))
 }
 
-/// Whether a move is of the hero, and of the solution.
+/// Whether a move is the hero's, and in the solution.
 pub fn is_solution_move(made: bool, here: &Stand) -> bool
     ensures { result ≡ (made && here.now.solution) }
 {
     made && here.solution
 }
 
-/// What the hero is to reach, and whether he makes the first move.
+/// The stipulation's goal, and whether the hero makes the first move.
 pub fn aim_in<'b, B: Allocator>(bench: &Bench<'b, B>) -> Aim
     ensures { result ≡ aim_of (marked bench.now) }
 {
@@ -52,7 +52,7 @@ pub fn aim_in<'b, B: Allocator>(bench: &Bench<'b, B>) -> Aim
     study_marks::aim_of(&stipulation, first.position.to_move())
 }
 
-/// The value of the node, a draw where there is none.
+/// The value of the node, a draw if there is no such node.
 pub fn value_at<'b, B: Allocator>(bench: &Bench<'b, B>, steps: &[u16]) -> Value
     ensures { result ≡ value_at (marked bench.now) steps.now }
 {

@@ -1,10 +1,10 @@
-//! Which nodes the solution has.
+//! The nodes of the solution.
 ghost use Rattle.std.specs.Prelude.{◌≡◌, ◌+◌, ◌<◌, ◌^◌, length};
 ghost use Rattle.study_review.specs.Faults.{in_solution, FaultsAreOfTheSolution};
 
 use study_marks::{Aim, hero_moves};
 
-/// Whether the rest of a path, from a node at this depth, has solution steps alone.
+/// Whether the rest of a path, from a node at this depth, has only solution steps.
 fn goes_on(aim: &Aim, depth: usize, steps: &[u16]) -> bool
     requires { depth + length steps.now < 2 ^ 64 }
     ensures { result ≡ in_solution aim.now depth steps.now }
@@ -20,7 +20,7 @@ fn goes_on(aim: &Aim, depth: usize, steps: &[u16]) -> bool
     }
 }
 
-/// Whether the path has solution steps alone: each move of the opponent, and the first of the hero's at each node.
+/// Whether the path has only solution steps: any move of the opponent, and the first of the hero's moves at each node.
 pub fn is_in_solution(aim: &Aim, steps: &[u16]) -> bool
     ensures { result ≡ in_solution aim.now 0 steps.now }
 {

@@ -1,4 +1,4 @@
-//! Where a walk of a study stands.
+//! The state of a walk of a study.
 ghost use Rattle.std.specs.Prelude.{◌≡◌, ◌==◌, ◌<◌, not, ◌||◌, ◌&&◌, [], length, Some};
 ghost use Rattle.study_tree.specs.Edits.{width};
 ghost use Rattle.study_tree.specs.Tree.{spot_at};
@@ -14,8 +14,7 @@ use study_board::Position;
 use study_marks::{Aim, Bench, Mark, MoveMark, Shown, hero_moves};
 use study_moves::{Move, played};
 
-/// What a walk knows of the node where it stands: its position, how many children it has, and of the moves to it whether
-/// all are of the solution, and whether none is idle.
+/// The state of a walk at a node: its position, its number of children, and, of the moves to it, whether all are in the solution, and whether none is idle.
 #[derive(Drop)]
 pub struct Stand {
     pub position: Position,
@@ -24,7 +23,7 @@ pub struct Stand {
     pub quiet: bool,
 }
 
-/// What a node other than the root shows.
+/// The contents of a node other than the root.
 #[derive(Clone, Copy)]
 pub struct Arrival {
     pub played: Move,
@@ -32,7 +31,7 @@ pub struct Arrival {
     pub children: u16,
 }
 
-/// What the node at the path shows, if there is one that is not the root.
+/// The contents of the node at the path, `None` if there is no such node, or it is the root.
 pub fn arrival_at<'b, B: Allocator>(bench: &Bench<'b, B>, steps: &[u16]) -> Option<Arrival>
     ensures { result ≡ arrival_of (spot_at (marked bench.now).tree steps.now) }
 {
@@ -55,7 +54,7 @@ fn arrival_of(node: &Shown) -> Option<Arrival>
     }
 }
 
-/// Whether all moves are of the solution after one more, which is made at this depth, to the child at this place.
+/// Whether all moves are in the solution after one more, which is made at this depth, to the child at this place.
 fn is_solution(before: &Stand, aim: &Aim, depth: usize, place: u16) -> bool
     ensures { result ≡ (before.now.solution && (not (hero_moves aim.now depth) || (place == 0))) }
 {
@@ -69,7 +68,7 @@ fn is_quiet(before: &Stand, mark: Option<MoveMark>) -> bool
     before.quiet && !is_idle(mark)
 }
 
-/// Where the walk stands after the last move of the path.
+/// The walk state after the last move of the path.
 pub fn stand_after<'b, B: Allocator>(
     bench: &Bench<'b, B>,
     aim: &Aim,
@@ -95,7 +94,7 @@ pub fn stand_after<'b, B: Allocator>(
     }
 }
 
-/// The same of the root.
+/// The walk state at the root.
 pub fn root_stand<'b, B: Allocator>(bench: &Bench<'b, B>, children: u16) -> Stand
     requires { children ≡ width (marked bench.now).tree.below }
     ensures { IsStand (marked bench.now) [] result }

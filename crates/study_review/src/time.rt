@@ -21,8 +21,8 @@ use study_marks::Goal;
 use study_moves::{MAX_MOVES, Move, played};
 use study_values::{ProbeFault, Value, Values};
 
-/// Another move that holds: the value of the position after it, seen from the side to move there, and where it only loses
-/// time the least number of moves of the opponent, not counting the last, by which he forces a position of the line.
+/// Another move that holds: the value of the position after it, for the side to move there, and, if the move only loses time, the least number of moves of
+/// the opponent, not counting the last, by which he forces a position of the line.
 #[derive(Clone, Copy, Debug, PartialEq, Eq)]
 pub struct Alternative {
     pub played: Move,
@@ -51,7 +51,7 @@ pub fn all_lose_time(list: &[Alternative]) -> bool
     list.iter().all(|x| x.time.is_some())
 }
 
-/// The time that is lost by a move to this position, if the hero is to win.
+/// The time that is lost by a move to this position, if the hero is to win, otherwise `None`.
 pub fn time_told<V: Values>(
     goal: Goal,
     line: &[Position],

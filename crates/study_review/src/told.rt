@@ -1,4 +1,4 @@
-//! The legal moves of a position with the values after them, probed once and read by all that is written of the position.
+//! The legal moves of a position with the values after them, probed once and read for all lines of the position.
 ghost use Rattle.std.specs.Prelude.{◌≡◌, ◌+◌, ◌≤◌, ◌++◌, ◌∷◌, [], true, length, vec_len, OnOk, IfOk};
 ghost use Rattle.std.specs.List.{All};
 ghost use Rattle.study_moves.specs.Rules.{is_legal, after};
@@ -22,7 +22,7 @@ pub fn ask<V: Values>(q: &Position, values: &mut V) -> Result<Value, NotMade>
     ensures game { V.is_honest values.old → IfOk result (IsValueOf q.now) }
     ensures asked { HasAsked V.held (within q.now V.gives) V.may_fail V.asked_of V.failed_of V.is_honest values.old result values.new }
 {
-    // (the position is valid, as the clauses on its answer say)
+    // (the clauses of `men` say that the position is valid)
     let _men = q.men();
     match values.value(q) {
         Err(fault) => Err(NotMade::Untold(fault)),
@@ -73,7 +73,7 @@ fn ask_each<'a, A: Allocator, V: Values>(
     }
 }
 
-/// The legal moves of the position with the values after them, in the place of those of the position before.
+/// The legal moves of the position with the values after them, in place of those of the position before.
 pub fn ask_moves<'a, A: Allocator, V: Values>(
     p: &Position,
     values: &mut V,

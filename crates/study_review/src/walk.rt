@@ -1,4 +1,4 @@
-//! One walk of a study, in written order: what it finds of each node is handed on to those below it.
+//! One walk of a study, in written order: facts of a node are passed on to the nodes below it.
 ghost use Rattle.std.specs.Prelude.{◌≡◌, ◌++◌, ◌∷◌, [], ◌<◌, length, Some, OnOk, IfOk, IfErr};
 ghost use Rattle.study_tree.specs.Edits.{width};
 ghost use Rattle.study_tree.specs.Tree.{spot_at};
@@ -25,7 +25,7 @@ use study_board::Position;
 use study_marks::{Aim, Bench, Mark, hero_moves};
 use study_values::Values;
 
-/// How many children the node has, none where there is no node.
+/// The number of children of the node, 0 if there is no such node.
 pub fn count_at<'b, B: Allocator>(bench: &Bench<'b, B>, steps: &[u16]) -> u16
     ensures { result ≡ width (below_at (marked bench.now).tree.below steps.now) }
 {
@@ -148,7 +148,7 @@ fn enter<'a, 'b, A: Allocator, B: Allocator, V: Values>(
     }
 }
 
-/// The lines of all nodes below the one where the walk stands.
+/// The lines of all nodes below the node of this walk state.
 fn add_below<'a, 'b, A: Allocator, B: Allocator, V: Values>(
     alloc: &'a A,
     draft: &mut Draft<'a, A>,
@@ -223,7 +223,7 @@ fn add_root<'a, 'b, A: Allocator, B: Allocator, V: Values>(
     )
 }
 
-/// The trail of the root, where this position stands.
+/// The trail of the root, whose position this is.
 fn root_trail<'a, A: Allocator>(alloc: &'a A, position: &Position) -> Result<Trail<'a, A>, NotMade>
     ensures steps { IfOk result (λ trail. trail.steps.items ≡ []) }
     ensures line { IfOk result (λ trail. trail.line.items ≡ position.now ∷ []) }

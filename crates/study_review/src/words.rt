@@ -58,7 +58,7 @@ fn add_places<A: Allocator>(text: &mut Text<'_, A>, steps: &[u16]) -> Result<(),
     }
 }
 
-/// A path as the script has it: `root`, or places from the root with dots between them.
+/// A path as in a script: `root`, or places from the root joined by dots.
 pub fn add_path<A: Allocator>(text: &mut Text<'_, A>, steps: &[u16]) -> Result<(), AllocError>
     ensures { OnOk result (text.new ≡ text.old ++ path_text steps.now) }
 {
@@ -169,7 +169,7 @@ pub fn add_refuted_lines<A: Allocator>(
     Ok(())
 }
 
-/// A line that the move stalemates.
+/// The line that the move stalemates.
 #[tactic(auto, unfolding(crate::specs::Words::stalemate_line))]
 pub fn add_stalemate<A: Allocator>(text: &mut Text<'_, A>, steps: &[u16]) -> Result<(), AllocError>
     ensures { OnOk result (text.new ≡ text.old ++ stalemate_line steps.now) }
@@ -289,7 +289,7 @@ pub fn add_move<A: Allocator>(
     add_san(text, p, x.played)
 }
 
-/// The moves that keep a draw, each behind a space.
+/// The moves that keep a draw, each after a space.
 fn add_drawing_moves<A: Allocator>(
     text: &mut Text<'_, A>,
     p: &Position,
@@ -306,7 +306,7 @@ fn add_drawing_moves<A: Allocator>(
     Ok(())
 }
 
-/// How many of these keep a draw.
+/// The number of these moves that keep a draw.
 fn count_drawing(told: &[Continuation]) -> u32
     requires { length told.now < 2 ^ 32 }
     ensures count { result ≡ length (drawing told.now) }
@@ -318,7 +318,7 @@ fn count_drawing(told: &[Continuation]) -> u32
     }
 }
 
-/// The line of the moves that keep a draw, of all legal moves.
+/// The line of the moves that keep a draw, among all legal moves.
 #[tactic(auto, unfolding(crate::specs::Words::keep_line))]
 pub fn add_keep<A: Allocator>(
     text: &mut Text<'_, A>,
@@ -339,7 +339,7 @@ pub fn add_keep<A: Allocator>(
     text.add(b"\n")
 }
 
-/// The line of a dual with so many others, of which so many lose time.
+/// The line of a dual with so many others, so many of which lose time.
 #[tactic(auto, unfolding(crate::specs::Words::dual_line))]
 pub fn add_dual<A: Allocator>(
     text: &mut Text<'_, A>,
@@ -376,7 +376,7 @@ pub fn add_mistake<A: Allocator>(
     text.add(b" mistake\n")
 }
 
-/// That so many lose time alone.
+/// The words that so many faults lose time alone.
 pub fn add_alone<A: Allocator>(text: &mut Text<'_, A>, time: u32) -> Result<(), AllocError>
     ensures { OnOk result (text.new ≡ text.old ++ alone_words time) }
 {
@@ -387,8 +387,7 @@ pub fn add_alone<A: Allocator>(text: &mut Text<'_, A>, time: u32) -> Result<(), 
     }
 }
 
-/// The verdict on a solution with so many faults, of which so many lose time alone: `sound but for loss of time` where these
-/// are all.
+/// The verdict on a solution with so many faults, so many of which lose time alone: `sound but for loss of time` if these are all.
 #[tactic(auto, unfolding(crate::specs::Words::time_verdict))]
 pub fn add_time_verdict<A: Allocator>(
     text: &mut Text<'_, A>,

@@ -1,4 +1,4 @@
-//! The review of a study, and its way to a writer.
+//! The review of a study, and writing it.
 ghost use Rattle.std.specs.Prelude.{◌≡◌, ◌++◌, ◌≤◌, List, ℕ, OnOk, IfOk, IfErr, Ok, Err};
 ghost use Rattle.std.specs.Io.KnownBytes.{Appends};
 ghost use Rattle.study_text.specs.Taken.{TakesPrefix};
@@ -29,7 +29,7 @@ use study_pgn::{add_opening_words, is_right, root_mark};
 use study_text::{Text, write_text};
 use study_values::Values;
 
-/// Where the study starts.
+/// The line with the start of the study.
 #[tactic(auto, unfolding(crate::specs::Review::study_line))]
 fn add_study<'b, A: Allocator, B: Allocator>(
     text: &mut Text<'_, A>,
@@ -119,7 +119,7 @@ fn add_head<'b, A: Allocator, B: Allocator>(
     add_empty(text, bench)
 }
 
-/// The line of a study in which this side moves first, by how many of its faults lose time alone.
+/// The line of a study in which this side moves first, by the number of its faults that lose time alone.
 fn add_waste_words<A: Allocator>(
     text: &mut Text<'_, A>,
     stipulation: Stipulation,
@@ -139,7 +139,7 @@ fn add_waste_words<A: Allocator>(
     text.add(b"\n")
 }
 
-/// The line that says how many faults lose time alone, where the study is unsound and some do.
+/// The line with the number of faults that lose time alone, if the study is unsound and some do.
 #[tactic(auto, unfolding(crate::specs::Review::waste_line))]
 fn add_waste<'b, A: Allocator, B: Allocator>(
     text: &mut Text<'_, A>,
@@ -159,7 +159,7 @@ fn add_waste<'b, A: Allocator, B: Allocator>(
     )
 }
 
-/// Three texts, one behind the other.
+/// Three texts, one after the other.
 fn join<'a, A: Allocator>(
     mut text: Text<'a, A>,
     middle: Text<'a, A>,
@@ -202,11 +202,11 @@ fn text_of<'a, 'b, A: Allocator, B: Allocator, V: Values>(
     join(head, draft.faults, draft.nodes)
 }
 
-/// Writes the review of a study, the one of this number.
+/// Writes the review of a study; `number` is its number.
 ///
-/// The text is made whole first, so want of memory, and a value that cannot be read, is reported before the first byte. A writer
-/// that fails or takes nothing ends the call; it took a front of the text then. The study is walked once. The time grows
-/// with the number of nodes, and with the depth of each, since a node is looked up along its path.
+/// The text is completed in memory first, so want of memory, and a value that cannot be read, is reported before the first byte. A writer that fails or takes
+/// nothing ends the call, and then has a prefix of the text. The study is walked once. The time grows with the number of nodes, and with the depth of each,
+/// since a node is looked up along its path.
 pub fn write_review<'a, 'b, A: Allocator, B: Allocator, V: Values, W: Write>(
     alloc: &'a A,
     bench: &Bench<'b, B>,

@@ -17,15 +17,15 @@ use study_text::Text;
 use study_values::{ProbeFault, Values};
 use study_zugzwang::{half_points, handed_on};
 
-/// A mutual zugzwang: for a full point, where each side loses if it is to move; or for half a point of a side, which draws if it is to
-/// move, and wins if the other is.
+/// A mutual zugzwang: for a full point, if each side loses when it is to move; or for half a point of a side, which draws when it is
+/// to move, and wins when the other side is.
 #[derive(Clone, Copy, Debug, PartialEq, Eq)]
 pub enum Zugzwang {
     Full,
     Half(Side),
 }
 
-/// How many half points the side to move scores.
+/// The score of the side to move, in half points.
 fn score<V: Values>(q: &Position, values: &mut V) -> Result<u8, ProbeFault>
     ensures game { V.is_honest values.old → IfOk result (Scores q.now) }
     ensures few { IfOk result (λ k. k < 3) }
@@ -36,7 +36,7 @@ fn score<V: Values>(q: &Position, values: &mut V) -> Result<u8, ProbeFault>
     ensures honest { V.is_honest values.old → V.is_honest values.new }
     ensures tables { (c : AClass) → V.held values.new c ≡ V.held values.old c }
 {
-    // (the position is valid, as the clauses on its answer say)
+    // (the clauses of `men` say that the position is valid)
     let _men = q.men();
     match values.value(q) {
         Err(fault) => Err(fault),
@@ -44,7 +44,7 @@ fn score<V: Values>(q: &Position, values: &mut V) -> Result<u8, ProbeFault>
     }
 }
 
-/// What it is, where this side is to move, by the half points that each scores.
+/// The kind of zugzwang, by the half points that this side scores when it is to move, and those that the other scores when it is.
 fn kind_of(side: Side, here: u8, there: u8) -> Option<Zugzwang>
     requires here { here < 3 }
     requires there { there < 3 }
@@ -59,7 +59,7 @@ fn kind_of(side: Side, here: u8, there: u8) -> Option<Zugzwang>
     }
 }
 
-/// The same of a position in which the side to move scores so much, and of the one with the other side to move.
+/// The kind of zugzwang of a position in which the side to move scores so much, from the position with the other side to move.
 fn kind_beside<V: Values>(
     p: &Position,
     here: u8,
@@ -78,7 +78,7 @@ fn kind_beside<V: Values>(
     ensures tables { (c : AClass) → V.held values.new c ≡ V.held values.old c }
 {
     values_are_unique();
-    // (the position is valid, as the clauses on its answer say)
+    // (the clauses of `men` say that the position is valid)
     let _men = q.men();
     match score(q, values) {
         Err(fault) => Err(fault),
@@ -86,7 +86,7 @@ fn kind_beside<V: Values>(
     }
 }
 
-/// The same of a position and the one with the other side to move.
+/// The kind of zugzwang of a position, from it and the position with the other side to move.
 fn zugzwang_of<V: Values>(
     p: &Position,
     q: &Position,
@@ -108,7 +108,7 @@ fn zugzwang_of<V: Values>(
     }
 }
 
-/// Whether the position is a mutual zugzwang, whoever is to move, and of which kind.
+/// The kind of mutual zugzwang that the position is, whoever is to move; `None` if it is not one.
 pub fn zugzwang_at<V: Values>(p: &Position, values: &mut V) -> Result<Option<Zugzwang>, ProbeFault>
     ensures game { V.is_honest values.old → IfOk result (IsZugzwangOf p.now) }
     ensures untold { (c : AClass) → IsErrOf result (ProbeFault.NoTable c) → V.held values.old c ≡ false }
@@ -142,7 +142,7 @@ pub fn add_zugzwang_words<A: Allocator>(
     }
 }
 
-/// The line of a mutual zugzwang, where it is one.
+/// The line of a mutual zugzwang, if the position is one.
 pub fn add_zugzwang_line<A: Allocator>(
     text: &mut Text<'_, A>,
     steps: &[u16],

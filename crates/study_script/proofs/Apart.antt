@@ -1,4 +1,4 @@
--- A reply where studies are kept apart, by the reply where they are not.
+-- A reply if studies are kept apart, by the reply if they are not.
 use Rattle.std.proofs.Common.{◌≡◌, ℕ, Bool, true, false, ◌&&◌, List, Option, Result, Ok, Err, refl, sym, subst, ◌∙◌}
 use Rattle.std.specs.Prelude.{IfOk, OnErr}
 use Rattle.study_material.specs.declared.class.Class.{Class}
@@ -25,7 +25,7 @@ answered-apart s line H K old new was f (o, reply, is, wrote, held, same) = (
   same,
 )
 
--- what is held after the document was cleared, or was not
+-- the state after the document was emptied, or was not
 module _ {S P A : Type 0} (source_honest : P → Table → ℕ → Type 0) (source_gives : GivesOf P) (store_honest : S → Bool → Type 0)
     (files headers : Known S) (faults : S → Class → SourceFault → Bool) where
   pub holds-cleared : (b c : HeldDocument A) (t : Tables P A) (store : S) (s : State) (clears : Bool) → (clears ≡ true → c ≡ held.Empty) → (clears ≡ false → c ≡ b)

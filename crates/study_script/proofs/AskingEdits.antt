@@ -14,7 +14,7 @@ use Rattle.study_script.specs.State.{State, is_among, Outside, quiet, no_room, u
 use Rattle.study_script.specs.Replies.{accepted, refused_as, holding, missing, found, IsAskingReply, IsAskedReply}
 use Rattle.study_script.specs.Held.{IsToldBy, TellsFailing}
 
--- the same classes are held
+-- the same tables are loaded
 held-same : (h k : Class → Bool) (p : Position) → ((c : Class) → h c ≡ k c) → IsTableHeld h p → IsTableHeld k p
 held-same h k p e held c is = sym (e c) ∙ held c is
 
@@ -32,12 +32,12 @@ unread-same h k [] f e m = absurd m
 unread-same h k (p ∷ ps) f e m =
     (held-same h k p e m.0, elim m.1 [ inl here ↦ inl here | inr there ↦ inr (unread-same h k ps f e there) ])
 
--- a table that is missing is not told as a fault of reading
+-- a missing table is not reported as a fault of reading
 missing-unread : (held : Class → Bool) (ps : List Position) (c : Class) → IsFirstUnread held ps (probe.NoTable c) → ⊥
 missing-unread held [] c m = m
 missing-unread held (p ∷ ps) c m = elim m.1 [ inl here ↦ here | inr there ↦ missing-unread held ps c there ]
 
--- an edit that is refused for what is outside has that reply
+-- an edit that is refused for memory or tables has that reply
 pub refused_outside : (A : Type 0) (s : State) (held : Class → Bool) (paged : Bool) (asked : List Position)
     (new : Plainly) (text : List ℕ) (refusal : EditRefusal A) → ((c : Class) → held c ≡ is_among s.classes c)
     → paged ≡ s.paged → IsOutside held asked refusal → IsToldBy paged refusal → IsUndamaged refusal
@@ -63,7 +63,7 @@ refused_outside A s held paged asked new text edit.TreeFull e m out told clean f
 refused_outside A s held paged asked new text (edit.ShiftBroken steps) e m out told clean failing = absurd out
 refused_outside A s held paged asked new text edit.TagText e m out told clean failing = absurd out
 
--- the same of an edit that takes no memory
+-- the same for an edit that takes no memory
 pub refused_asking : (A : Type 0) (s : State) (held : Class → Bool) (paged : Bool) (asked : List Position)
     (new : Plainly) (text : List ℕ) (refusal : EditRefusal A) → ((c : Class) → held c ≡ is_among s.classes c)
     → paged ≡ s.paged → IsOutside held asked refusal → IsToldBy paged refusal → IsUndamaged refusal → is_of_tables refusal ≡ true
@@ -86,7 +86,7 @@ refused_asking A s held paged asked new text edit.TreeFull e m out told clean of
 refused_asking A s held paged asked new text (edit.ShiftBroken steps) e m out told clean of_tables failing = absurd out
 refused_asking A s held paged asked new text edit.TagText e m out told clean of_tables failing = absurd out
 
--- an edit that is accepted found all that it probed
+-- an accepted edit found all tables that it probed
 pub accepted_outside : (s : State) (held : Class → Bool) (asked : List Position) (new : Plainly) (text : List ℕ)
     → ((c : Class) → held c ≡ is_among s.classes c) → AllHeld held asked
     → IsAskedReply s quiet asked new text (accepted (holding s new) text)

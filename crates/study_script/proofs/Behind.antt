@@ -1,4 +1,4 @@
--- Texts of several parts, of which the last ends with a line feed.
+-- Texts of several parts, the last of which ends with a line feed.
 use Rattle.std.proofs.Common.{◌≡◌, ℕ, true, List, ◌++◌}
 use Rattle.study_reply.specs.Words.{ends_line}
 use Rattle.study_reply.proofs.LineEnds.{ends-behind}

@@ -1,4 +1,4 @@
--- What each command of a class comes to is its reply.
+-- The outcome of each command of a class gives its reply.
 use Rattle.std.proofs.Common.{◌≡◌, ◌⊎◌, ℕ, Bool, true, false, eqb, List, Option, Some, None, Result, Ok, Err, refl, sym, ap, subst, ◌∙◌, inl, inr, is_some}
 use Rattle.std.specs.Prelude.{◌&&◌, is_err, IfOk, IfSome, OnOk, OnErr}
 use Rattle.std.specs.Io.KnownBytes.{Appends}
@@ -39,7 +39,7 @@ use Rattle.study_script.specs.Decided.{decided_reply, Decided, HoldsWhole, Holds
 use Rattle.study_script.specs.Held.{HoldsTables, TablesFrom, Answered, BrokenOff}
 use Rattle.study_script.proofs.HeldTables.{lacking, whole_kept}
 
--- what is known of the class before a command
+-- the knowledge of the class before a command
 module _ (w : Whole) (s : State) (h : HoldsWhole w s) (c : Class) where
   among : (b : Bool) → is_some (table_of w.tables c) ≡ b → is_among s.classes c ≡ b
   among b e = sym (h.classes c) ∙ e
@@ -170,7 +170,7 @@ module _ (w : Whole) (s : State) (h : HoldsWhole w s) (c : Class) where
         × (t.document ≡ s.document) × Seen t) (Ok (Saved c))
     save_done seen e = (quiet, written_anew s c, rw (among true e) refl, (anew, refl, seen))
 
--- ---- which tables are held
+-- ---- the loaded tables
 
 module _ {P A : Type 0} where
   pub whole_of : (honest : P → Table → ℕ → Type 0) (gives : GivesOf P) (t : Tables P A) (w : Whole) (s : State) → t ≡ held.Whole w
@@ -198,7 +198,7 @@ module _ {P A : Type 0} where
     document = e;
   }
 
--- whole tables are asked by any word
+-- whole tables accept any command
 pub asked_whole : (s : State) (o : Outside) (word : TableCommand) (name : List ℕ) (reply : Reply) → false ≡ s.paged
     → IsNamedReply s o word (class_told name) reply → IsClassReply s o word name reply
 asked_whole s o word name reply e h = subst (λ b. IsClassReplyIn s o word name b reply) (sym (by_word word s.paged e)) h
@@ -209,14 +209,14 @@ asked_whole s o word name reply e h = subst (λ b. IsClassReplyIn s o word name 
     by_word Verify p k = sym k
     by_word Load p k = refl
 
--- and tables by pages by one alone
+-- and tables by pages only one
 pub refused_paged : (s : State) (word : TableCommand) (name : List ℕ) → true ≡ s.paged → (word ≡ Build)
     ⊎ ((word ≡ Save) ⊎ (word ≡ Verify)) → IsClassReply s quiet word name (refused s PagedMode)
 refused_paged s word name e (inl k) = subst (λ w. IsClassReply s quiet w name (refused s PagedMode)) (sym k) (rw (← e) refl)
 refused_paged s word name e (inr (inl k)) = subst (λ w. IsClassReply s quiet w name (refused s PagedMode)) (sym k) (rw (← e) refl)
 refused_paged s word name e (inr (inr k)) = subst (λ w. IsClassReply s quiet w name (refused s PagedMode)) (sym k) (rw (← e) refl)
 
--- a name that is none
+-- a word that is not the name of a class
 pub not_named : (s : State) (o : Outside) (word : TableCommand) (name : List ℕ) → class_told name ≡ None
     → IsNamedReply s o word (class_told name) (refused s NotAClass)
 not_named s o word name e = rw e refl
@@ -225,15 +225,15 @@ pub named_as : (s : State) (o : Outside) (word : TableCommand) (name : List ℕ)
     → class_told name ≡ Some c → IsTableReply s o word c reply → IsNamedReply s o word (class_told name) reply
 named_as s o word name c reply e i = rw e i
 
--- ---- what was decided, by a weaker property
+-- ---- an outcome, by a weaker property
 
 pub decided_weaker : (I J : Outside → Reply → Type 0) (H K : State → Type 0) (told : Result TableReply Refusal)
     → ((o : Outside) (r : Reply) → I o r → J o r) → ((t : State) → H t → K t) → Decided I H told → Decided J K told
 decided_weaker I J H K told f g (o, t, is, holds) = (o, t, f o (decided_reply t told) is, g t holds)
 
--- ---- what a file and its source tell
+-- ---- the answers of a file and its source
 
--- a reader of a store that is honest tells its bytes
+-- a reader of an honest store returns its known bytes
 pub reader_tells : (told : Option (List ℕ)) → IsRightFile told → (bytes : List ℕ) × (told ≡ Some bytes) × ((t : Table) → table_read bytes ≡ Ok t → IsRight t)
 reader_tells None h = absurd h
 reader_tells (Some bytes) h = (bytes, refl, h)

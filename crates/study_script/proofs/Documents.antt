@@ -1,4 +1,4 @@
--- What is held after a reply, by what the document is.
+-- The state after a reply, by the document.
 use Rattle.std.proofs.Common.{◌≡◌, ℕ, Bool, false, List, Option, Result, Ok, Err, refl, sym, ap, subst, ◌∙◌}
 use Rattle.std.specs.Prelude.{IfOk, OnOk, OnErr}
 use Rattle.std.specs.Io.KnownBytes.{Appends}
@@ -19,7 +19,7 @@ use Rattle.study_script.specs.Replies.{Reply, accepted, holding}
 use Rattle.study_script.specs.Held.{document_seen, Holds, tables_honest, tables_held, tables_may_fail, are_paged, Answered, BrokenOff}
 
 module _ {P A : Type 0} where
-  -- what is held, where the document is known
+  -- the state, if the document is known
   pub holds_of : (honest : P → Table → ℕ → Type 0) (gives : GivesOf P) (b c : HeldDocument A) (t : Tables P A) (s : State) → b ≡ c → Holds honest gives b t s
       → Holds honest gives c t s
   holds_of honest gives b c t s e h = subst (λ (x : HeldDocument A). Holds honest gives x t s) e h
@@ -28,13 +28,13 @@ module _ {P A : Type 0} where
       → document_seen c ≡ s.document
   seen_of honest gives b c t s e h = ap document_seen (sym e) ∙ h.document
 
-  -- a start is held
+  -- a start is set
   pub start_held : (honest : P → Table → ℕ → Type 0) (gives : GivesOf P) (b c : HeldDocument A) (t : Tables P A) (s : State) (new : Start)
       → c ≡ held.Start new → Holds honest gives b t s → Holds honest gives c t (record s { document = start new })
   start_held honest gives b c t s new e h = holds_of honest gives (held.Start new) c t (record s { document = start new }) (sym e)
       (record { document = refl; marks = tt; values = h.values; classes = h.classes; paged = h.paged; faults = h.faults })
 
-  -- a study is held that asked no table
+  -- a study is set without probing a table
   pub study_held : (honest : P → Table → ℕ → Type 0) (gives : GivesOf P) (old k : BenchState) (t : Tables P A) (s : State) (new : Plainly)
       → plain_study (marked k) ≡ new → IsKeptRight k → Holds honest gives (held.Study old) t s
       → Holds honest gives (held.Study k) t (holding s new)
@@ -49,7 +49,7 @@ module _ {P A : Type 0} where
   }
 
 module _ {P A : Type 0} where
-  -- a study is held that was made by asking tables
+  -- a study is made by probing tables
   pub study_made : (honest : P → Table → ℕ → Type 0) (gives : GivesOf P) (b : HeldDocument A) (k : BenchState) (t u : Tables P A) (s : State)
       (new : Plainly) → Holds honest gives b t s → plain_study (marked k) ≡ new → IsKeptRight k → tables_honest honest u
       → ((c : Class) → tables_held u c ≡ tables_held t c) → are_paged u ≡ are_paged t

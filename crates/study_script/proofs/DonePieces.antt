@@ -1,4 +1,4 @@
--- The reply to a command is a piece of what a run writes.
+-- The reply to a command is a piece of a run's output.
 use Rattle.std.proofs.Common.{◌≡◌, ◌⊎◌, ℕ, ◌+◌, ◌*◌, Bool, true, false, List, [], ◌∷◌, ◌++◌, length, take, Option, Some, None, Result, Ok, Err, refl}
 use Rattle.std.proofs.Common.{inl, inr, sym, ap, subst, ◌∙◌}
 use Rattle.std.specs.Prelude.{codes, decimal, is_err, if◌then◌else◌, IfOk, OnOk, OnErr}
@@ -29,7 +29,7 @@ use Rattle.study_marks.specs.Study.{tag_name}
 use Rattle.study_marks.specs.Marks.{on_move_text}
 use Rattle.study_script.specs.Written.{Piece, fronts, error_of, IsDone, IsPieceWhere, IsPiece, IsWritten, IsCutOff}
 
--- ---- replies of commands that did their work
+-- ---- replies to successful commands
 
 line-ends : (front back : List ℕ) → ends_line (reply_line front back) ≡ true
 line-ends front back = ends-behind front (back ++ 10 ∷ []) (ends-behind back (10 ∷ []) refl)
@@ -81,7 +81,7 @@ module _ {A : Type 0} where
   reply-done (done.Pgn game) = done-as (codes "[Event \"") _ refl game.begun game.ended
   reply-done (done.Table told) = table-done told
 
-  -- ---- what is written for a command
+  -- ---- the output for a command
 
   abbrev answer_piece : Result (Reply A) (Refused A) → Piece
   answer_piece answer = record { text = answer_text answer; refused = is_err answer }

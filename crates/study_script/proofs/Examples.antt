@@ -51,7 +51,7 @@ of_position : ◌≡◌ {A = Asks} (command_of (codes "position  k7 ")) (Ok (Som
 unfolding command_of words behind_word word_of word_asked trimmed
 of_position = refl
 
--- a class is looked at after the mode
+-- a class is checked after the mode
 of_build : ◌≡◌ {A = Asks} (command_of (codes "build KX")) (Ok (Some (table_command Build (codes "KX"))))
 unfolding command_of words behind_word word_of word_asked
 of_build = refl
@@ -92,7 +92,7 @@ no_goal : ◌≡◌ {A = Asks} (command_of (codes "stipulate")) (Err UnknownStip
 unfolding command_of words behind_word word_of word_asked
 no_goal = refl
 
--- a name is looked at before its text
+-- a name is checked before its text
 no_tag : ◌≡◌ {A = Asks} (command_of (codes "tag Foo")) (Err UnknownTag)
 unfolding command_of words behind_word word_of word_asked trimmed
 no_tag = refl

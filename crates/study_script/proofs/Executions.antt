@@ -1,4 +1,4 @@
--- What a command comes to: by a weaker property, and as it is written.
+-- The outcome of a command: by a weaker property, and as it is written.
 use Rattle.std.proofs.Common.{◌≡◌, Bool, List, ℕ, Option, Result, Ok, Err, subst}
 use Rattle.std.specs.Prelude.{IfOk, OnOk, OnErr, is_err}
 use Rattle.std.specs.Io.KnownBytes.{Appends}
@@ -21,12 +21,12 @@ module _ {A : Type 0} {I J : Outside → Reply → Type 0} {H K : State → Type
       → ((t : State) → H t → K t) → Executed I H answer → Executed J K answer
   executed_weaker answer f g (o, t, is, holds) = (o, t, f o (reply_of t answer) is, g t holds)
 
-  -- what the outside did is told otherwise
+  -- the environment is described differently
   pub executed_told : (answer : Result (Done A) (Refused A)) → ((o : Outside) (r : Reply) → I o r → (p : Outside) × J p r)
       → ((t : State) → H t → K t) → Executed I H answer → Executed J K answer
   executed_told answer f g (o, t, is, holds) = let j = f o (reply_of t answer) is in (j.0, t, j.1, g t holds)
 
-  -- what is held after a reply, by the reply
+  -- the state after a reply, by the reply
   pub executed_kept : (answer : Result (Done A) (Refused A)) → ((o : Outside) (r : Reply) → I o r → J o r)
       → ((o : Outside) (r : Reply) → I o r → H r.state → K r.state) → Executed I H answer → Executed J K answer
   executed_kept answer f g (o, t, is, holds) = (o, t, f o (reply_of t answer) is, g o (reply_of t answer) is holds)
@@ -42,7 +42,7 @@ module _ {A : Type 0} (I : Outside → Reply → Type 0) (H : State → Type 0) 
   executed_broken (Ok x) old new d part = tt
   executed_broken (Err e) old new (o, t, is, holds) part = (o, reply_of t answer, is, part)
 
--- what a command of a class came to
+-- the outcome of a command of a class
 module _ (A : Type 0) (I : Outside → Reply → Type 0) (H : State → Type 0) (told : Result TableReply Refusal) where
   pub table_done : (done : TableReply) → told ≡ Ok done → Decided I H told → Executed {A = A} I H (Ok (Table done))
   table_done done e (o, t, is, holds) = (o, t, subst (λ (x : Result TableReply Refusal). I o (decided_reply t x)) e is, holds)

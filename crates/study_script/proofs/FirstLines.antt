@@ -202,9 +202,9 @@ ran_write separate (Some bs) (Some rest) (Some rest') old mid new first s line n
       ),
     )
 
--- ---- what the loop of a run knows
+-- ---- the invariant of the loop of a run
 
--- over a store that is honest: the lines so far are answered, what is held is their state, and the store is honest still
+-- with an honest store: the lines so far are answered, the state is the one after them, and the store is still honest
 pub record RanOn (separate : Bool) (holds : State → Type 0) (script now old new : Option (List ℕ)) (first : State) (n refused : ℕ) : Type 0 where
   pub state : State
   pub ran : Ran separate script now old new first state n refused
@@ -221,7 +221,7 @@ RanOn-more separate holds holds' script now next old mid new first line n refuse
   held = held;
 }
 
--- ---- whatever is replied
+-- ---- for any replies
 
 -- n lines were read, and none of them is too long
 pub record Went (all left : List (List ℕ)) (n : ℕ) : Type 0 where
@@ -318,7 +318,7 @@ held_at P [] more (suc n) x h e = absurd cc
 held_at P (a ∷ all) more zero x h e = let k : a ≡ x = cc in subst P k h.0
 held_at P (a ∷ all) more (suc n) x h e = held_at P all more n x h.1 e
 
--- the line that is read next is one of the script's
+-- the next line to be read is a line of the script
 pub next_trusted : (trusted : Class → Bool) (script now next : Option (List ℕ)) (line : List ℕ) (n : ℕ) (bytes : List ℕ)
     → Gone script now n → TakesLine now next true line → script ≡ Some bytes → AreTrusted trusted bytes
     → IsTrusted trusted line

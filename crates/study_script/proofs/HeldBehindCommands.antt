@@ -1,4 +1,4 @@
--- What is held after a command that leaves the store alone.
+-- The state after a command that leaves the store alone.
 use Rattle.std.proofs.Common.{◌≡◌, ℕ, Bool, true, false, List, Option, Some, None, Result, Ok, Err, refl, sym, ap, subst, ◌∙◌, [], ◌∷◌}
 use Rattle.std.specs.Prelude.{IfOk, codes}
 use Rattle.study_board.specs.Position.{Position}
@@ -34,7 +34,7 @@ use Rattle.study_script.specs.Held.{Holds, HoldsDocument, HoldsFrom, HoldsTables
 use Rattle.study_script.specs.Stores.{StoreSeen}
 use Rattle.study_script.specs.Session.{SessionHolds}
 
--- ---- replies that leave the mode, and what is known of the store
+-- ---- replies that keep the mode, and the knowledge of the store
 
 pub record IsBeside (s t : State) : Type 0 where
   pub paged : t.paged ≡ s.paged
@@ -152,7 +152,7 @@ insert_beside s (study old) steps san cut_off reply h = at_beside s cut_off old 
 insert_beside s (study old) steps san (file bytes) reply h = at_beside s (file bytes) old steps san (has_spot old.tree steps) reply h
 insert_beside s (study old) steps san (header told) reply h = at_beside s (header told) old steps san (has_spot old.tree steps) reply h
 
--- ---- what is held
+-- ---- the state
 
 pub document_held : {P A : Type 0} (honest : P → Table → ℕ → Type 0) (gives : GivesOf P) (b : HeldDocument A) (t : Tables P A) (s : State)
     → Holds honest gives b t s → HoldsDocument b s

@@ -1,4 +1,4 @@
--- What is held after a reply.
+-- The state after a reply.
 use Rattle.std.proofs.Common.{◌≡◌, ℕ, ◌+◌, ◌*◌, ◌<◌, ◌≤◌, Bool, List, Option, Some, None, Result, refl, sym, ap, subst, ◌∙◌}
 use Rattle.std.specs.Prelude.{IfSome, IfNone, IfOk, OnErr}
 use Rattle.std.proofs.lemmas.Result.{IfOk-weaker, on_err_weaker}
@@ -29,7 +29,7 @@ module _ {A : Type 0} where
   pub document_kept : (b : HeldDocument A) (s : State) → HoldsDocument b s → HoldsFrom s b s
   document_kept b s h = record { holds = h; classes = refl; paged = refl; shelf = refl }
 
-  -- what is held is what the document is
+  -- the document determines the state of the code
   pub empty_seen : (b : HeldDocument A) (s : State) → b ≡ held.Empty → HoldsDocument b s → empty ≡ s.document
   empty_seen b s e h = ap document_seen (sym e) ∙ h.document
 
@@ -39,7 +39,7 @@ module _ {A : Type 0} where
   pub study_seen : (b : HeldDocument A) (k : BenchState) (s : State) → b ≡ held.Study k → HoldsDocument b s → study (plain_study (marked k)) ≡ s.document
   study_seen b k s e h = ap document_seen (sym e) ∙ h.document
 
-  -- a document that is the study is held as a study
+  -- a document that is a study is kept as a study
   pub bench_of : (b : HeldDocument A) (k : BenchState) (s : State) → b ≡ held.Study k → HoldsDocument b s → HoldsBench k s
   bench_of b k s e h = let t = subst (λ (x : HeldDocument A). HoldsDocument x s) e h in record { document = t.document; marks = t.marks }
 
@@ -56,11 +56,11 @@ module _ {A : Type 0} where
 pub bench_kept : (k : BenchState) (s : State) → HoldsBench k s → HoldsBenchFrom s k s
 bench_kept k s h = record { holds = h; classes = refl; paged = refl; shelf = refl }
 
--- a study that was edited is held after an accepted edit
+-- an edited study is kept after an accepted edit
 pub bench_edited : (k : BenchState) (s : State) (new : Plainly) → plain_study (marked k) ≡ new → IsKeptRight k → HoldsBenchFrom s k (holding s new)
 bench_edited k s new e r = record { holds = record { document = ap study e; marks = r }; classes = refl; paged = refl; shelf = refl }
 
--- a study that stays is held after a refused edit
+-- an unchanged study is kept after a refused edit
 pub bench_same : (k old : BenchState) (s : State) → k ≡ old → HoldsBench old s → HoldsBenchFrom s k s
 bench_same k old s e h = record { holds = subst (λ (x : BenchState). HoldsBench x s) (sym e) h; classes = refl; paged = refl; shelf = refl }
 
@@ -71,7 +71,7 @@ pub solution_of : (p : Position) (count : ℕ) (plies : Option ℕ) → IfSome p
 solution_of p count None forced least within none = none
 solution_of p count (Some n) forced least within none = ((forced, least), within)
 
--- `mark` tells the label of the node
+-- `mark` reports the mark of the node
 pub mark_told : (s : State) (steps : List ℕ) (spot : Option (Spot Mark)) (m : Mark)
     → Some m ≡ option_map (λ (x : Spot Mark). x.label) spot
     → accepted s (mark_text steps m) ≡ marked_reply s steps spot
@@ -85,7 +85,7 @@ mark_missing s steps None e = refl
 mark_missing s steps (Some x) e = absurd cc
 
 module _ {P A : Type 0} where
-  -- a study that was edited, and tables that were asked
+  -- a study that was edited, and tables that were probed
   pub study_edited : (honest : P → Table → ℕ → Type 0) (gives : GivesOf P) (old k : BenchState) (t u : Tables P A) (s : State) (new : Plainly)
       → Holds honest gives (held.Study old) t s → plain_study (marked k) ≡ new → IsKeptRight k → tables_honest honest u
       → ((c : Class) → tables_held u c ≡ tables_held t c) → are_paged u ≡ are_paged t
@@ -101,7 +101,7 @@ module _ {P A : Type 0} where
         faults = λ c f m. h.faults c f (fails c f m);
       }
 
-  -- a study that stays, and tables that were asked
+  -- a study that stays, and tables that were probed
   pub study_same : (honest : P → Table → ℕ → Type 0) (gives : GivesOf P) (old k : BenchState) (t u : Tables P A) (s : State)
       → Holds honest gives (held.Study old) t s → k ≡ old → tables_honest honest u
       → ((c : Class) → tables_held u c ≡ tables_held t c) → are_paged u ≡ are_paged t

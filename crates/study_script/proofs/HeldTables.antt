@@ -1,4 +1,4 @@
--- The tables of a script, and what its commands of a class come to.
+-- The tables of a script, and the outcomes of its commands of a class.
 use Rattle.std.proofs.Common.{◌≡◌, ◌≢◌, ℕ, ◌<◌, Bool, true, false, not, cond, eqb, List, [], ◌∷◌, length, set, find}
 use Rattle.std.proofs.Common.{Option, Some, None, Result, refl, sym, ap, subst, ◌∙◌, inl, inr, arith, is_some}
 use Rattle.std.specs.Prelude.{IsSome, IfSome, IsTrue, ◌↔◌}
@@ -126,7 +126,7 @@ among_head c d cs e = rw (same_at c d e) refl
 
 -- ---- sets of tables
 
--- the first class that is lacking is the first whose table is missing
+-- the first missing class is the first whose table is missing
 pub lacking : (held : List (Option Table)) (cs : List Class) (xs : List Class)
     → ((c : Class) → is_some (table_of held c) ≡ is_among cs c)
     → first_missing held xs ≡ find (λ d. not (is_among cs d)) xs
@@ -141,7 +141,7 @@ pub none_missing : (o : Option Class) → ((d : Class) → o ≡ Some d → ⊥)
 none_missing None f = refl
 none_missing (Some d) f = absurd (f d refl)
 
--- a table whose class is not held, and whose needs are, is added
+-- a table whose class is not loaded, and whose needs are, is added
 pub may_add : (held : List (Option Table)) (c d : Class) → d ≡ c → is_some (table_of held c) ≡ false
     → first_missing held (needs_of c) ≡ None → add_fault held d ≡ None
 may_add held c d same e f = rw (same, e, f) refl
@@ -169,7 +169,7 @@ module _ (held : List (Option Table)) (t : Table) (full : length held ≡ 36) wh
         ∙ among_with t.class d cs (is_some (table_of held d)) (sym (e d)) (λ k. f (ap class_number (sym k)))
   ]
 
--- the table is held then, and it is right
+-- the table is then loaded, and it is right
 pub whole_with : (w v : Whole) (s : State) (t : Table) (c : Class) → IsClosed w.tables → HoldsWhole w s → IsRight t
     → t.class ≡ c → v ≡ record w { tables = set w.tables (class_number t.class) (Some t) }
     → WholeFrom s v (with_class s c)
@@ -191,7 +191,7 @@ whole_with w v s t c closed h right same e =
 pub whole_kept : (w : Whole) (s : State) → HoldsWhole w s → WholeFrom s w s
 whole_kept w s h = record { holds = h; document = refl; shelf = refl }
 
--- a held table has what it needs
+-- a loaded table has the tables that it needs
 pub ready_of : (held : List (Option Table)) (c : Class) (t : Table) → IsClosed held → Some t ≡ table_of held c → IsReady held t.class
 ready_of held c t closed e = subst (λ (k : Class). IsReady held k) (sym (closed.class c t (sym e)))
     (closed.ready c (subst (λ (o : Option Table). IsSome o) e refl))
@@ -202,7 +202,7 @@ class_of_held held c t closed e = closed.class c t (sym e)
 pub needs_right : (held : List (Option Table)) (c : Class) → TablesAreRight held → NeedsAreRight held c
 needs_right held c all = record { right = λ d t n e. all.right d t e }
 
--- a held table is right where all are
+-- a loaded table is right if all are
 pub right_told : (held : List (Option Table)) (c : Class) (b : Bool) → TablesAreRight held
     → is_some (table_of held c) ≡ true → IfSome (table_of held c) (λ t. IsTrue b ↔ IsRight t) → b ≡ true
 right_told held c b all some told = go (table_of held c) refl some told
@@ -214,7 +214,7 @@ right_told held c b all some told = go (table_of held c) refl some told
 -- ---- stores
 
 module _ {S : Type 0} where
-  -- a store that is seen as before
+  -- a store with the same answers as before
   pub store_same : (honest : S → Bool → Type 0) (files headers : S → Class → Option (Result (List ℕ) StoreFault)) (faults : S → Class → SourceFault → Bool)
       (old new : S) (s : State) → ((b : Bool) → honest old b → honest new b)
       → ((c : Class) → files new c ≡ files old c) → ((c : Class) → headers new c ≡ headers old c)
@@ -239,7 +239,7 @@ module _ {S : Type 0} where
         known = record { files_known = h.known.files_known; headers_known = h.known.headers_known; faults_known = h.known.faults_known };
       }
 
-  -- a store is seen alike after a command that leaves it
+  -- a store has the same answers after a command that leaves it
   pub store_of : (honest : S → Bool → Type 0) (files headers : S → Class → Option (Result (List ℕ) StoreFault)) (faults : S → Class → SourceFault → Bool)
       (store : S) (s t : State) → t.paged ≡ s.paged → t.shelf ≡ s.shelf → StoreSeen honest files headers faults store s
       → StoreSeen honest files headers faults store t
@@ -253,7 +253,7 @@ module _ {S : Type 0} where
         };
   }
 
-  -- a store in which the file of a class was written anew
+  -- a store in which the file of a class was written
   pub store_anew : (honest : S → Bool → Type 0) (files headers : S → Class → Option (Result (List ℕ) StoreFault)) (faults : S → Class → SourceFault → Bool)
       (old new : S) (s : State) (c : Class) → ((b : Bool) → honest old b → honest new b)
       → ((d : Class) → files new d ≡ forgotten c (files old) d)

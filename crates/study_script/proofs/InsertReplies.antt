@@ -75,7 +75,7 @@ module _ {T A : Type 0} where
       insert_refused_by s held paged old steps m (insert_refusal {A = A} old steps m)
       (insert_refusal {A = Unit {0}} old steps m) (insert_same A (Unit {0}) old steps m) r e h p match is told clean failing
 
--- ---- a reply where there was memory for the path
+-- ---- a reply if there was memory for the path
 
 module _ (s : State) (old : Plainly) (steps : List ℕ) where
   same_inserted : (m : Move) (y : Option (EditRefusal (Unit {0}))) (reply : Reply)
@@ -105,6 +105,6 @@ module _ (s : State) (old : Plainly) (steps : List ℕ) where
   with_path san (header told) reply h = (header told, h)
 
 module _ (s : State) (old : Plainly) (word : NodeCommand) (steps : List ℕ) where
-  -- the same of `delete`, `promote` and `mark`
+  -- the same for `delete`, `promote` and `mark`
   pub node_command_on : (o : Outside) (reply : Reply) → IsStudyReply s word old steps reply → (p : Outside) × IsStudyReplyAt s p word (study old) steps reply
   node_command_on o reply h = (quiet, h)

@@ -24,7 +24,7 @@ module _ (files : List MemoryFile) (c : Class) (full : length files ≡ 36) wher
   kept_at : (d : Class) → class_number c ≢ class_number d → memory_file (set files (class_number c) Written) d ≡ memory_file files d
   kept_at d f = get_or-set_other files (class_number c) (class_number d) Written _ (λ e. f (sym e))
 
-  -- what is known of a file that is opened to be written is forgotten
+  -- the knowledge of a file that is opened to be written is dropped
   pub known_anew : {T : Type 0} (known : MemoryFile → Option T) → known Written ≡ None → (d : Class)
       → known (memory_file (set files (class_number c) Written) d) ≡ forgotten c (λ k. known (memory_file files k)) d
   known_anew known none d = elim (same_class c d) [
@@ -43,7 +43,7 @@ module _ (files : List MemoryFile) (c : Class) (full : length files ≡ 36) wher
       written true = tt
       written false = tt
 
-  -- so is for which faults its source may not be read
+  -- and so is that of the faults of its source
   pub faults_anew : (fails : Bool) (d : Class) (f : SourceFault)
       → memory_faults fails (memory_file (set files (class_number c) Written) d) d f
       ≡ forgotten_faults c (λ k g. memory_faults fails (memory_file files k) k g) d f

@@ -1,4 +1,4 @@
--- A line has one reply, by what the outside does at it.
+-- A line has exactly one reply, given its environment.
 use Rattle.std.proofs.Common.{◌≡◌, ℕ, ◌<◌, ◌≤◌, Bool, true, false, List, [], ◌∷◌, length}
 use Rattle.std.proofs.Common.{map, slice_index, Option, Some, None, Result, Ok, Err, refl}
 use Rattle.std.proofs.Common.{sym, ap, subst, ◌∙◌, inl, inr, arith, true≢false}
@@ -61,7 +61,7 @@ use Rattle.study_script.specs.Replies.{IsLoadIn, IsTableReply, IsNamedReply, cla
 use Rattle.study_script.specs.Replies.{IsReplyTo, IsReplyWhere, IsReplyIn, kept_apart, AreReplies}
 use Rattle.study_script.specs.Laws.{AreUnique}
 
--- one reply, where each is that one
+-- one reply, if each is equal to that one
 one : (r a b : Reply) → a ≡ r → b ≡ r → a ≡ b
 one r a b e f = e ∙ sym f
 
@@ -206,7 +206,7 @@ insert_once s cut_off (study old) steps san a b h k = move_at_once s cut_off old
 insert_once s (file bytes) (study old) steps san a b h k = move_at_once s (file bytes) old steps san (has_spot old.tree steps) a b h k
 insert_once s (header told) (study old) steps san a b h k = move_at_once s (header told) old steps san (has_spot old.tree steps) a b h k
 
--- the least number of plies is one number
+-- the least number of plies is unique
 won_once : (p : Position) (n m : ℕ) → IsWon p n → IsWon p m → n ≡ m
 won_once p n m a b =
     elim (cases_lt n m) [

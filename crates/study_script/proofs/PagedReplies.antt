@@ -1,4 +1,4 @@
--- What `load` comes to by pages.
+-- The outcome of `load` by pages.
 use Rattle.std.proofs.Common.{◌≡◌, ◌≢◌, ℕ, ◌<◌, Bool, true, false, List, ◌∷◌, length, set, Option, Some, None}
 use Rattle.std.proofs.Common.{Result, Ok, Err, refl, sym, ap, subst, ◌∙◌, inl, inr, arith, is_some}
 use Rattle.std.specs.Prelude.{MatchOption, IfErr}
@@ -26,9 +26,9 @@ use Rattle.study_script.specs.Stores.{IsRightSource}
 use Rattle.study_script.specs.Decided.{Decided, HoldsPaged}
 use Rattle.study_script.proofs.HeldTables.{place_below, among_with, among_head}
 
--- ---- what a source answered
+-- ---- the answer of a source
 
--- a header is read as the store is known to give it
+-- a header is read as the known one of the store
 pub told_is : (May : Result (List ℕ) SourceFault → Type 0) (known : Option (Result (List ℕ) StoreFault)) (faults : SourceFault → Bool)
     (told : Result (List ℕ) SourceFault) → May told → IsOpened known
     → ((bytes : List ℕ) → May (Ok bytes) → IsGiven known (Ok bytes)) → ((f : SourceFault) → May (Err f) → faults f ≡ true)
@@ -36,7 +36,7 @@ pub told_is : (May : Result (List ℕ) SourceFault → Type 0) (known : Option (
 told_is May known faults (Ok bytes) may is_open given fails = given bytes may
 told_is May known faults (Err fault) may is_open given fails = (is_open, fails fault may)
 
--- an accepted source told no fault
+-- an accepted source reported no fault
 pub accepted_none : {T : Type 0} (o : Option PagedFault) (x : T)
     → MatchOption o (IfErr {E = PagedFault} (Ok x) (λ e. e ≡ fault_of.OutOfMemory))
     (λ fault. ◌≡◌ {A = Result T PagedFault} (Ok x) (Err fault)) → o ≡ None
@@ -110,10 +110,10 @@ module _ {P : Type 0} (honest : P → Table → ℕ → Type 0) (gives : GivesOf
         (kept, refl, seen),
       )
 
--- ---- one source more
+-- ---- one more source
 
 module _ {P : Type 0} (honest : P → Table → ℕ → Type 0) where
-  -- an honest source, accepted for a class, gives that class's table
+  -- an honest source, accepted for a class, returns that class's table
   pub gives_right : (source : P) (c : Class) (r : IsRightSource honest source) → r.table.class ≡ c → GivesRight honest source r.version c
   gives_right source c r same = record { table = r.table; of_class = same; complete = r.complete; right = r.right; is_honest = r.is_honest }
 

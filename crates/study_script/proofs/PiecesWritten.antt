@@ -1,4 +1,4 @@
--- What is written for the first lines of a script, whatever is held.
+-- The output for the first lines of a script, for any state.
 use Rattle.std.proofs.Common.{◌≡◌, ℕ, zero, suc, ◌+◌, ◌-◌, ◌<◌, ◌≤◌, Bool, true, false, cond}
 use Rattle.std.proofs.Common.{List, [], ◌∷◌, ◌++◌, length, take, drop, Option, Some, None, Ok}
 use Rattle.std.proofs.Common.{Err, refl, sym, ap, subst, ◌∙◌, arith, append_assoc}
@@ -39,7 +39,7 @@ written-more lines line old mid new count count' was (pieces, are, wrote, counte
   k ∙ ap (λ b. count + cond b 1 0) same ∙ ap (λ i. i + cond piece.refused 1 0) counted ∙ sym (count-more pieces piece),
 )
 
--- ---- what the loop of a run knows
+-- ---- the invariant of the loop of a run
 
 -- n lines were read, and the pieces of these are written
 pub record WroteOver (all left : List (List ℕ)) (old new : Option (List ℕ)) (n refused : ℕ) : Type 0 where

@@ -61,7 +61,7 @@ module _ {L : Type 0} where
       ap (λ (b : Bool). if b then Some (start_along s.start (moves_to (plain_study s).tree.below ks)) else None) (has_spot-plain s ks)
       ∙ ap (λ (ms : List Move). if has_spot s.tree ks then Some (start_along s.start ms) else None) (moves_to-mapped (λ _. tt) s.tree.below ks)
 
-  -- a node that has a start is there, and the start has its position
+  -- a node that has a start exists, and the start has its position
   there : (s : Study L) (ks : List ℕ) (b : Bool) (st : Start)
       → (if b then Some (start_along s.start (moves_to s.tree.below ks)) else None) ≡ Some st → (b ≡ true)
       × (st.position ≡ position_at s ks)

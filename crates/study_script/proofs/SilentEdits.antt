@@ -10,7 +10,7 @@ use Rattle.study_reply.specs.Names.{edit_words}
 use Rattle.study_script.specs.State.{State}
 use Rattle.study_script.specs.Replies.{accepted, refused_as, holding, edit_reply}
 
--- two reasons are told in the same words
+-- two reasons have the same words
 abbrev pub SameWords : {A B : Type 0} → Option (EditRefusal A) → Option (EditRefusal B) → Type 0
 SameWords None None = Unit {0}
 SameWords None (Some b) = ⊥

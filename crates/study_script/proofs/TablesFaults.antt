@@ -1,4 +1,4 @@
--- The fault of the first value that could not be read, of tables whichever they are.
+-- The fault of the first value that could not be read, for tables of either kind.
 use Rattle.std.proofs.Common.{◌≡◌, ℕ, Bool, false, List, [], ◌∷◌, Option, Some, None, is_some, Result, Ok, Err, IfErr, refl, sym, subst, inl, inr}
 use Rattle.study_board.specs.Position.{Position}
 use Rattle.study_material.specs.declared.class.Class.{Class}
@@ -118,7 +118,7 @@ module _ {P : Type 0} (gives : P → Question → Result (List ℕ) SourceFault 
       go None e k = k
       go (Some h) e k = let contrary : ⊥ = cc in contrary
 
--- the first value that could not be read is of a class of which a table may fail so
+-- the first value that could not be read is of a class whose table may fail so
 module _ {V : Type 0} (gives : V → Position → ProbeAnswer → Type 0) (may_fail : V → Class → SourceFault → Type 0) (asked_of : V → ℕ)
     (known : Class → SourceFault → Type 0) where
   failing-among : (old new : V) (ps : List Position) (f : SourceFault) → ((c : Class) (g : SourceFault) → may_fail old c g → known c g)

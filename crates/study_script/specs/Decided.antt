@@ -1,4 +1,4 @@
--- What the commands of a class come to, before it is written.
+-- The outcome of the commands of a class, before the reply is written.
 use Rattle.std.specs.Prelude.{◌≡◌, ◌⊎◌, ℕ, true, false, is_some, is_err, List, Option, Result, Ok, Err}
 use Rattle.study_material.specs.declared.class.Class.{Class}
 use Rattle.study_table.specs.Table.{Table, table_of}
@@ -18,35 +18,35 @@ use Rattle.study_reply.specs.declared.refusal.Refusal.TheVariants.{Device, OutOf
 use Rattle.study_script.specs.State.{State, Outside, is_among, IsGiven, IsOpened}
 use Rattle.study_script.specs.Replies.{Reply}
 
--- the reply that leaves this state behind
+-- the reply with this state after it
 abbrev pub decided_reply : State → Result TableReply Refusal → Reply
 decided_reply s told = record { text = decided_text told; state = s; refused = is_err told }
 
--- what the command comes to has the property, by what the outside did, and what is held then is the state that its reply leaves
+-- the reply to this outcome has the property, in some environment, and the code is then in the state after it
 abbrev pub Decided : (Outside → Reply → Type 0) → (State → Type 0) → Result TableReply Refusal → Type 0
 Decided IsIt HoldsIt told = (o : Outside) × (t : State) × IsIt o (decided_reply t told) × HoldsIt t
 
--- these whole tables are those of the script, and they are right
+-- these whole tables are those of the state, and they are right
 pub record HoldsWhole (w : Whole) (s : State) : Type 0 where
   pub values : TablesAreRight w.tables
   pub classes : (c : Class) → is_some (table_of w.tables c) ≡ is_among s.classes c
   pub whole : false ≡ s.paged
 
--- the same after a command that leaves the document, and what is known of the store
+-- `HoldsWhole` after a command that changes neither the document nor the knowledge of the store
 pub record WholeFrom (old : State) (w : Whole) (s : State) : Type 0 where
   pub holds : HoldsWhole w s
   pub document : s.document ≡ old.document
   pub shelf : s.shelf ≡ old.shelf
 
--- the sources that are held are those of the script, and each gives a right table
+-- the sources are those of the state, and each returns a right table
 pub record HoldsPaged {P : Type 0} (honest : P → Table → ℕ → Type 0) (gives : GivesOf P) (w : Paged P) (s : State) : Type 0 where
   pub values : SourcesAreRight honest w.sources
   pub classes : (c : Class) → is_some (held_of w.sources c) ≡ is_among s.classes c
   pub by_pages : true ≡ s.paged
   pub faults : (c : Class) (f : SourceFault) → MayFail gives (held_of w.sources c) c f → s.shelf.faults c f ≡ true
 
--- why the file of a class gives no table, by what is known of it: it is not opened, its device fails, there is no memory after its
--- header, or its bytes have a fault
+-- why the file of a class is not read as a table, by what is known of it: it is not opened, its device fails, there is no memory
+-- after its header, or its bytes have a fault
 abbrev pub IsFileRefusal : Option (Result (List ℕ) StoreFault) → Refusal → Type 0
 IsFileRefusal known refusal =
     ((fault : StoreFault) × IsGiven known (Err fault) × (words_of refusal ≡ words_of (refusal_of_store fault)))

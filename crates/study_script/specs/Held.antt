@@ -1,4 +1,4 @@
--- What the code holds, as a script sees it.
+-- The code's document and tables, seen as the state of a script.
 use Rattle.std.specs.Prelude.{◌≡◌, ℕ, Bool, true, false, is_some, List, Option, Result}
 use Rattle.study_script.specs.declared.store.StoreFault.{StoreFault}
 use Rattle.std.specs.Io.KnownBytes.{Appends}
@@ -38,22 +38,22 @@ module _ {A : Type 0} where
   IsMarked (held.Study b) = IsKeptRight b
 
 module _ {P A : Type 0} where
-  -- each value that is told is the game's
+  -- each value that is returned is the game's
   abbrev pub tables_honest : (P → Table → ℕ → Type 0) → Tables P A → Type 0
   tables_honest honest (Whole w) = TablesAreRight w.tables
   tables_honest honest (Paged w) = SourcesAreRight honest w.sources
 
-  -- a table of the class is held
+  -- a table of the class is loaded
   abbrev pub tables_held : Tables P A → Class → Bool
   tables_held (Whole w) c = is_some (table_of w.tables c)
   tables_held (Paged w) c = is_some (held_of w.sources c)
 
-  -- what may be answered for a position
+  -- the possible answers for a position
   abbrev pub tables_give : (P → Question → Result (List ℕ) SourceFault → Type 0) → Tables P A → Position → ProbeAnswer → Type 0
   tables_give gives (Whole w) p answer = IsCellAnswer w.tables p answer
   tables_give gives (Paged w) p answer = IsPagedAnswer gives w.sources p answer
 
-  -- a table of the class may not be read for this fault
+  -- reading a table of the class may fail for this fault
   abbrev pub tables_may_fail : GivesOf P → Tables P A → Class → SourceFault → Type 0
   tables_may_fail gives (Whole w) c f = ⊥
   tables_may_fail gives (Paged w) c f = MayFail gives (held_of w.sources c) c f
@@ -70,8 +70,7 @@ module _ {P A : Type 0} where
   are_paged (Whole w) = false
   are_paged (Paged w) = true
 
-  -- what is held is the state of the script, with marks that are right and values that are honest; for which faults a table may not
-  -- be read, the state knows
+  -- the document and the tables are those of the state, with right marks and honest values; the state knows for which faults reading a table may fail
   pub record Holds (honest : P → Table → ℕ → Type 0) (gives : GivesOf P) (b : HeldDocument A) (t : Tables P A) (s : State) : Type 0 where
     pub document : document_seen b ≡ s.document
     pub marks : IsMarked b
@@ -80,7 +79,7 @@ module _ {P A : Type 0} where
     pub paged : are_paged t ≡ s.paged
     pub faults : (c : Class) (f : SourceFault) → tables_may_fail gives t c f → s.shelf.faults c f ≡ true
 
--- the same of a part of what is held; and of it after a command that leaves the other part as it was
+-- `Holds` for one part of the state; and for it after a command that leaves the other parts unchanged
 module _ {A : Type 0} where
   pub record HoldsDocument (b : HeldDocument A) (s : State) : Type 0 where
     pub document : document_seen b ≡ s.document
@@ -92,7 +91,7 @@ module _ {A : Type 0} where
     pub paged : s.paged ≡ old.paged
     pub shelf : s.shelf ≡ old.shelf
 
--- the study that is held
+-- `Holds` for the study
 pub record HoldsBench (b : BenchState) (s : State) : Type 0 where
   pub document : study (plain_study (marked b)) ≡ s.document
   pub marks : IsKeptRight b
@@ -114,13 +113,13 @@ module _ {P A : Type 0} where
     pub holds : HoldsTables honest gives t s
     pub document : s.document ≡ old.document
 
--- what is known of a store is what it gives
+-- the store's answers are those that the state knows
 pub record KnowsStore (files headers : Class → Option (Result (List ℕ) StoreFault)) (faults : Class → SourceFault → Bool) (s : State) : Type 0 where
   pub files_known : (c : Class) → files c ≡ s.shelf.files c
   pub headers_known : (c : Class) → headers c ≡ s.shelf.headers c
   pub faults_known : (c : Class) (f : SourceFault) → faults c f ≡ s.shelf.faults c f
 
--- whole tables tell no fault of a device
+-- whole tables have no fault of a device
 abbrev pub IsToldBy : {A : Type 0} → Bool → EditRefusal A → Type 0
 IsToldBy paged (edit.TableRead fault) = paged ≡ true
 IsToldBy paged edit.NoSuchNode = Unit {0}
@@ -135,7 +134,7 @@ IsToldBy paged edit.TagText = Unit {0}
 IsToldBy paged edit.OutOfMemory = Unit {0}
 IsToldBy paged (edit.NoTable c) = Unit {0}
 
--- a table that is not read is one that may fail so, of the class of one of these positions
+-- a table that could not be read is one of the class of one of these positions, and may fail so
 abbrev pub TellsFailing : {A : Type 0} → (Class → SourceFault → Type 0) → List Position → EditRefusal A → Type 0
 TellsFailing may asked (edit.TableRead (probe.TableRead f)) = MayFailAmong may asked f
 TellsFailing may asked (edit.TableRead (probe.NoTable c)) = Unit {0}
@@ -152,9 +151,9 @@ TellsFailing may asked edit.TagText = Unit {0}
 TellsFailing may asked edit.OutOfMemory = Unit {0}
 TellsFailing may asked (edit.NoTable c) = Unit {0}
 
--- ---- what a writer has
+-- ---- the text of a writer
 
--- a reply with the property is written whole, and what is held then is its state
+-- a reply with the property is written whole, and the code is then in the state after it
 abbrev pub Answered : (Outside → Reply → Type 0) → (State → Type 0) → Option (List ℕ) → Option (List ℕ) → Bool → Type 0
 Answered IsIt HoldsIt old new was_refused =
     (o : Outside) × (reply : Reply) × IsIt o reply × Appends old new reply.text × HoldsIt reply.state × (was_refused ≡ reply.refused)
@@ -163,7 +162,7 @@ Answered IsIt HoldsIt old new was_refused =
 abbrev pub BrokenOff : (Outside → Reply → Type 0) → Option (List ℕ) → Option (List ℕ) → Type 0
 BrokenOff IsIt old new = (o : Outside) × (reply : Reply) × IsIt o reply × TakesPrefix old new reply.text
 
--- no table is held, and what will be is honest
+-- no table is loaded, and values are honest
 pub record Begun {P A : Type 0} (honest : P → Table → ℕ → Type 0) (t : Tables P A) : Type 0 where
   pub none : (c : Class) → tables_held t c ≡ false
   pub values : tables_honest honest t

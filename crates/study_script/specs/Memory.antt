@@ -1,4 +1,4 @@
--- What is known of a store in memory, which is all that it gives, but of a file that it was asked to write.
+-- The knowledge of a store in memory: all its answers, except for a file that was opened to be written.
 use Rattle.std.specs.Prelude.{◌≡◌, ℕ, ◌+◌, ◌*◌, nat_lt, Bool, true, false, List, length, take, slice_index_or, Option, Some, None, Result, Ok, Err}
 use Rattle.study_material.specs.declared.class.Class.{Class}
 use Rattle.study_material.specs.Class.{class_number}
@@ -18,21 +18,21 @@ use Rattle.study_script.specs.Stores.{IsRightFile}
 abbrev pub memory_file : List MemoryFile → Class → MemoryFile
 memory_file files c = slice_index_or files (class_number c) Absent
 
--- what a file gives from front to back; of one that was written nothing is known
+-- the bytes of a file from front to back; of a file that was opened to be written nothing is known
 abbrev pub file_known : MemoryFile → Option (Result (List ℕ) StoreFault)
 file_known Absent = Some (Err NoFile)
 file_known Closed = Some (Err Device)
 file_known (Bytes bytes) = Some (Ok bytes.now)
 file_known Written = None
 
--- what its source tells as its header, if it tells one
+-- the header that its source returns, if that is known
 abbrev pub header_known : MemoryFile → Option (Result (List ℕ) StoreFault)
 header_known Absent = Some (Err NoFile)
 header_known Closed = Some (Err Device)
 header_known (Bytes bytes) = Some (Ok (take 64 bytes.now))
 header_known Written = None
 
--- for which faults a source over a text may not be read: a device's where one is planned, and that of a text that is too short for its class
+-- the faults for which reading a source over a text may fail: a device's if one is planned, and `Short` if the text is too short for its class
 abbrev pub text_faults : Bool → List ℕ → Class → SourceFault → Bool
 text_faults fails text c source.Device = fails
 text_faults fails text c source.Short = nat_lt (length text) (64 + 4128 * pages_of c)
@@ -52,7 +52,7 @@ pub record IsRightText (bytes : List ℕ) : Type 0 where
   pub right : IsRight table
   pub text : bytes ≡ table_text table version
 
--- by pages each file is the text of a right table; from front to back each that reads as a table reads as a right one
+-- by pages each file is the text of a right table; from front to back each file that is read as a table is read as a right one
 abbrev pub IsHonestFile : Bool → MemoryFile → Type 0
 IsHonestFile by_pages Absent = Unit {0}
 IsHonestFile by_pages Closed = Unit {0}
@@ -60,7 +60,7 @@ IsHonestFile true (Bytes bytes) = IsRightText bytes.now
 IsHonestFile false (Bytes bytes) = IsRightFile (Some bytes.now)
 IsHonestFile by_pages Written = Unit {0}
 
--- the fault of opening a file that gives no bytes
+-- the fault of opening a file without bytes
 abbrev pub IsFaultOf : StoreFault → MemoryFile → Type 0
 IsFaultOf fault Absent = fault ≡ NoFile
 IsFaultOf fault Closed = fault ≡ Device

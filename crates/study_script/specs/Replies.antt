@@ -1,4 +1,4 @@
--- What is replied to each line of a script.
+-- The replies to the lines of a script.
 use Rattle.std.specs.Prelude.{◌≡◌, ◌⊎◌, ℕ, ◌+◌, ◌-◌, ◌*◌, ◌≤◌, Bool, true, false, ◌&&◌, ◌==◌, List, [], ◌∷◌}
 use Rattle.std.specs.Prelude.{◌++◌, find, Option, Some, None, Result, Ok, Err, if◌then◌else◌, codes}
 use Rattle.std.specs.List.{flat_map}
@@ -65,7 +65,7 @@ use Rattle.study_script.specs.State.{no_room_for, unread, unopened, cut_off, fil
 use Rattle.study_reply.specs.Words.{reply_line, stipulation_words, mark_text, moves_text, solve_text}
 use Rattle.study_reply.specs.Words.{raised, insert_text, built_text, loaded_text, saved_text, verified_text}
 
--- the reply to a line: its bytes, what is held after the line, and whether the line is refused
+-- the reply to a line: its bytes, the state after the line, and whether the line is refused
 pub record Reply : Type 0 where
   pub text : List ℕ
   pub state : State
@@ -81,29 +81,29 @@ refused_as s words = record { text = reply_line (codes "error ") words; state = 
 abbrev pub refused : State → Refusal → Reply
 refused s refusal = refused_as s (words_of refusal)
 
--- with another study
+-- the state with another study
 abbrev pub holding : State → Plainly → State
 holding s new = record s { document = study new }
 
 -- ---- edits
 
--- an edit that asks no value: the first reason to refuse it, or the study after it
+-- an edit that probes no value: the first reason to refuse it, or the study after it
 abbrev pub edit_reply : State → Option (EditRefusal (Unit {0})) → Plainly → List ℕ → Reply
 edit_reply s None new text = accepted (holding s new) text
 edit_reply s (Some refusal) new text = refused_as s (edit_words refusal)
 
--- the values of these positions are asked: a table is missing, or the study is the new one
+-- the values of these positions are probed: a table is missing, or the study is the new one
 pub data IsValued (s : State) (asked : List Position) (new : Plainly) (text : List ℕ) (reply : Reply) : Type 0 where
   missing : (c : Class) → IsFirstMissing (is_among s.classes) asked c → reply ≡ refused s (NoTable c) → IsValued s asked new text reply
   found : AllHeld (is_among s.classes) asked → reply ≡ accepted (holding s new) text → IsValued s asked new text reply
 
--- a table of the class of one of these positions may not be read for this fault
+-- reading a table of the class of one of these positions may fail for this fault
 abbrev pub MayFailAmong : (Class → SourceFault → Type 0) → List Position → SourceFault → Type 0
 MayFailAmong may [] f = ⊥
 MayFailAmong may (p ∷ ps) f = ((c : Class) → IsOf c p → may c f) ⊎ MayFailAmong may ps f
 
--- an edit that asks the values of these positions; a page is read only where tables are read by pages, where a device may fail. No page
--- is damaged: each table that is held is a right one; and the fault is one that the source of a class that was asked may have
+-- an edit that probes the values of these positions; a page is read, and a device may fail, only if tables are read by pages. No page is damaged: each loaded
+-- table is right; and the fault is a possible one of the source of a probed class
 abbrev pub IsAskingReply : State → Outside → List Position → Plainly → List ℕ → Reply → Type 0
 IsAskingReply s (unread (probe.TableRead f)) asked new text reply =
     (s.paged ≡ true) × IsFirstUnread (is_among s.classes) asked (probe.TableRead f)
@@ -112,18 +112,18 @@ IsAskingReply s (unread (probe.PageDamaged c n)) asked new text reply = ⊥
 IsAskingReply s (unread (probe.NoTable c)) asked new text reply = ⊥
 IsAskingReply s _ asked new text reply = IsValued s asked new text reply
 
--- the same, where memory is taken before
+-- an edit that probes the values of these positions, if memory is allocated first
 abbrev pub IsAskedReply : State → Outside → List Position → Plainly → List ℕ → Reply → Type 0
 IsAskedReply s no_room asked new text reply = reply ≡ refused s OutOfMemory
 IsAskedReply s o asked new text reply = IsAskingReply s o asked new text reply
 
--- `position`: without a study the start is held, and no table is asked
+-- `position`: without a study only the start is set, and no table is probed
 abbrev pub IsPositionReply : State → Outside → Document → Start → Reply → Type 0
 IsPositionReply s o empty new reply = reply ≡ accepted (record s { document = start new }) (reply_line (codes "position ") (fen_text new))
 IsPositionReply s o (start old) new reply = reply ≡ accepted (record s { document = start new }) (reply_line (codes "position ") (fen_text new))
 IsPositionReply s o (study old) new reply = IsAskingReply s o (asked_at new.position) (positioned old new) (reply_line (codes "position ") (fen_text new)) reply
 
--- `shift`: a move of the tree is not legal, which may also be told as want of memory for its path
+-- `shift`: a move of the tree is not legal, which may also be reported as want of memory for its path
 abbrev pub IsShiftReply : State → Outside → Plainly → Start → Option (EditRefusal (Unit {0})) → Reply → Type 0
 IsShiftReply s no_room old new (Some refusal) reply = reply ≡ refused s OutOfMemory
 IsShiftReply s _ old new (Some refusal) reply = reply ≡ refused_as s (edit_words refusal)
@@ -137,7 +137,7 @@ IsStartReply s o Shift (study old) (Ok new) reply = IsShiftReply s o old new (sh
 IsStartReply s o Shift empty read reply = reply ≡ refused s NoStudy
 IsStartReply s o Shift (start old) read reply = reply ≡ refused s NoStudy
 
--- a study with the root alone, and no tag known
+-- a study with the root alone, and no tags
 abbrev pub new_study : Start → Stipulation → Plainly
 new_study from stipulation = record {
   start = from;
@@ -158,7 +158,7 @@ tag_reply s empty name text = refused s NoStudy
 tag_reply s (start from) name text = refused s NoStudy
 tag_reply s (study old) name text = edit_reply s (tag_refusal text) (tagged old name text) (reply_line (codes "tag ") (tag_name name))
 
--- `insert`: the node, then the move, then the edit; the reply has the path of the new node
+-- `insert`: the node is checked, then the move, then the edit; the reply has the path of the new node
 abbrev pub inserted_text : Plainly → List ℕ → Move → List ℕ
 inserted_text old steps m = insert_text (steps ++ children_at old.tree.below steps ∷ []) (move_text (position_at old steps) m)
 
@@ -194,7 +194,7 @@ start_of_node (start from) [] = Ok from
 start_of_node (start from) (k ∷ ks) = Err NoSuchNode
 start_of_node (study old) steps = named (start_at old steps)
 
--- the same, where there may be no memory for the path, of which the root's takes none; without a position none is asked
+-- `start_of_node`, if there may be no memory for the path; the root's needs none, and without a position no path is read
 abbrev pub start_found : Outside → Document → List ℕ → Result Start Refusal
 start_found o empty steps = Err NoPosition
 start_found no_path (start from) [] = Ok from
@@ -212,7 +212,7 @@ abbrev pub fen_reply : State → Result Start Refusal → Reply
 fen_reply s (Ok at) = accepted s (reply_line (codes "fen ") (fen_text at))
 fen_reply s (Err refusal) = refused s refusal
 
--- the side to move mates in so many plies against every defence, and not sooner; with None, not within that many moves of its own
+-- the side to move mates in so many plies against every defence, and not sooner; with None, not within that many of its moves
 abbrev pub IsSolution : Position → ℕ → Option ℕ → Type 0
 IsSolution p count (Some plies) = IsWon p plies × (plies + 1 ≤ 2 * count)
 IsSolution p count None = (n : ℕ) → n + 1 ≤ 2 * count → ¬ (MatesWithin n p)
@@ -222,7 +222,7 @@ abbrev pub IsSolveReply : State → ℕ → Result Start Refusal → Reply → T
 IsSolveReply s count (Ok at) reply = (plies : Option ℕ) × IsSolution at.position count plies × (reply ≡ accepted s (solve_text plies))
 IsSolveReply s count (Err refusal) reply = reply ≡ refused s refusal
 
--- a study with its marks has the property, the marks being those of annotating it from scratch
+-- a study has the property with its marks, which are those of annotating it from scratch
 abbrev pub Annotated : Plainly → (Study Mark → Type 0) → Type 0
 Annotated old P = (annotated : Study Mark) × IsAnnotated annotated × (plain_study annotated ≡ old) × P annotated
 
@@ -262,24 +262,24 @@ IsPgnReply s _ (study old) reply = Annotated old (λ annotated. reply ≡ accept
 
 -- ---- tables
 
--- with the table of one more class
+-- the state with the table of one more class
 abbrev pub with_class : State → Class → State
 with_class s c = record s { classes = c ∷ s.classes }
 
--- a table was built, and it is right; or no table can be
+-- a right table was built; or no table can be
 pub data IsBuilt (s : State) (c : Class) (reply : Reply) : Type 0 where
   built : (t : Table) (win : Option ℕ) → t.class ≡ c → IsComplete t → IsRight t → IsGreatest win_of t.cells win
       → reply ≡ accepted (with_class s c) (built_text c win) → IsBuilt s c reply
   too_far : HasFarPosition c → reply ≡ refused s DistanceTooLarge → IsBuilt s c reply
 
--- `build`: whether the class is held, and the first class that is lacking
+-- `build`: whether the class is loaded, and the first needed class that is missing
 abbrev pub IsBuildReply : State → Outside → Class → Bool → Option Class → Reply → Type 0
 IsBuildReply s o c true lacking reply = reply ≡ refused s (AlreadyHeld c)
 IsBuildReply s no_room c false lacking reply = reply ≡ refused s OutOfMemory
 IsBuildReply s _ c false (Some d) reply = reply ≡ refused s (MissingTable d)
 IsBuildReply s _ c false None reply = IsBuilt s c reply
 
--- what a file that is read whole comes to
+-- the reply for a file that is read whole
 abbrev pub loaded : State → Class → Result Table FileFault → Reply
 loaded s c (Err fault) = refused s (File fault)
 loaded s c (Ok t) = if class_number t.class == class_number c then accepted (with_class s c) (loaded_text c) else refused s (OtherClass t.class)
@@ -293,7 +293,7 @@ IsLoadReply s (no_room_for bytes) c false None reply = IsGiven (s.shelf.files c)
 IsLoadReply s (file bytes) c false None reply = IsGiven (s.shelf.files c) (Ok bytes) × (reply ≡ loaded s c (table_read bytes))
 IsLoadReply s _ c false None reply = ⊥
 
--- what the header of a source of pages comes to
+-- the reply for the header of a source of pages
 abbrev pub opened : State → Class → Option PagedFault → Reply
 opened s c None = accepted (with_class s c) (loaded_text c)
 opened s c (Some fault) = refused s (refusal_of_paged fault)
@@ -306,7 +306,7 @@ IsOpenReply s (no_room_for bytes) c false reply =
 IsOpenReply s (header told) c false reply = IsGivenAs (s.shelf.headers c) (s.shelf.faults c) told × (reply ≡ opened s c (paged_fault false c told))
 IsOpenReply s _ c false reply = ⊥
 
--- `save`: every fault of the store is one of its device; what the file gives is not known any more
+-- `save`: every fault of the store is reported as one of its device; the file is unknown from then on
 abbrev pub save_reply : State → Outside → Class → Bool → Reply
 save_reply s o c false = refused s (NoTable c)
 save_reply s (unopened fault) c true = refused (written_anew s c) Device
@@ -337,7 +337,7 @@ IsNamedReply s o word (Some c) reply = IsTableReply s o word c reply
 unfoldable pub class_told : List ℕ → Option Class
 class_told name = find (λ c. bytes_eq name (name_of c)) class_list
 
--- all of these but `load` want whole tables
+-- all of these except `load` need whole tables
 abbrev pub wants_whole : TableCommand → Bool
 wants_whole Load = false
 wants_whole _ = true
@@ -368,7 +368,7 @@ IsReplyWhere s o (Ok None) reply = reply ≡ accepted s []
 IsReplyWhere s o (Ok (Some asked)) reply = IsReplyTo s o asked reply
 IsReplyWhere s o (Err fault) reply = reply ≡ refused s (Form fault)
 
--- the reply to a line, by what the outside does at it
+-- the reply to a line, given its environment
 abbrev pub IsReply : State → List ℕ → Outside → Reply → Type 0
 IsReply s line o reply = IsReplyWhere s o (command_of line) reply
 
@@ -382,12 +382,12 @@ names_position (first ∷ more) = bytes_eq first (codes "position")
 abbrev pub begins_position : List ℕ → Bool
 begins_position line = names_position (words line)
 
--- neither a position nor a study any more; tables stay
+-- no position and no study; tables stay
 abbrev pub emptied : Bool → State → State
 emptied true s = record s { document = empty }
 emptied false s = s
 
--- where it refuses a `position`, nothing is left that the lines behind it could edit
+-- if a `position` is refused, nothing is left that the lines after it could edit
 abbrev pub kept_apart : List ℕ → Reply → Reply
 kept_apart line reply = record {
   text = reply.text;
@@ -395,18 +395,18 @@ kept_apart line reply = record {
   refused = reply.refused;
 }
 
--- the reply to a line, where studies are kept apart or not
+-- the reply to a line, whether studies are kept apart or not
 abbrev pub IsReplyIn : Bool → State → List ℕ → Outside → Reply → Type 0
 IsReplyIn false s line o reply = IsReply s line o reply
 IsReplyIn true s line o reply = (plain : Reply) × IsReply s line o plain × (reply ≡ kept_apart line plain)
 
 -- ---- scripts
 
--- a line's reply, and what the outside did at the line
+-- a line's reply, and the environment of the line
 abbrev pub Answer : Type 0
 Answer = Outside × Reply
 
--- the replies to lines, one for each, where each line finds what the one before it left
+-- the replies to lines, one for each; each line starts from the state after the line before it
 abbrev pub AreReplies : Bool → State → List (List ℕ) → List Answer → Type 0
 AreReplies separate s [] [] = Unit {0}
 AreReplies separate s [] (answer ∷ more) = ⊥

@@ -1,4 +1,4 @@
--- What is held from line to line.
+-- The state of a session from line to line.
 use Rattle.std.specs.Prelude.{ℕ, Bool, List, Option, Result}
 use Rattle.study_material.specs.declared.class.Class.{Class}
 use Rattle.study_table.specs.Table.{Table}
@@ -11,14 +11,13 @@ use Rattle.study_script.specs.State.{State}
 use Rattle.study_script.specs.Held.{Holds}
 use Rattle.study_script.specs.Stores.{StoreSeen}
 
--- what each store gives of each class, where that is known
+-- the answers of each store for each class, as far as they are known
 abbrev pub Known : Type 0 → Type 0
 Known S = S → Class → Option (Result (List ℕ) StoreFault)
 
 module _ {S P A : Type 0} (source_honest : P → Table → ℕ → Type 0) (source_gives : GivesOf P) (store_honest : S → Bool → Type 0)
     (files headers : Known S) (faults : S → Class → SourceFault → Bool) where
-  -- the document and the tables are those of the state, with marks that are right and values that are honest, and the store is as the
-  -- state knows it
+  -- the document and the tables are those of the state, with right marks and honest values, and the state knows the store
   pub record SessionHolds (b : HeldDocument A) (t : Tables P A) (store : S) (s : State) : Type 0 where
     pub held : Holds source_honest source_gives b t s
     pub seen : StoreSeen store_honest files headers faults store s

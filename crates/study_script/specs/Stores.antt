@@ -16,12 +16,12 @@ use Rattle.study_command.specs.Lines.{script_lines}
 use Rattle.study_command.specs.Parser.{Asked, table_command, Asks, command_of}
 use Rattle.study_script.specs.Replies.{class_told}
 
--- a reader knows its bytes, and what they read as, if a table, is right
+-- the bytes of a reader are known, and if they are read as a table, it is right
 abbrev pub IsRightFile : Option (List ℕ) → Type 0
 IsRightFile None = ⊥
 IsRightFile (Some bytes) = (t : Table) → table_read bytes ≡ Ok t → IsRight t
 
--- a source gives the file of some right table, of whichever class and in a version that a file of it can have
+-- a source returns the file of a right table, of any class and in a version that its files can have
 pub record IsRightSource {S : Type 0} (honest : S → Table → ℕ → Type 0) (source : S) : Type 0 where
   pub table : Table
   pub version : ℕ
@@ -30,31 +30,31 @@ pub record IsRightSource {S : Type 0} (honest : S → Table → ℕ → Type 0) 
   pub right : IsRight table
   pub is_honest : honest source table version
 
--- a reader knows the bytes that its store is known to give
+-- the bytes of a reader are the known ones of its store
 abbrev pub GivesBytes : Option (Result (List ℕ) StoreFault) → Option (List ℕ) → Type 0
 GivesBytes None told = Unit {0}
 GivesBytes (Some known) None = ⊥
 GivesBytes (Some known) (Some bytes) = Ok bytes ≡ known
 
 module _ {S : Type 0} where
-  -- the store is honest in the way in which its tables are read, by pages or whole, and what is known of it is what it gives
+  -- the store is honest in the way in which its tables are read, by pages or whole, and its answers are the known ones
   pub record StoreSeen (honest : S → Bool → Type 0) (files headers : S → Class → Option (Result (List ℕ) StoreFault))
       (faults : S → Class → SourceFault → Bool) (store : S) (s : State) : Type 0 where
     pub is_honest : honest store s.paged
     pub known : KnowsStore (files store) (headers store) (faults store) s
 
-  -- all that is known of a store
+  -- the knowledge of a store
   abbrev pub shelf_of : (S → Class → Option (Result (List ℕ) StoreFault)) → (S → Class → Option (Result (List ℕ) StoreFault))
       → (S → Class → SourceFault → Bool) → S → Shelf
   shelf_of files headers faults store = record { files = files store; headers = headers store; faults = faults store }
 
 -- ---- trust: which classes' files are right
 
--- the files of the classes that are trusted are right, by pages or whole
+-- the files of the trusted classes are right, by pages or whole
 abbrev pub HonestOn : {S : Type 0} → (Class → Bool) → (S → Bool → Class → Type 0) → S → Bool → Type 0
 HonestOn trusted honest store by_pages = (c : Class) → trusted c ≡ true → honest store by_pages c
 
--- what loads a table loads that of a class that is trusted; nothing else asks for trust
+-- a command that loads a table loads that of a trusted class; no other command needs trust
 abbrev pub IsTrustedClass : (Class → Bool) → TableCommand → List ℕ → Type 0
 IsTrustedClass trusted Load name = IfSome (class_told name) (λ c. trusted c ≡ true)
 IsTrustedClass trusted _ name = Unit {0}
@@ -68,10 +68,10 @@ IsTrustedAsk trusted (Ok None) = Unit {0}
 IsTrustedAsk trusted (Ok (Some asked)) = IsTrustedAsked trusted asked
 IsTrustedAsk trusted (Err fault) = Unit {0}
 
--- a line that loads a table loads that of a class that is trusted
+-- a line that loads a table loads that of a trusted class
 abbrev pub IsTrusted : (Class → Bool) → List ℕ → Type 0
 IsTrusted trusted line = IsTrustedAsk trusted (command_of line)
 
--- so does each line of a script
+-- each line of a script that loads a table loads that of a trusted class
 abbrev pub AreTrusted : (Class → Bool) → List ℕ → Type 0
 AreTrusted trusted script = AllByRecursion (IsTrusted trusted) (script_lines script)

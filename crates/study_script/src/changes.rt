@@ -1,4 +1,4 @@
-//! What is done at a node of the study, or to its tags: `insert`, `delete`, `promote`, `mark` and `tag`.
+//! Commands that change a node of the study or its tags: `insert`, `delete`, `promote`, `mark` and `tag`.
 ghost use Rattle.std.specs.Prelude.{◌≡◌, true, Ok};
 ghost use Rattle.study_moves.specs.Rules.{is_legal};
 ghost use Rattle.study_notation.specs.Matching.{move_of};
@@ -25,7 +25,7 @@ use study_reply::{Answer, Refusal, Refused, Reply};
 use study_tablefile::PageSource;
 use study_tree::Path;
 
-/// Commands that take a node of the study and nothing else.
+/// Commands whose only argument is a node of the study.
 pub fn node_command<'a, A: Allocator>(
     alloc: &'a A,
     document: &mut Document<'a, A>,

@@ -1,4 +1,4 @@
-//! What a line does: its reply, and what is held after it.
+//! Executing a line: its reply, and the state after it.
 ghost use Rattle.std.specs.Prelude.{◌≡◌, Bool, true, false, ◌&&◌, IfOk, OnErr};
 ghost use Rattle.study_command.specs.Parser.{command_seen};
 ghost use Rattle.study_script.specs.State.{State};
@@ -57,7 +57,7 @@ pub fn answer<'a, W: Write, S: TableStore, A: Allocator>(
     }
 }
 
-/// The same where studies are kept apart.
+/// `answer`, if studies are kept apart.
 pub fn answer_apart<'a, W: Write, S: TableStore, A: Allocator>(
     alloc: &'a A,
     document: &mut Document<'a, A>,
@@ -82,7 +82,7 @@ pub fn answer_apart<'a, W: Write, S: TableStore, A: Allocator>(
     Ok(refused)
 }
 
-/// Leaves nothing in the document behind a refused `position`.
+/// Empties the document after a refused `position`.
 fn clear_after<'a, A: Allocator>(document: &mut Document<'a, A>, line: &[u8], refused: bool)
     ensures cleared { refused && begins_position line.now ≡ true → document.new ≡ held.Empty }
     ensures kept { refused && begins_position line.now ≡ false → document.new ≡ document.old }

@@ -1,4 +1,4 @@
-//! What a script works on.
+//! The document of a script.
 
 use std::alloc::Allocator;
 use study_marks::Bench;

@@ -1,4 +1,4 @@
-//! A store of tables in memory, which fails where a test wants it.
+//! A store of tables in memory, which fails at a place that a test sets.
 ghost use Rattle.std.specs.Prelude.{◌≡◌, None, is_some, length, slice_set, IfOk, IfErr};
 ghost use Rattle.study_material.specs.Class.{class_number};
 ghost use Rattle.study_material.specs.declared.class.Class.{Class as AClass};
@@ -17,10 +17,10 @@ use study_text::{MemoryReader, MemoryWriter};
 #[derive(Clone, Copy)]
 pub enum MemoryFile<'f> {
     Absent,
-    /// A file that is there and is not opened, as one without permission.
+    /// A file that exists and is not opened, such as one without permission.
     Closed,
     Bytes(&'f [u8]),
-    /// A file that was opened to be written, and is not read again over this store.
+    /// A file that was opened to be written; this store does not read it back.
     Written,
 }
 
@@ -28,13 +28,13 @@ pub enum MemoryFile<'f> {
 #[derive(Drop)]
 pub struct MemoryStore<'f, 'w, 'a, A: Allocator> {
     files: [MemoryFile<'f>; CLASS_COUNT],
-    /// The writers of files to come, in the order in which they are opened. With none left no file is opened to be written.
+    /// The writers of files to come, in the order in which they are opened. Once they are used up no file is opened to be written.
     writers: &'w [RefCell<MemoryWriter<'a, A>>],
-    /// How many files were opened to be written.
+    /// The number of files opened to be written.
     opened: usize,
-    /// After how many bytes a file that is read from front to back fails.
+    /// The number of bytes after which a file that is read from front to back fails; `None`: never.
     pub fails_after: Option<usize>,
-    /// Which of the questions for a header or a page fails in each source, counted from 0.
+    /// The number of the request for a header or a page that fails in each source, counted from 0; `None`: none.
     pub fails_at: Option<u64>,
     ghost full: { length files ≡ 36 },
 }
@@ -55,7 +55,7 @@ impl<'f, 'w, 'a, A: Allocator> MemoryStore<'f, 'w, 'a, A> {
         }
     }
 
-    /// Lays out the file of a class, in place of what was there.
+    /// Puts the file of a class, in place of the one before.
     pub fn put(&mut self, class: Class, file: MemoryFile<'f>)
         ensures files { self.new.files ≡ slice_set self.old.files (class_number class) file.entry }
         ensures places { length self.old.files ≡ 36 }
@@ -126,7 +126,7 @@ impl<'f, 'w, 'a, A: Allocator> TableStore for MemoryStore<'f, 'w, 'a, A> {
     }
 }
 
-/// A writer that the store shares with who laid it out. What a cell holds is not known to a clause.
+/// A writer that the store shares with its owner. The contents of a cell are not known to a clause.
 #[derive(Drop)]
 pub struct SharedWriter<'w, 'a, A: Allocator> {
     writer: &'w RefCell<MemoryWriter<'a, A>>,

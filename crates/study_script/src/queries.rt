@@ -1,4 +1,4 @@
-//! Queries of a node or of the study, which stays as it is: `moves`, `fen`, `solve`, `mark` and `pgn`.
+//! Queries of a node or of the study, which do not change it: `moves`, `fen`, `solve`, `mark` and `pgn`.
 ghost use Rattle.std.specs.Prelude.{◌≡◌, true};
 ghost use Rattle.study_marks.specs.Study.{plain_study};
 ghost use Rattle.study_marks.specs.BenchState.{marked};
@@ -19,7 +19,7 @@ use study_pgn::write_pgn;
 use study_reply::{Answer, Game, Refusal, Refused, Reply};
 use study_tree::Path;
 
-/// Commands that take a node and nothing else, and need no study.
+/// Commands whose only argument is a node, and that need no study.
 pub fn node_query<'a, A: Allocator>(
     alloc: &'a A,
     document: &Document<'a, A>,
@@ -79,7 +79,7 @@ pub fn solve_at<'a, A: Allocator>(
     }
 }
 
-/// The start at a node; without a study the root is the only one.
+/// The start at a node; without a study the root is the only node.
 fn start_at<'a, A: Allocator>(
     alloc: &'a A,
     document: &Document<'a, A>,

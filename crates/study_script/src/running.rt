@@ -19,24 +19,24 @@ use study_table::TableSet;
 use study_tablefile::PageSource;
 use thiserror::Error;
 
-/// How a run holds tables, whole or so many pages of them, and whether it keeps studies apart.
+/// The settings of a run: whole tables, or so many pages of them, and whether it keeps studies apart.
 #[derive(Clone, Copy, Debug, PartialEq, Eq)]
 pub struct Settings {
-    /// 1 to 4,096.
+    /// The number of pages, 1 to 4,096; `None` for whole tables.
     pub pages: Option<u16>,
-    /// A refused line whose first word is `position` leaves neither a position nor a study until the next accepted one. Without it a refused
-    /// line changes nothing, so that the lines behind it edit the study before.
+    /// If set, a refused line whose first word is `position` leaves neither a position nor a study until the next accepted one. Otherwise a refused line
+    /// changes nothing, so that the lines after it edit the study before.
     pub separate: bool,
 }
 
-/// What a run did: all lines, those without a reply too, and how many were refused.
+/// The result of a run: the number of all lines, including those without a reply, and of refused lines.
 #[derive(Clone, Copy, Debug, PartialEq, Eq)]
 pub struct Summary {
     pub lines: u32,
     pub refused: u32,
 }
 
-/// Why a run stopped. The replies to the lines before stay written.
+/// Why a run stopped. The replies to the lines before remain written.
 #[derive(Clone, Copy, Debug, PartialEq, Eq, Error)]
 pub enum RunFault {
     #[error("ReadDevice")]
@@ -53,10 +53,10 @@ pub enum RunFault {
     OutOfMemory,
 }
 
-/// Answers each line of a script over a store of tables. All memory but that of the commands is taken before the first line.
+/// Answers each line of a script over a store of tables. All memory except that of the commands is allocated before the first line.
 ///
-/// The premise is on what the script loads alone: each file that a `load` line names gives a right table, by pages or whole as the
-/// settings say. For a script that loads nothing the store does not matter.
+/// The premise is only on the files that the script loads: each file that a `load` line names gives a right table, by pages or whole as the settings say. For
+/// a script that loads nothing the store does not matter.
 pub fn run<'a, R: Read, W: Write, S: TableStore, A: Allocator>(
     alloc: &'a A,
     script: &mut R,
@@ -90,7 +90,7 @@ pub fn run<'a, R: Read, W: Write, S: TableStore, A: Allocator>(
     run_session(&mut line, script, out, &mut session)
 }
 
-/// No table yet, and room for those that will be held.
+/// No table yet, and room for the tables to come.
 fn empty_tables<'a, P: PageSource, A: Allocator>(
     alloc: &'a A,
     settings: Settings,
@@ -105,7 +105,7 @@ fn empty_tables<'a, P: PageSource, A: Allocator>(
     }
 }
 
-/// Answers each line of a script, by any interpreter. Its room for a line is given, so it never ends for want of memory.
+/// Answers each line of a script, by any interpreter. Its memory for a line is given, so it never ends for want of memory.
 pub fn run_session<R: Read, W: Write, D: Interpreter, A: Allocator>(
     line: &mut Line<'_, A>,
     script: &mut R,

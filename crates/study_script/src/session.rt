@@ -1,4 +1,4 @@
-//! What answers the lines of a script.
+//! Interpreters of the lines of a script.
 ghost use Rattle.std.specs.Prelude.{◌≡◌, Bool, true, IfOk, OnErr};
 ghost use Rattle.study_material.specs.declared.class.Class.{Class as AClass};
 ghost use Rattle.study_script.specs.State.{State as AState};
@@ -16,10 +16,10 @@ use std::alloc::Allocator;
 use std::io::Write;
 use study_text::DeviceFailed;
 
-/// Answers lines one by one, and holds what a script holds.
+/// Answers lines one by one, and has the state of a script.
 pub trait Interpreter {
-    /// What is held is this state; its marks are right, its values are honest, and so is its store for each class that is trusted.
-    /// Studies are kept apart or not, as the second `Bool` says.
+    /// The state is this one; its marks are right, its values are honest, and so is its store for each class that is trusted. The second
+    /// `Bool` says whether studies are kept apart.
     ghost holds: { Self → (AClass → Bool) → Bool → AState → Type 0 };
 
     /// Writes the reply to a line, keeps the state after it, and returns whether the line was refused.
@@ -32,7 +32,7 @@ pub trait Interpreter {
         ensures cut_off { OnErr result (IsCutOff line.now (W.contents out.old) (W.contents out.new)) };
 }
 
-/// The session of a script: what it works on, the tables that it holds, and the store of their files.
+/// The session of a script: its document, its tables, and the store of their files.
 #[derive(Drop)]
 pub struct Session<'a, 's, S: TableStore, A: Allocator> {
     pub alloc: &'a A,
@@ -66,9 +66,8 @@ impl<'a, 's, S: TableStore, A: Allocator> Interpreter for Session<'a, 's, S, A> 
 }
 
 impl<'a, 's, S: TableStore, A: Allocator> Session<'a, 's, S, A> {
-    /// Answers a line as a script does in which studies are kept apart: a refused line whose first word is `position` leaves neither a
-    /// position nor a study until the next accepted one. So no line that belongs to it edits the study before. The session's own setting
-    /// is not looked at.
+    /// Answers a line as in a script in which studies are kept apart: a refused line whose first word is `position` leaves neither a position nor a study
+    /// until the next accepted one. So no line that belongs to it edits the study before. The session's own setting is ignored.
     pub fn answer_apart<W: Write>(&mut self, line: &[u8], out: &mut W) -> Result<bool, DeviceFailed>
         ensures ok { (trusted : AClass → Bool) (s : AState) → IsTrusted trusted line.now
             → SessionHolds S.Pages.honest S.Pages.gives (HonestOn trusted S.honest) S.files S.headers S.faults self.old.document self.old.tables

@@ -1,4 +1,4 @@
-//! Where the files of tables are.
+//! Stores of table files.
 ghost use Rattle.std.specs.Prelude.{◌≡◌, ℕ, Bool, true, false, List, Option, Result, Ok, Err, IsOk, IfOk, MatchResult};
 ghost use Rattle.study_material.specs.declared.class.Class.{Class as AClass};
 ghost use Rattle.study_values.specs.declared.fault.SourceFault.{SourceFault as ASourceFault};
@@ -12,7 +12,7 @@ use study_material::Class;
 use study_tablefile::PageSource;
 use thiserror::Error;
 
-/// Why a file of a table is not opened.
+/// Why a table file is not opened.
 #[derive(Clone, Copy, Debug, PartialEq, Eq, Error)]
 pub enum StoreFault {
     #[error("there is no such file")]
@@ -29,7 +29,7 @@ pub trait TableStore {
 
     type Pages: PageSource + Drop;
 
-    /// Each table that is read from the file of this class, now and after any calls, is right: by pages, or from front to back.
+    /// Each table that is read from the file of this class, in this call and all later ones, is right: by pages, or from front to back.
     ghost honest: { Self → Bool → AClass → Type 0 };
 
     /// What is known of each class's file: its bytes from front to back, or the fault of opening it.
@@ -38,7 +38,7 @@ pub trait TableStore {
     /// What is known of each class's source of pages: its header, or the fault of opening it.
     ghost headers: { Self → AClass → Option (Result (List ℕ) AStoreFault) };
 
-    /// For which faults each class's source of pages may not be read.
+    /// The faults for which reading each class's source of pages may fail.
     ghost faults: { Self → AClass → ASourceFault → Bool };
 
     /// Opens a file to be read from front to back.
@@ -51,7 +51,7 @@ pub trait TableStore {
         ensures headers { (c : AClass) → headers self.new c ≡ headers self.old c }
         ensures faults { (c : AClass) (f : ASourceFault) → faults self.new c f ≡ faults self.old c f };
 
-    /// Opens a file to be written from its beginning. What the class's file and source give is not known any more.
+    /// Opens a file to be written from its beginning. The class's file and source are unknown from then on.
     fn writer(&mut self, class: Class) -> Result<Self::Writer, StoreFault>
         ensures stays { (by_pages : Bool) (c : AClass) → honest self.old by_pages c → honest self.new by_pages c }
         ensures files { (c : AClass) → files self.new c ≡ forgotten class (files self.old) c }

@@ -28,7 +28,7 @@ use study_table::Table;
 use study_tablefile::{read_table, write_table};
 use study_values::{FileFault, Values, cells};
 
-/// Commands that take a class.
+/// Commands whose only argument is a class.
 pub fn table_command<'a, S: TableStore, A: Allocator>(
     alloc: &'a A,
     tables: &mut Tables<'a, S::Pages, A>,
@@ -67,7 +67,7 @@ fn in_tables<'a, S: TableStore, A: Allocator>(
     }
 }
 
-/// Over whole tables.
+/// Runs the command over whole tables.
 fn in_whole<'a, S: TableStore, A: Allocator>(
     alloc: &'a A,
     tables: &mut WholeTables<'a, A>,
@@ -89,7 +89,7 @@ fn in_whole<'a, S: TableStore, A: Allocator>(
     }
 }
 
-/// Over tables that are read by pages, of which none is made or written.
+/// Runs the command over tables that are read by pages; these cannot be built or written.
 fn in_pages<'a, S: TableStore, A: Allocator>(
     tables: &mut PagedTables<'a, S::Pages, A>,
     store: &mut S,
@@ -155,7 +155,7 @@ fn has_table<'a, A: Allocator>(tables: &WholeTables<'a, A>, class: Class) -> boo
     tables.tables().table(class).is_some()
 }
 
-/// Holds a table whose class is not held, and whose needs are.
+/// Adds a table whose class is not loaded, and whose needs are.
 fn add_table<'a, A: Allocator>(tables: &mut WholeTables<'a, A>, table: Table<'a, A>)
     requires { add_fault tables.old.tables table.class ≡ None }
     ensures held { tables.new ≡ record tables.old { tables = slice_set tables.old.tables (class_number table.entry.class) (Some table.entry) } }
@@ -192,7 +192,7 @@ fn load_class<'a, S: TableStore, A: Allocator>(
     Ok(TableReply::Loaded(class))
 }
 
-/// Reads the file of a class, or says why it gives no table.
+/// Reads the file of a class, or reports why it is not a table.
 fn read_table_file<'a, S: TableStore, A: Allocator>(
     alloc: &'a A,
     store: &mut S,
@@ -296,7 +296,7 @@ fn verify_class<'a, A: Allocator>(
     }
 }
 
-/// Whether the held table of a class is right, where those that it needs are; `None` where it is not held.
+/// Whether the loaded table of a class is right, if the tables that it needs are; `None` if it is not loaded.
 pub fn is_right<'a, A: Allocator>(tables: &WholeTables<'a, A>, class: Class) -> Option<bool>
     ensures held { is_some result ≡ is_some (table_of tables.now.tables class) }
     ensures right { NeedsAreRight tables.now.tables class → IfSome result (λ told. IfSome (table_of tables.now.tables class) (λ t. IsTrue told ↔ IsRight t)) }

@@ -1,4 +1,4 @@
-//! Edits of the study that probe the tables, of either kind.
+//! Edits of the study that probe the tables, whole or paged.
 ghost use Rattle.std.specs.Prelude.{◌≡◌, Err, None, true, MatchOption, IfErr, IfOk, OnOk, OnErr};
 ghost use Rattle.study_material.specs.declared.class.Class.{Class as AClass};
 ghost use Rattle.study_values.specs.declared.fault.SourceFault.{SourceFault as ASourceFault};
@@ -22,7 +22,7 @@ use study_notation::Start;
 use study_tablefile::PageSource;
 use study_tree::Path;
 
-/// Another start, and the root alone.
+/// Sets another start, and keeps the root alone.
 pub fn set_position<'a, P: PageSource, A: Allocator>(
     bench: &mut Bench<'a, A>,
     start: Start,
@@ -49,7 +49,7 @@ pub fn set_position<'a, P: PageSource, A: Allocator>(
     }
 }
 
-/// Another start, and the same tree, each move of which has to be legal.
+/// Sets another start, and keeps the tree, each move of which must be legal.
 pub fn shift_position<'a, P: PageSource, A: Allocator>(
     bench: &mut Bench<'a, A>,
     start: Start,
@@ -77,7 +77,7 @@ pub fn shift_position<'a, P: PageSource, A: Allocator>(
     }
 }
 
-/// One more child of the node, by a move that is legal there; says its place.
+/// Adds a last child to the node, by a move that is legal there; returns its place.
 pub fn insert_move<'a, P: PageSource, A: Allocator>(
     bench: &mut Bench<'a, A>,
     path: &Path<'a, A>,
@@ -107,7 +107,7 @@ pub fn insert_move<'a, P: PageSource, A: Allocator>(
     }
 }
 
-/// A study with the root alone, and no tag known.
+/// A study with the root alone, and no tags.
 pub fn new_bench<'a, P: PageSource, A: Allocator>(
     alloc: &'a A,
     start: Start,

@@ -35,7 +35,7 @@ module _ {P : Type 0} (leads : P → P → Type 0) (mate : P → Type 0) (Alike 
             (Mated-along m q p (keeps.back p q r) x);
       }
 
-  -- labels that are alike where positions are, which known positions after the moves are
+  -- labels that are alike if positions are, for the known positions after the moves
   module _ (known : P → Type 0) (labels : P → Value) (alike : (p q : P) → known p → Alike p q → labels p ≡ labels q) where
     pub Gives-along : (p q : P) (v : Value) → ((p' : P) → leads p p' → known p')
         → ((q' : P) → leads q q' → known q') → Alike p q → Gives leads mate labels p v → Gives leads mate labels q v

@@ -28,7 +28,7 @@ use Rattle.study_table.specs.Game.{value_by, value_in}
 use Rattle.study_index.proofs.ComputedIndex.{IsIndex-index_of, index_of-only, told_decoded, decoded_told}
 use Rattle.study_table.proofs.LevelLemmas.{distance-byte}
 
--- alike positions have one pair of lists
+-- positions that are alike have the same pair of lists
 pub same_ordered : (p q : Position) → AreAlike p q → ordered (lists p.men) ≡ ordered (lists q.men)
 same_ordered p q h = let d = class_exists p h.left in sym d.1 ∙ same_class p q d.0 h d.1
 
@@ -52,7 +52,7 @@ pub class_found-is : (c : Class) (p : Position) → IsOf c p → class_found p �
 unfolding class_found
 class_found-is c p h = class_in-is class_list c (ordered (lists p.men)) (Contains-class c) h
 
--- what a held table says of a position of its class
+-- the value in a loaded table of a position of its class
 pub value_in-held : (held : List (Option Table)) (c : Class) (t : Table) (p : Position) → IsOf c p
     → table_of held c ≡ Some t → value_in held p ≡ value_of (slice_index t.cells (index_of p))
 value_in-held held c t p h e = ap (λ (d : Class). value_by (table_of held d) p) (class_found-is c p h) ∙ ap (λ (o : Option Table). value_by o p) e

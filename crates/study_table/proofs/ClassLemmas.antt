@@ -1,4 +1,4 @@
--- What a class's cells tell of all its positions.
+-- The values in a class's cells, for all its positions.
 use Rattle.std.proofs.Common.{◌≡◌, ℕ, ◌<◌, ◌⊎◌, inl, inr, sym, ◌∙◌, ap, subst, refl, List, slice_index, Option, Some, None, Bool, true, false, if◌then◌else◌}
 use Rattle.study_values.specs.declared.value.Value.{Value}
 use Rattle.study_table.specs.Forced.{IsGame, Gives}
@@ -31,7 +31,7 @@ module _ {P : Type 0} {leads : P → P → Type 0} {mate : P → Type 0} {known 
   pub label-outside : (p : P) → home p ≡ false → Labels p ≡ outside p
   label-outside p e = ap (λ (b : Bool). if b then value_of (slice_index cells (index p)) else outside p) e
 
-  -- images have one label, where what is known outside of the class is right
+  -- images have the same label, if the values known outside the class are right
   pub same_label : IsRightOutside leads mate known home outside → (p q : P) → known p → image p q → Labels p ≡ Labels q
   same_label outer p q k r = elim (true_or_false (home p)) [
     | inl e ↦ label-home p e ∙ ap (λ (n : ℕ). value_of (slice_index cells n)) (laws.same_index p q k e r)
@@ -47,7 +47,7 @@ module _ {P : Type 0} {leads : P → P → Type 0} {mate : P → Type 0} {known 
   pub label-position : (n : ℕ) (p : P) → position n ≡ Some p → Labels p ≡ value_of (slice_index cells n)
   label-position n p e = let d = laws.decoded n p e in label-home p d.1 ∙ ap (λ (m : ℕ). value_of (slice_index cells m)) d.2
 
-  -- what right cells tell of any known position is right
+  -- the labels of known positions by right cells are right
   pub labels-right : IsRightOutside leads mate known home outside → AreRight leads mate position size cells → (p : P) → known p → IsGame leads mate p (Labels p)
   labels-right outer right p k = elim (true_or_false (home p)) [
     | inl e ↦
@@ -58,12 +58,12 @@ module _ {P : Type 0} {leads : P → P → Type 0} {mate : P → Type 0} {known 
     | inr e ↦ subst (IsGame leads mate p) (sym (label-outside p e)) (outer p k e)
   ]
 
-  -- what right cells give a position is right
+  -- the value that right cells give a position is right
   pub given-right : IsRightOutside leads mate known home outside → AreRight leads mate position size cells
       → (p : P) (v : Value) → known p → home p ≡ true → Gives leads mate Labels p v → IsGame leads mate p v
   given-right outer right p v k e g = IsGame-Gives leads mate laws.stuck Labels p v (λ q l. labels-right outer right q (laws.closed p q k e l)) g
 
-  -- no right cells hold one that tells something else than they give
+  -- among right cells none encodes another value than they give
   pub other-wrong : IsRightOutside leads mate known home outside → AreRight leads mate position size cells → (n : ℕ)
       → n < size → IsOtherCell leads mate Labels (position n) (slice_index cells n) → ⊥
   other-wrong outer right n b h = elim (some_or_none (position n)) [
@@ -79,7 +79,7 @@ module _ {P : Type 0} {leads : P → P → Type 0} {mate : P → Type 0} {known 
         w (subst (λ (o : Option P). IsRightCell leads mate o cell) e (right n b))
   ]
 
-  -- cells that are each right, or as the cells give, are right
+  -- cells that are each right, or equal to the value that the cells give, are right
   pub cells-settled : IsRightOutside leads mate known home outside
       → ((n : ℕ) → n < size → IsRightCell leads mate (position n) (slice_index cells n) ⊎ IsGivenCell leads mate Labels (position n) (slice_index cells n))
       → AreRight leads mate position size cells

@@ -1,4 +1,4 @@
--- What the definitions of specs/Forced.antt imply, for any moves.
+-- Consequences of the definitions of specs/Forced.antt, for any moves.
 use Rattle.std.proofs.Common.{◌≡◌, ℕ, zero, suc, ◌<◌, ◌≤◌, ◌⊎◌, inl, inr, arith, subst, refl, ap}
 use Rattle.study_values.specs.declared.value.Value.{Value}
 use Rattle.study_values.specs.declared.value.Value.TheVariants.{Win, Loss, Draw}
@@ -35,7 +35,7 @@ module _ {P : Type 0} (leads : P → P → Type 0) (mate : P → Type 0) where
 
 module _ {P : Type 0} (leads : P → P → Type 0) (mate : P → Type 0) (stuck : (p q : P) → mate p → leads p q → ⊥) where
   mutual
-    -- not both sides force mate
+    -- at most one side forces mate
     pub Mates-Mated : (n m : ℕ) (p : P) → Mates leads mate p n → Mated leads mate p m → ⊥
     Mates-Mated zero m p h k = h
     Mates-Mated (suc n) zero p h k = stuck p h.0 k h.1
@@ -48,7 +48,7 @@ module _ {P : Type 0} (leads : P → P → Type 0) (mate : P → Type 0) (stuck 
     Mated-Mates (suc n) (suc m) p (inl h) k = stuck p k.0 h k.1
     Mated-Mates (suc n) (suc m) p (inr h) k = Mates-Mated n m k.0 (h.1 k.0 k.1) k.2
 
-  -- a position has one value
+  -- a position has at most one value
   pub IsGame-unique : (p : P) (v w : Value) → IsGame leads mate p v → IsGame leads mate p w → v ≡ w
   IsGame-unique p (Win n) (Win m) h k = ap Win (same_number n m (h.least m k.forced) (k.least n h.forced))
   IsGame-unique p (Win n) (Loss m) h k = absurd (Mates-Mated n m p h.forced k.forced)
@@ -81,16 +81,16 @@ module _ {P : Type 0} (leads : P → P → Type 0) (mate : P → Type 0) (stuck 
     lost = λ m l e. absurd (let e' : ⊥ = cc in e');
   }
 
-  -- right below k plies at each move's end, labels give what is right below one more
+  -- if labels are right below k plies after each move, the value that they give is right below one more
   module _ (labels : P → Value) (k : ℕ) (p : P) (after : (q : P) → leads p q → IsRightBelow leads mate k q (labels q)) where
-    -- where a move leads to a position that is not won, the mover is not mated
+    -- if a move leads to a position that is not won, the mover is not mated
     not_mated : (q : P) → leads p q → ((n : ℕ) → labels q ≡ Win n → ⊥) → (m : ℕ) → m < suc k → Mated leads mate p m → ⊥
     not_mated q l unwon zero b x = stuck p q x l
     not_mated q l unwon (suc m) b (inl x) = stuck p q x l
     not_mated q l unwon (suc m) b (inr x) =
         let w = (after q l).wins m (omega arith) (x.1 q l) in unwon w.0 w.1
 
-    -- where no move leads to a lost position, the mover does not mate
+    -- if no move leads to a lost position, the mover does not mate
     not_mating : ((q : P) (n : ℕ) → leads p q → labels q ≡ Loss n → ⊥) → (m : ℕ) → m < suc k → Mates leads mate p m → ⊥
     not_mating unlost zero b x = x
     not_mating unlost (suc m) b x =
@@ -162,7 +162,7 @@ module _ {P : Type 0} (leads : P → P → Type 0) (mate : P → Type 0) (stuck 
       lost = λ m b e. absurd (let no : ⊥ = cc in no);
     }
 
-  -- right below every number of plies is the game's value
+  -- a value that is right below every number of plies is the game's
   pub IsGame-from_below : (p : P) (v : Value) → ((k : ℕ) → IsRightBelow leads mate k p v) → IsGame leads mate p v
   IsGame-from_below p (Win n) h = record {
     forced = (h (suc n)).won n (omega arith) refl;
@@ -177,7 +177,7 @@ module _ {P : Type 0} (leads : P → P → Type 0) (mate : P → Type 0) (stuck 
     no_loss = λ m x. let w = (h (suc m)).loses m (omega arith) x in let e : Draw ≡ Loss w.0 = w.1 in cc;
   }
 
-  -- a mate in fewer plies than those below which a value is right is the game's
+  -- a value with a mate in fewer plies than those below which it is right is the game's
   pub IsGame-from_near : (k : ℕ) (p : P) (v : Value) → (v ≡ Draw → ⊥) → distance_of v < k → IsRightBelow leads mate k p v → IsGame leads mate p v
   IsGame-from_near k p (Win n) drawn b h = record {
     forced = h.won n b refl;
@@ -203,7 +203,7 @@ module _ {P : Type 0} (leads : P → P → Type 0) (mate : P → Type 0) (stuck 
     lost = λ m b e. h.lost m (omega arith) e;
   }
 
-  -- what right labels give is right
+  -- the value that right labels give is right
   pub IsGame-Gives : (labels : P → Value) (p : P) (w : Value)
       → ((q : P) → leads p q → IsGame leads mate q (labels q)) → Gives leads mate labels p w → IsGame leads mate p w
   IsGame-Gives labels p w after g =
@@ -211,7 +211,7 @@ module _ {P : Type 0} (leads : P → P → Type 0) (mate : P → Type 0) (stuck 
       (λ k. below-less (suc k) k p w (omega arith)
       (Gives-below labels k p (λ q l. IsGame-below k q (labels q) (after q l)) w g))
 
-  -- labels are right on a set of positions where each is right, or is what the labels after its moves give
+  -- labels are right on a set of positions if each is right, or is the value that the labels after its moves give
   module _ (inside : P → Type 0) (labels : P → Value)
       (each : (p : P) → inside p → IsGame leads mate p (labels p) ⊎ Gives leads mate labels p (labels p) × ((q : P) → leads p q → inside q)) where
     pub settled-below : (k : ℕ) (p : P) → inside p → IsRightBelow leads mate k p (labels p)

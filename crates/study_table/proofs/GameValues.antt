@@ -1,4 +1,4 @@
--- Forced mate and the game's value by moves of chess, and by what the moves lead to.
+-- Forced mate and the game's value by moves of chess, and by the positions that the moves lead to.
 use Rattle.std.proofs.Common.{ℕ, zero, suc, ◌<◌, ◌≤◌, ◌⊎◌, inl, inr, refl, sym, subst, arith}
 use Rattle.study_board.specs.Position.{Position}
 use Rattle.study_moves.specs.Rules.{after}

@@ -23,7 +23,7 @@ distance-byte c h = elim (zero_or_not c) [
 ]
 
 module _ {P : Type 0} (leads : P → P → Type 0) (mate : P → Type 0) where
-  -- what labels of small distances give has at most one ply more
+  -- a value from labels of small distances has at most one ply more
   Gives-distance : (labels : P → Value) (p : P) (b : ℕ) → ((q : P) → leads p q → distance_of (labels q) < b)
       → (w : Value) → Gives leads mate labels p w → distance_of w ≤ b
   Gives-distance labels p b near (Win zero) g = omega arith
@@ -32,7 +32,7 @@ module _ {P : Type 0} (leads : P → P → Type 0) (mate : P → Type 0) where
   Gives-distance labels p b near (Loss (suc n)) g = let h = near g.to g.move in let e : distance_of (labels g.to) ≡ n = ap distance_of g.is in omega arith
   Gives-distance labels p b near Draw g = omega arith
 
-  -- a value right below more plies than the game's is the game's
+  -- a value that is right below more plies than the game's is the game's
   below-unique : (k : ℕ) (p : P) (w v : Value) → v ≢ Draw → distance_of v < k → IsRightBelow leads mate k p w → IsGame leads mate p v → w ≡ v
   below-unique k p w (Win n) mated l is game =
       let x = is.wins n l game.forced in
@@ -64,7 +64,7 @@ module _ {P : Type 0} {leads : P → P → Type 0} {mate : P → Type 0} {known 
     | inr e ↦ subst (IsRightBelow leads mate k p) (sym (label-outside laws cells p e)) (IsGame-below leads mate laws.stuck k p (outside p) (outer p kn e))
   ]
 
-  -- and give what is right below one more
+  -- and give values that are right below one more
   pub given-below : (k : ℕ) → AreRightBelow leads mate k position size cells → (p : P) (v : Value) → known p
       → home p ≡ true → Gives leads mate Labels p v → IsRightBelow leads mate (suc k) p v
   given-below k right p v kn e g = Gives-below leads mate laws.stuck Labels k p (λ q l. labels-below k right q (laws.closed p q kn e l)) v g
@@ -78,7 +78,7 @@ module _ {P : Type 0} {leads : P → P → Type 0} {mate : P → Type 0} {known 
       by_position (Some p) x = IsGame-from_near leads mate laws.stuck k p (value_of c) (value_of-not_draw c nonzero)
           (let d = distance_of-value_of c nonzero in let pos : 0 < c = omega arith in omega arith) x
 
-  -- where a value far enough is given at a cell of 0, the position is mate in that many plies
+  -- if a far value is given at a cell of 0, the position is mate in that many plies
   pub far-witness : (k : ℕ) → AreRightBelow leads mate k position size cells → (p : P) (v : Value) → known p
       → home p ≡ true → Gives leads mate Labels p v → v ≢ Draw → distance_of v ≤ k → IsGame leads mate p v
   far-witness k right p v kn e g mated near = IsGame-from_near leads mate laws.stuck (suc k) p v mated (omega arith) (given-below k right p v kn e g)
@@ -101,7 +101,7 @@ module _ {P : Type 0} {leads : P → P → Type 0} {mate : P → Type 0} {known 
         omega arith
   ]
 
-  -- after the last level, a cell that has something else than is given stands for a position of a greater distance
+  -- after the last level, a cell that differs from the given value has a position of a greater distance
   pub other-far : AreNear 255 size cells → AreRightBelow leads mate 255 position size cells → (n : ℕ) → n < size
       → IsOtherCell leads mate Labels (position n) (slice_index cells n) → HasFar leads mate known home
   other-far bytes right n b h = elim (some_or_none (position n)) [

@@ -1,4 +1,4 @@
--- A win is in an odd number of plies and a loss in an even one, so a cell's byte tells which it is.
+-- A win takes an odd number of plies and a loss an even one, so a cell's byte encodes which it is.
 use Rattle.std.proofs.Common.{◌≡◌, ◌≢◌, ℕ, zero, suc, ◌-◌, ◌*◌, ◌%◌, ◌≤◌, ◌⊎◌, inl, inr, arith, ap, subst, refl, sym}
 use Rattle.std.proofs.lemmas.Bool.Decides.{nat_tests}
 use Rattle.study_values.specs.declared.value.Value.TheVariants.{Draw}
@@ -39,7 +39,7 @@ module _ {P : Type 0} (leads : P → P → Type 0) (mate : P → Type 0) where
     | inr d ↦ absurd (let t = double_is d.0 in let is : k ≡ suc (double d.0) = d.1 in omega arith)
   ]
 
-  -- nor does the mating side need an even one
+  -- nor does the mating side need an even number
   pub Mates-even : (k : ℕ) (p : P) → k % 2 ≡ 1 → Mates leads mate p (suc k) → Mates leads mate p k
   Mates-even k p e h = elim (even_or_odd k) [
     | inl d ↦ absurd (let t = double_is d.0 in let is : k ≡ double d.0 = d.1 in omega arith)
@@ -69,7 +69,7 @@ module _ {P : Type 0} (leads : P → P → Type 0) (mate : P → Type 0) where
     | inr e ↦ absurd (odd-not_loss e.0 p (subst (IsLoss leads mate p) e.1 h))
   ]
 
--- a cell other than 0 tells of a mate, in one ply less than its number
+-- a cell other than 0 encodes a mate, in one ply less than its number
 pub value_of-not_draw : (c : ℕ) → c ≢ 0 → value_of c ≢ Draw
 value_of-not_draw c h = grind (arith, nat_tests)
 

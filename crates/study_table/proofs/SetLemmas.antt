@@ -1,4 +1,4 @@
--- Sets of tables: what is held after a table is added, and what a set lacks.
+-- Sets of tables: the loaded tables after one is added, and the tables that a set lacks.
 use Rattle.std.proofs.Common.{◌≡◌, ◌≢◌, ℕ, suc, zero, ◌<◌, Bool, true, false, List, [], ◌∷◌, length, drop, get_or, set}
 use Rattle.std.proofs.Common.{Option, Some, None, refl, sym, ◌∙◌, ap, subst, arith, inl, inr, ◌⊎◌, cond, not}
 use Rattle.std.specs.Prelude.{IsSome, is_some, replicate}
@@ -87,7 +87,7 @@ module _ (held : List (Option Table)) where
   at_head c d cs s rest zero l f = subst (λ (x : Class). IsSome (table_of held x)) f s
   at_head c d cs s rest (suc i) l f = rest i (omega arith) f
 
-  -- where nothing is missing, each class is held
+  -- if nothing is missing, the table of each class is loaded
   pub first_missing-none : (xs : List Class) → first_missing held xs ≡ None → (d : Class) → Contains xs d → IsSome (table_of held d)
   first_missing-none [] e d h = absurd (omega (arith, h.1))
   first_missing-none (c ∷ cs) e d h = let p = by_held c cs e in at_head c d cs p.0 (λ k l f. first_missing-none cs p.1 d (k, l, f)) h.0 h.1 h.2
@@ -149,7 +149,7 @@ module _ (held : List (Option Table)) (t : Table) (closed : IsClosed held) where
   unfolding after
   held_other c f = get_or-set_other held (class_number t.class) (class_number c) (Some t) None f
 
-  -- what was held is held
+  -- loaded tables stay loaded
   held_stays : (c : Class) → IsSome (table_of held c) → IsSome (table_of after c)
   held_stays c h = elim (same_class c t.class) [
     | inl e ↦ subst (λ (x : Class). IsSome (table_of after x)) (sym e) (rw held_same refl)

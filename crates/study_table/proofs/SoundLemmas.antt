@@ -44,7 +44,7 @@ AreRight-from t r n l = cell-from_value (position_numbered t.class n) (slice_ind
 pub IsRight-from : (t : Table) → AreRight Leads IsMate (position_numbered t.class) (cells_of t.class) t.cells → IsRight t
 IsRight-from t r = record { tells = λ n l. value-from_cell (position_numbered t.class n) (slice_index t.cells n) (r n l) }
 
--- a right table tells the game's value of each position of its class
+-- a right table has the game's value of each position of its class
 pub at_right : (t : Table) → IsComplete t → IsRight t → (p : Position) → IsValid p → IsOf t.class p → IsValueOf p (value_of (slice_index t.cells (index_of p)))
 at_right t complete right p valid of_class =
     let c = t.class in
@@ -55,7 +55,7 @@ at_right t complete right p valid of_class =
     let tells : IsValueOf n.0 v = subst (λ (o : Option Position). TellsValue o (slice_index t.cells (index_of p))) n.1 (right.tells (index_of p) small) in
     IsValueOf-from_game p v (IsGame-along Leads IsMate (AreAlikeIn c) (image_keeps laws t.cells) n.0 p v n.2 (IsGame-from_value n.0 v tells))
 
--- what right tables say of the positions that a class leads to is right
+-- the values of right tables, for the positions that a class leads to, are right
 pub outside_right : (held : List (Option Table)) (c : Class) → IsClosed held → IsReady held c → NeedsAreRight held c
     → IsRightOutside Leads IsMate (λ p. LeadsOn c p) (is_of c) (value_in held)
 outside_right held c closed ready needs p known away = by_class known.of_class
@@ -82,7 +82,7 @@ cell_in_bounds t p n complete valid of_class is =
     let same : n ≡ index_of p = index_of-only p n valid is in
     omega (arith, complete.size)
 
--- what a table answers at a position
+-- the value of a table at a position
 pub at_told : (t u : Table) (p : Position) (n : ℕ) (cells : List ℕ) (v : Value) → t ≡ u → IsValid p → IsIndex p n
     → cells ≡ t.cells → v ≡ value_of (get_or cells n 0) → v ≡ value_of (slice_index u.cells (index_of p))
 at_told t u p n cells v e valid is s w =
@@ -93,7 +93,7 @@ pub at_value : (u : Table) (p : Position) (v : Value) → IsComplete u → IsVal
     → v ≡ value_of (slice_index u.cells (index_of p)) → IsRight u → IsValueOf p v
 at_value u p v complete valid of_class e right = subst (λ (x : Value). IsValueOf p x) (sym e) (at_right u complete right p valid of_class)
 
--- where right cells are told, a right table is
+-- if right cells encode the game's values, a table with them is right
 pub table_right : (t : Table) (c : Class) (cells : List ℕ) → c ≡ t.class → cells ≡ t.cells
     → AreRight Leads IsMate (position_numbered c) (cells_of c) cells → IsRight t
 table_right t c cells e f h =

@@ -12,16 +12,16 @@ use Rattle.study_values.specs.declared.value.Value.{Value}
 use Rattle.study_values.specs.Game.{IsValueOf}
 use Rattle.study_table.specs.Table.{Table, table_of}
 
--- a cell tells the game's value of the position of its number, and is 0 where the number has none
+-- a cell encodes the game's value of the position of its number, and is 0 if the number has no position
 abbrev pub TellsValue : Option Position → ℕ → Type 0
 TellsValue None cell = cell ≡ 0
 TellsValue (Some p) cell = IsValueOf p (value_of cell)
 
--- each cell does
+-- each cell of the table is right
 pub record IsRight (t : Table) : Type 0 where
   pub tells : (n : ℕ) → n < cells_of t.class → TellsValue (position_numbered t.class n) (slice_index t.cells n)
 
--- the held tables that a class needs are right
+-- the loaded tables that a class needs are right
 pub record NeedsAreRight (held : List (Option Table)) (c : Class) : Type 0 where
   pub right : (d : Class) (t : Table) → Contains (needs_of c) d → table_of held d ≡ Some t → IsRight t
 

@@ -1,4 +1,4 @@
--- Tables as a contract sees them, and sets of tables.
+-- Tables as contracts see them, and sets of tables.
 use Rattle.std.specs.Prelude.{◌≡◌, ℕ, ◌<◌, List, length, slice_index_or, Option, Some, None, IsSome}
 use Rattle.std.specs.List.{All, Contains}
 use Rattle.study_material.specs.declared.class.Class.{Class}
@@ -15,15 +15,15 @@ pub record IsComplete (t : Table) : Type 0 where
   pub size : length t.cells ≡ cells_of t.class
   pub bytes : All (λ c. c < 256) t.cells
 
--- the table of a class, if it is held: a set has a place for each class
+-- the table of a class, if it is loaded: a set has a place for each class
 abbrev pub table_of : List (Option Table) → Class → Option Table
 table_of held c = slice_index_or held (class_number c) None
 
--- all classes that the class needs are held
+-- the tables of all classes that the class needs are loaded
 abbrev pub IsReady : List (Option Table) → Class → Type 0
 IsReady held c = (d : Class) → Contains (needs_of c) d → IsSome (table_of held d)
 
--- each held table stands at the place of its class, is complete, and what it needs is held
+-- each loaded table stands at the place of its class, is complete, and has the tables that it needs
 pub record IsClosed (held : List (Option Table)) : Type 0 where
   pub places : length held ≡ 36
   pub class : (c : Class) (t : Table) → table_of held c ≡ Some t → t.class ≡ c

@@ -1,4 +1,4 @@
--- What a set of tables lacks, and why a table is not added.
+-- The tables that a set lacks, and why a table is not added.
 use Rattle.std.specs.Prelude.{is_some, List, [], ◌∷◌, Option, Some, None, if◌then◌else◌}
 use Rattle.study_material.specs.declared.class.Class.{Class}
 use Rattle.study_material.specs.Needs.{needs_of}
@@ -6,7 +6,7 @@ use Rattle.study_table.specs.declared.table_set.AddFault.{AddFault}
 use Rattle.study_table.specs.declared.table_set.AddFault.TheVariants.{AlreadyHeld, MissingTable}
 use Rattle.study_table.specs.Table.{Table, table_of}
 
--- the first of these classes whose table is not held
+-- the first of these classes whose table is not loaded
 abbrev pub first_missing : List (Option Table) → List Class → Option Class
 first_missing held [] = None
 first_missing held (c ∷ cs) = if is_some (table_of held c) then first_missing held cs else Some c

@@ -1,7 +1,7 @@
 //! Values, tables and sets of tables, and when a table is right.
 //!
-//! A table has a byte for each number of its class. `Table::at` reads the game's value off a right table, whoever made it: the
-//! builder (`study_retro`), a file, or a source of pages. A `TableSet` holds with each table those that its class needs.
+//! A table has a byte for each number of its class. `Table::at` reads the game's value from a right table, whether it comes from the builder (`study_retro`),
+//! a file, or a source of pages. A `TableSet` has, with each table, the tables that its class needs.
 #![tactic(auto)]
 
 mod table;

@@ -15,7 +15,7 @@ use study_index::index;
 use study_material::Class;
 use study_values::{Value, value_at};
 
-/// The values of the positions of a class: a byte, a cell, for each number of the class.
+/// The values of the positions of a class: one byte, a cell, for each number of the class.
 #[derive(Drop)]
 pub struct Table<'a, A: Allocator> {
     class: Class,
@@ -33,7 +33,7 @@ impl<'a, A: Allocator> Model for Table<'a, A> {
 }
 
 impl<'a, A: Allocator> Table<'a, A> {
-    /// The table with these cells, whatever they say.
+    /// The table with these cells, whatever they encode.
     pub fn from_cells(class: Class, cells: Vec<u8, &'a A>) -> Self
         requires { vec_len cells ≡ cells_of class }
         ensures { result ≡ record { class = class; cells = cells.entry.items } }
@@ -49,8 +49,8 @@ impl<'a, A: Allocator> Table<'a, A> {
         self.class
     }
 
-    /// The cells in the order of their numbers. A cell is 0 for a draw or a number without a position, else one more than
-    /// the distance to mate in plies: an odd distance is a win of the side to move, an even one a loss.
+    /// The cells in the order of their numbers. A cell is 0 for a draw or a number without a position, otherwise the distance to mate in plies plus one: an
+    /// odd distance is a win of the side to move, an even one a loss.
     pub fn cells(&self) -> &[u8]
         ensures value { result.now ≡ self.now.cells }
         ensures size { length result.now ≡ cells_of self.now.class }
@@ -58,7 +58,7 @@ impl<'a, A: Allocator> Table<'a, A> {
         self.cells.as_slice()
     }
 
-    /// The table's value of a position of its class, a passed square included.
+    /// The table's value of a position of its class, which may have a passed square.
     pub fn at(&self, p: &Position) -> Value
         requires { IsOf self.now.class p.now }
         ensures told { result ≡ value_of (slice_index self.now.cells (index_of p.now)) }

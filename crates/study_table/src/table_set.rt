@@ -22,14 +22,14 @@ pub enum AddFault {
     MissingTable(Class),
 }
 
-/// A table that was not added, and why.
+/// A table that was not added, and the reason.
 #[derive(Drop)]
 pub struct AddRefused<'a, A: Allocator> {
     pub fault: AddFault,
     pub table: Table<'a, A>,
 }
 
-/// At most one table of each class; with each table those of all classes that its class needs.
+/// At most one table of each class; with each table the tables of all classes that its class needs.
 #[derive(Drop)]
 pub struct TableSet<'a, A: Allocator> {
     tables: Vec<Option<Table<'a, A>>, &'a A>,
@@ -58,7 +58,7 @@ impl<'a, A: Allocator> TableSet<'a, A> {
         Ok(TableSet { tables })
     }
 
-    /// The table of a class, if it is held.
+    /// The table of a class, if it is loaded.
     pub fn table(&self, class: Class) -> Option<&Table<'a, A>>
         ensures value { option_copied result ≡ table_of self.now class }
         ensures closed { IsClosed self.now }
@@ -66,14 +66,14 @@ impl<'a, A: Allocator> TableSet<'a, A> {
         self.tables[class.number() as usize].as_ref()
     }
 
-    /// Whether the table of a class is held.
+    /// Whether the table of a class is loaded.
     pub fn has(&self, class: Class) -> bool
         ensures { IsTrue result ↔ IsSome (table_of self.now class) }
     {
         self.table(class).is_some()
     }
 
-    /// The first class that the class needs and whose table is not held.
+    /// The first class that the class needs and whose table is not loaded.
     pub fn first_missing(&self, class: Class) -> Option<Class>
         ensures { result ≡ first_missing self.now (needs_of class) }
     {
@@ -86,14 +86,14 @@ impl<'a, A: Allocator> TableSet<'a, A> {
         None
     }
 
-    /// Whether all tables that the class needs are held.
+    /// Whether all tables that the class needs are loaded.
     pub fn ready(&self, class: Class) -> bool
         ensures { IsTrue result ↔ IsReady self.now class }
     {
         self.first_missing(class).is_none()
     }
 
-    /// Adds a table whose class is not held and whose needs are; any other is handed back.
+    /// Adds a table whose class is not loaded and whose needs are; any other table is returned with the reason.
     pub fn add(&mut self, table: Table<'a, A>) -> Result<(), AddRefused<'a, A>>
         ensures fault { MatchOption (add_fault self.old table.entry.class) (IsOk result) (λ fault. IsErrAnd result (λ e. e.fault ≡ fault)) }
         ensures added { OnOk result (self.new ≡ slice_set self.old (class_number table.entry.class) (Some table.entry)) }

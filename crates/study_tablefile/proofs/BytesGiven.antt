@@ -1,4 +1,4 @@
--- What a reader that knows its bytes has given.
+-- The bytes that a reader with known bytes has returned.
 use Rattle.std.proofs.Common.{◌≡◌, ℕ, suc, ◌+◌, ◌<◌, Bool, true, false, ◌&&◌, nat_lt, List, [], ◌∷◌, ◌++◌, length}
 use Rattle.std.proofs.Common.{take, drop, find, slice_index_or, slice_set, Option, Some, None, Result, Err, IfErr}
 use Rattle.std.proofs.Common.{if◌then◌else◌, refl, sym, ap, subst, ◌∙◌, arith, length-append, length-drop}
@@ -23,7 +23,7 @@ pub find_later : {X : Type 0} (test : X → Bool) (xs : List X) (i : ℕ) (d : X
     → test (slice_index_or xs i d) ≡ false → find test (drop i xs) ≡ find test (drop (i + 1) xs)
 find_later test xs i d h e = ap (find test) (drop_more xs i d h) ∙ rw e refl
 
--- what is found passes its test
+-- a class that is found passes the test
 found_known : (known test : Class → Bool) (c : Class) (xs : List Class) → find (λ d. known d && test d) xs ≡ Some c → known c ≡ true
 found_known known test c [] h = cc
 found_known known test c (x ∷ xs) h = by_tests (known x) (test x) refl h (λ r. found_known known test c xs r)
@@ -58,7 +58,7 @@ left_kept None b bytes h e = cc
 left_kept (Some xs) None bytes h e = absurd h
 left_kept (Some xs) (Some ys) bytes h e = ap (λ (l : List ℕ). Some l) h ∙ e
 
--- at the end of known bytes none is left
+-- at the end of known bytes no byte is left
 pub left_none : (a b : Option (List ℕ)) (front bytes : List ℕ) → Consumes a b front → IsAtEnd b → a ≡ Some bytes → b ≡ Some []
 left_none None b front bytes h none e = cc
 left_none (Some xs) None front bytes h none e = absurd h
@@ -71,7 +71,6 @@ short_bytes (Some xs) bytes n h e = let same : xs ≡ bytes = cc in subst (λ (l
 pub long_enough : (front rest : List ℕ) (n : ℕ) → length front ≡ n → nat_lt (length (front ++ rest)) n ≡ false
 long_enough front rest n e = le-ltb (length (front ++ rest)) n (omega (arith, length-append front rest, e))
 
--- one byte is given: the first of what is left
 -- ---- pages
 
 pub page_told : (fields page rest : List ℕ) (n : ℕ) → length page ≡ 4128
@@ -135,7 +134,7 @@ header_known a b header bytes size h e =
     let enough : nat_lt (length bytes) 64 ≡ false = ap (λ (l : List ℕ). nat_lt (length l) 64) whole ∙ long_enough header rest 64 size in
     (rest, next, rw enough (rw front (rw after refl)), front)
 
--- ---- under an answer
+-- ---- under a result
 
 pub IfErr-given : {A E : Type 0} (r : Result A E) (e : E) (P : E → Type 0) → r ≡ Err e → P e → IfErr r P
 IfErr-given r e P h p = rw h p

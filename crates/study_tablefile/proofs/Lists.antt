@@ -11,7 +11,7 @@ padded_front xs h = rw (take_all 4096 xs h) (ap (λ (l : List ℕ). xs ++ l) (dr
 pub field_filled : (xs : List ℕ) → length xs ≤ 8 → drop {A = ℕ} (length xs) (replicate 8 0) ≡ replicate (8 - length xs) 0
 field_filled xs h = drop-replicate {X = ℕ} (length xs) 8 0
 
--- a page is filled with the next 4096 cells, or with those that are left
+-- a page is filled with the next 4096 cells, or with the remaining ones
 pub next_page : (xs : List ℕ) (m : ℕ) → m ≡ min (length xs) 4096 → page_cells_of (take m xs) ≡ page_cells_of xs
 unfolding page_cells_of
 next_page xs m e = elim (cases_lt 4096 (length xs)) [

@@ -1,4 +1,4 @@
--- What is written is read again.
+-- Written tables are read back.
 use Rattle.std.proofs.Common.{◌≡◌, ℕ, zero, suc, ◌+◌, ◌-◌, ◌*◌, ◌<◌, ◌≤◌, ◌==◌, ◌⊎◌, inl, inr, min, true}
 use Rattle.std.proofs.Common.{subst, List, [], ◌∷◌, ◌++◌, length, take, drop, replicate, Option, Some}
 use Rattle.std.proofs.Common.{None, Result, Ok, Err, OnOk, refl, sym, ap, ◌∙◌, arith, append_assoc, append-nil}
@@ -378,7 +378,7 @@ whole_again t v n complete =
     (same_bytes _ _
     (ap (λ (j : ℕ). replicate {A = ℕ} j 0) (sym (length-replicate {A = ℕ} (4096 - length cells) 0))))))
 
--- the bytes that were read are the answer to the question for a page
+-- the bytes that were read are the answer to the request for a page
 pub page_answered : (text : List ℕ) (start n : ℕ) (bytes old : List ℕ) (fails : Option ℕ)
     (r : Result (Unit {0}) SourceFault) → start ≡ 64 + 4128 * n → length old ≡ 4128
     → OnOk r (bytes ≡ take (length old) (drop start text)) → OnOk r (start + length old ≤ length text) → OnOk r (IsAnswerOf text fails (of_page n) (Ok bytes))

@@ -1,4 +1,4 @@
--- What is left of a file's bytes when a fault is reported.
+-- The rest of a file's bytes when a fault is reported.
 use Rattle.std.proofs.Common.{◌≡◌, ℕ, ◌+◌, ◌*◌, ◌≤◌, List, length, drop, Option, Some, refl, sym, ap, ◌∙◌, arith}
 use Rattle.std.specs.Io.KnownBytes.{Consumes, Keeps, IsAtEnd}
 use Rattle.std.proofs.lemmas.List.{drop_all, drop-drop}
@@ -35,12 +35,12 @@ damaged_at a b page bytes n pages size read e =
     let same : 64 + 4128 * n + 4128 ≡ 64 + 4128 * (n + 1) = omega arith in
     (64 + 4128 * (n + 1), refl, left_after a b page bytes (64 + 4128 * n) 4128 size read e ∙ ap (λ (m : ℕ). Some (drop m bytes)) same)
 
--- a byte is read where the file is to end
+-- a byte is read after the end of the file's text
 pub trailing_at : (a b : Option (List ℕ)) (next bytes : List ℕ) (pages : ℕ) → length next ≡ 1 → Consumes a b next
     → a ≡ Some (drop (64 + 4128 * pages) bytes) → IsToldAt bytes pages b TrailingBytes
 trailing_at a b next bytes pages size read e =
     (64 + 4128 * pages + 1, refl, left_after a b next bytes (64 + 4128 * pages) 1 size read e)
 
--- a device fails where the file is to end
+-- a device fails at the end of the file's text
 pub end_failed_at : (a b : Option (List ℕ)) (bytes : List ℕ) (pages : ℕ) → Keeps a b → a ≡ Some (drop (64 + 4128 * pages) bytes) → IsToldAt bytes pages b Device
 end_failed_at a b bytes pages kept e = (64 + 4128 * pages, omega arith, left_kept a b (drop (64 + 4128 * pages) bytes) kept e)

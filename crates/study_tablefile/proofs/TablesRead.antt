@@ -1,4 +1,4 @@
--- What is read as a table is the text of that table.
+-- Bytes that are read as a table are the text of that table.
 use Rattle.std.proofs.Common.{◌≡◌, ℕ, zero, suc, ◌+◌, ◌-◌, ◌*◌, ◌≤◌, ◌<◌, Bool, true, false, not, ◌&&◌, ◌==◌}
 use Rattle.std.proofs.Common.{nat_lt, List, [], ◌∷◌, ◌++◌, length, take, drop, replicate, codes, Option, Some}
 use Rattle.std.proofs.Common.{None, Result, Ok, Err, if◌then◌else◌, refl, sym, ap, ◌∙◌, arith, append_assoc}
@@ -26,12 +26,12 @@ use Rattle.study_tablefile.proofs.ReadAgain.{cells_length, padded_cells}
 
 -- ---- tests on the way to an answer
 
--- a fault that does not come
+-- a fault that does not occur
 passed : {A E : Type 0} (b : Bool) (e : E) (r : Result A E) (x : A) → (if b then Err e else r) ≡ Ok x → (b ≡ false) × (r ≡ Ok x)
 passed true e r x h = cc
 passed false e r x h = (refl, h)
 
--- a fault that comes where a test fails
+-- a fault that occurs if a test fails
 admitted : {A E : Type 0} (b : Bool) (e : E) (r : Result A E) (x : A) → (if not b then Err e else r) ≡ Ok x → (b ≡ true) × (r ≡ Ok x)
 admitted true e r x h = (refl, h)
 admitted false e r x h = cc
@@ -70,7 +70,7 @@ checked_is v header (Some d) c h =
       (bytes_eq-Decides (take 32 (drop 32 header)) (sha256 (fields_text d v))).0 both.1 ∙ ap (λ (x : Class). sha256 (fields_text x v)) same,
     )
 
--- a class that is read is one of the version that is read
+-- a class that is read is one of the classes of the version
 pub known_is : (header : List ℕ) (c : Class) → class_read header ≡ Ok c → IsVersionOf c (version_of header)
 unfolding class_read
 known_is header c h =
@@ -188,7 +188,7 @@ pages_padded fields n (suc k) cells hold full =
 
 -- ---- a table
 
--- what is known of bytes that read as a table
+-- the properties of bytes that are read as a table
 pub record Text (bytes : List ℕ) (t : Table) : Type 0 where
   pub version : ℕ
   pub is_version : IsVersionOf t.class version

@@ -12,14 +12,14 @@ use Rattle.study_values.specs.Size.{pages_of}
 unfoldable pub class_field : Class → List ℕ
 class_field c = name_of c ++ replicate (8 - length (name_of c)) 0
 
--- the version that is written, and whether a version is read
+-- the version that is written, and whether a version can be read
 abbrev pub written_version : ℕ
 written_version = 2
 
 abbrev pub is_version : ℕ → Bool
 is_version v = (v == 1) || (v == 2)
 
--- whether files of a version that is read can be of the class: in version 1 no pawn stood against a pawn
+-- whether files of a readable version can be of the class: version 1 has no class with a pawn on both sides
 abbrev pub is_known_version : ℕ → Class → Bool
 is_known_version v c = not (v == 1) || not (has_both_pawns (lists_of c))
 
@@ -47,11 +47,11 @@ page_digest fields n cells = sha256 (fields ++ little_bytes 4 n ++ cells)
 unfoldable pub page_text : List ℕ → ℕ → List ℕ → List ℕ
 page_text fields n cells = cells ++ page_digest fields n cells
 
--- so many pages from page n on, over the cells from there on
+-- so many pages from page n on, for the cells from there on
 abbrev pub pages_text : List ℕ → ℕ → ℕ → List ℕ → List ℕ
 pages_text fields n zero cells = []
 pages_text fields n (suc k) cells = page_text fields n (page_cells_of cells) ++ pages_text fields (n + 1) k (drop 4096 cells)
 
--- the text of a table in a version: a header, and then all pages
+-- the text of a table in a version: a header, then all pages
 unfoldable pub table_text : Table → ℕ → List ℕ
 table_text t v = header_text t.class v ++ pages_text (fields_text t.class v) 0 (pages_of t.class) t.cells

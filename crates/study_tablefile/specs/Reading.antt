@@ -1,4 +1,4 @@
--- How bytes read as a table: from front to back, up to the first fault.
+-- Reading bytes as a table: from front to back, up to the first fault.
 use Rattle.std.specs.Prelude.{◌≡◌, ℕ, zero, suc, ◌+◌, ◌*◌, ◌<◌, ◌≤◌, ◌==◌, nat_lt, not, ◌&&◌, List, [], ◌++◌, length, take, drop}
 use Rattle.std.specs.Prelude.{replicate, codes, find, Option, Some, None, Result, Ok, Err, if◌then◌else◌, ⊤}
 use Rattle.std.specs.Str.{bytes_eq}
@@ -15,11 +15,11 @@ use Rattle.study_values.specs.declared.fault.FileFault.TheVariants.{TrailingByte
 use Rattle.study_tablefile.specs.File.{class_field, is_version, is_known_version, fields_text, page_digest}
 use Rattle.study_values.specs.Size.{pages_of}
 
--- the class of files of the version that is written in 8 bytes, if there is one
+-- the class whose name is in the 8 bytes, among the classes of files of the version
 unfoldable pub class_named : ℕ → List ℕ → Option Class
 class_named v field = find (λ c. is_known_version v c && bytes_eq field (class_field c)) class_list
 
--- the header against that of its class: the fields, and their digest
+-- the header compared with that of its class: the fields, and their digest
 abbrev pub class_checked : ℕ → List ℕ → Option Class → Result Class FileFault
 class_checked v header None = Err ClassUnknown
 class_checked v header (Some c) =
@@ -29,28 +29,28 @@ class_checked v header (Some c) =
 abbrev pub version_of : List ℕ → ℕ
 version_of header = little_number 2 (drop 8 header)
 
--- the class of a header: its mark, its version, its class, and all that follows from these
+-- the class of a header, or the first fault: of its mark, its version, its class, and the rest, which follows from these
 unfoldable pub class_read : List ℕ → Result Class FileFault
 class_read header =
     if not (bytes_eq (take 8 header) (codes "STUDYDTM")) then Err NotATable
     else if not (is_version (version_of header)) then Err (Version (version_of header))
     else class_checked (version_of header) header (class_named (version_of header) (take 8 (drop 16 header)))
 
--- what is wrong with the page that begins the bytes
+-- the fault of the page at the start of the bytes
 unfoldable pub page_fault : List ℕ → ℕ → List ℕ → Option FileFault
 page_fault fields n bytes =
     if nat_lt (length bytes) 4128 then Some Cut
     else if bytes_eq (take 32 (drop 4096 bytes)) (page_digest fields n (take 4096 bytes)) then None
     else Some (PageDamaged n)
 
--- after the last page: the cells, and what is left of the bytes
+-- after the last page: the cells, and the rest of the bytes
 unfoldable pub table_end : Class → List ℕ → List ℕ → Result Table FileFault
 table_end c cells rest =
     if not (bytes_eq (drop (cells_of c) cells) (replicate (length (drop (cells_of c) cells)) 0)) then Err Padding
     else if not (length rest == 0) then Err TrailingBytes
     else Ok (record { class = c; cells = take (cells_of c) cells })
 
--- the fault, or else the answer
+-- the fault if there is one, otherwise the answer
 abbrev pub unless : Option FileFault → Result Table FileFault → Result Table FileFault
 unless (Some fault) answer = Err fault
 unless None answer = answer
@@ -66,11 +66,11 @@ abbrev pub table_behind : ℕ → Result Class FileFault → List ℕ → Result
 table_behind v (Err fault) bytes = Err fault
 table_behind v (Ok c) bytes = pages_read c v 0 (pages_of c) [] bytes
 
--- the table that the bytes are the text of, or the first fault
+-- the table whose text the bytes are, or the first fault
 unfoldable pub table_read : List ℕ → Result Table FileFault
 table_read bytes = if nat_lt (length bytes) 64 then Err Cut else table_behind (version_of (take 64 bytes)) (class_read (take 64 bytes)) (drop 64 bytes)
 
--- fewer bytes than these are left, where that is known
+-- fewer bytes than these are left, if that is known
 abbrev pub IsShort : Option (List ℕ) → ℕ → Type 0
 IsShort None n = ⊤
 IsShort (Some bytes) n = length bytes < n
@@ -79,13 +79,13 @@ IsShort (Some bytes) n = length bytes < n
 abbrev pub HasHeader : List ℕ → Type 0
 HasHeader bytes = (c : Class) × (class_read (take 64 bytes) ≡ Ok c)
 
--- how many pages follow a header, by the class that it is of
+-- the number of pages after a header, by its class
 abbrev pub pages_after : Result Class FileFault → ℕ
 pages_after (Err fault) = 0
 pages_after (Ok c) = pages_of c
 
--- so many bytes of a file of so many pages are read when a fault is reported: a file that is cut off is read to its end, any other up to
--- the end of the part that is wrong; a device fails within the header and the pages, or where they end
+-- n bytes of a file of so many pages have been read when a fault is reported: a file that is cut off is read to its end, any other up to the end of the
+-- faulty part; a device fails within the header and the pages, or at their end
 abbrev pub IsReadBefore : List ℕ → ℕ → FileFault → ℕ → Type 0
 IsReadBefore bytes pages Cut n = length bytes ≤ n
 IsReadBefore bytes pages NotATable n = n ≡ 64
@@ -98,6 +98,6 @@ IsReadBefore bytes pages Padding n = n ≡ 64 + 4128 * pages
 IsReadBefore bytes pages TrailingBytes n = n ≡ 64 + 4128 * pages + 1
 IsReadBefore bytes pages Device n = n ≤ 64 + 4128 * pages
 
--- what is left of the bytes of a file of so many pages when a fault is reported
+-- the bytes of a file of so many pages that are left when a fault is reported
 abbrev pub IsToldAt : List ℕ → ℕ → Option (List ℕ) → FileFault → Type 0
 IsToldAt bytes pages left fault = (n : ℕ) × IsReadBefore bytes pages fault n × (left ≡ Some (drop n bytes))

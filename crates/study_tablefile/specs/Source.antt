@@ -1,4 +1,4 @@
--- Pages of a table's file, one by one, and what gives them.
+-- Pages of a table's file, one by one, and their sources.
 use Rattle.std.specs.Prelude.{◌≡◌, ℕ, ◌+◌, ◌-◌, ◌*◌, ◌<◌, ◌≤◌, min, Bool, true, ◌&&◌, List}
 use Rattle.std.specs.Prelude.{length, take, drop, replicate, Option, is_some, Result, Ok, Err}
 use Rattle.std.specs.Str.{bytes_eq}
@@ -21,12 +21,12 @@ is_whole_page fields cells n page =
 abbrev pub page_of : Table → ℕ → ℕ → List ℕ
 page_of t v n = page_text (fields_text t.class v) n (page_cells_of (drop (4096 * n) t.cells))
 
--- what a source of pages is asked for: the header of a file, or a page
+-- a request to a source of pages: the header of a file, or a page
 pub data Question : Type 0 where
   of_header : Question
   of_page : (n : ℕ) → Question
 
--- where the bytes begin that are asked for, and how many they are
+-- the place of the first requested byte, and the number of requested bytes
 abbrev pub begins_at : Question → ℕ
 begins_at of_header = 0
 begins_at (of_page n) = 64 + 4128 * n
@@ -35,7 +35,7 @@ abbrev pub asks_for : Question → ℕ
 asks_for of_header = 64
 asks_for (of_page n) = 4128
 
--- what a source over a text in memory may answer: these bytes of the text, `Short` where it has too few, and `Device` where it is to fail once
+-- the possible answers of a source over a text in memory: these bytes of the text, `Short` if it has too few, and `Device` if it is to fail once
 abbrev pub IsAnswerOf : List ℕ → Option ℕ → Question → Result (List ℕ) SourceFault → Type 0
 IsAnswerOf text fails q (Ok bytes) = (begins_at q + asks_for q ≤ length text) × (bytes ≡ take (asks_for q) (drop (begins_at q) text))
 IsAnswerOf text fails q (Err Short) = length text < begins_at q + asks_for q

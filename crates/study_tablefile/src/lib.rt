@@ -1,9 +1,8 @@
-//! Files of tables: their text, which `write_table` writes and `read_table` reads, and sources of its pages.
+//! Files of tables: their text, which `write_table` writes and `read_table` reads, and sources of their pages.
 //!
-//! A table is kept as one text of bytes, `table_text`. `write_table` writes exactly it, or a prefix of it. `read_table`
-//! answers what the bytes read as, from front to back: a table, or the first fault. `tables_are_read_again` proves that
-//! the text of a table reads as that table, and `only_texts_are_read` that nothing else reads as a table. `PageSource`
-//! gives a file page by page; `MemorySource` is one in memory, which fails where a test wants it.
+//! A table has one text in bytes, `table_text`. `write_table` writes exactly this text, or a prefix of it. `read_table` reads bytes from front to back and
+//! returns a table, or the first fault. `tables_are_read_again` proves that the text of a table is read as that table, and `only_texts_are_read` that nothing
+//! else is read as a table. `PageSource` returns a file page by page; `MemorySource` is a source in memory, which fails at a request that a test sets.
 #![tactic(auto)]
 
 mod laws;

@@ -11,13 +11,13 @@ ghost use Rattle.study_table.specs.Table.{Table as Seen};
 use crate::source::PageSource;
 use study_values::{HEADER_BYTES, PAGE_BYTES, SourceFault};
 
-/// The pages of a text in memory, which fail where a test wants it.
+/// The pages of a text in memory, which fail at a request that a test sets.
 #[derive(Drop)]
 pub struct MemorySource<'a> {
     pub text: &'a [u8],
-    /// How many headers and pages were requested.
+    /// The number of headers and pages requested.
     pub asked: u64,
-    /// Which of the questions fails, counted from 0.
+    /// The number of the failing request, counted from 0; `None`: none fails.
     pub fails_at: Option<u64>,
     pub failures: u64,
 }
@@ -53,7 +53,7 @@ impl<'a> MemorySource<'a> {
     }
 }
 
-/// Where a page of a file begins.
+/// The place of the first byte of a page in a file.
 fn page_start(n: u32) -> usize
     ensures { result ≡ 64 + 4128 * n }
 {

@@ -19,7 +19,7 @@ use study_material::Class;
 use study_table::Table;
 use study_values::{FileFault, HEADER_BYTES, PAGE_BYTES, PAGE_CELLS, cells, pages};
 
-/// Fills a buffer from a reader; each of its errors is `Device`.
+/// Fills a buffer from a reader; each of the reader's errors becomes `Device`.
 fn read_exactly<R: Read>(input: &mut R, buf: &mut [u8]) -> Result<(), FileFault>
     ensures len { length buf.new ≡ length buf.old }
     ensures ok { OnOk result (Consumes (R.remaining input.old) (R.remaining input.new) buf.new) }
@@ -38,7 +38,7 @@ fn read_exactly<R: Read>(input: &mut R, buf: &mut [u8]) -> Result<(), FileFault>
     Ok(())
 }
 
-/// Whether files of a version can be of the class.
+/// Whether files of a version can have the class.
 fn is_known_version(version: u16, class: Class) -> bool
     ensures { result ≡ is_known_version version class }
 {
@@ -48,7 +48,7 @@ fn is_known_version(version: u16, class: Class) -> bool
     }
 }
 
-/// Whether files of the version can be of the class, and this is its name in the field of a header.
+/// Whether files of the version can have the class, and the field of the header is its name.
 fn is_class_field(version: u16, field: &[u8], class: Class) -> bool
     ensures { result ≡ (is_known_version version class && bytes_eq field.now (class_field class)) }
 {
@@ -56,7 +56,7 @@ fn is_class_field(version: u16, field: &[u8], class: Class) -> bool
     is_known_version(version, class) && field == name.as_slice()
 }
 
-/// The class that is written in the field of a header.
+/// The class whose name is in the field of the header.
 #[tactic(auto, unfolding(crate::specs::Reading::class_named))]
 fn class_of_field(version: u16, field: &[u8]) -> Option<Class>
     ensures { result ≡ class_named version field.now }
@@ -198,7 +198,7 @@ pub fn is_padding(bytes: &[u8]) -> bool
     bytes == front
 }
 
-/// Whether nothing is left to read.
+/// Succeeds if nothing is left to read.
 fn at_end<R: Read>(input: &mut R) -> Result<(), FileFault>
     ensures ok { (bytes : List ℕ) → R.remaining input.old ≡ Some bytes → OnOk result (length bytes ≡ 0) }
     ensures fault { (bytes : List ℕ) → R.remaining input.old ≡ Some bytes → IfErr result (λ e. (e ≡ Device) ⊎ ((e ≡ TrailingBytes) × (0 < length bytes))) }
@@ -214,7 +214,7 @@ fn at_end<R: Read>(input: &mut R) -> Result<(), FileFault>
     }
 }
 
-/// The table of the cells of all pages, where the last page is filled with zero bytes and nothing is left to read.
+/// The table of the cells of all pages, if the rest of the last page is zero bytes and nothing is left to read.
 #[tactic(auto, unfolding(crate::specs::Reading::table_end))]
 fn finish<'a, A: Allocator, R: Read>(
     input: &mut R,
@@ -239,7 +239,7 @@ fn finish<'a, A: Allocator, R: Read>(
     Ok(Table::from_cells(class, all))
 }
 
-/// Reads a table from its file, and answers the first fault, going from front to back.
+/// Reads a table from its file, or returns the first fault, from front to back.
 #[tactic(auto, unfolding(crate::specs::Reading::table_read))]
 pub fn read_table<'a, A: Allocator, R: Read>(
     alloc: &'a A,
@@ -250,7 +250,7 @@ pub fn read_table<'a, A: Allocator, R: Read>(
     ensures fault { (bytes : List ℕ) → R.remaining input.old ≡ Some bytes
         → IfErr result (λ e. (e ≡ Device) ⊎ ((e ≡ OutOfMemory) × HasHeader bytes) ⊎ (table_read bytes ≡ Err e)) }
 
-    // A table is read to the end of its file, and no byte is read after the part that is wrong.
+    // A table is read to the end of its file, and no byte is read after the faulty part.
     ensures ends { (bytes : List ℕ) → R.remaining input.old ≡ Some bytes → OnOk result (R.remaining input.new ≡ Some []) }
     ensures stops { (bytes : List ℕ) → R.remaining input.old ≡ Some bytes
         → IfErr result (IsToldAt bytes (pages_after (class_read (take 64 bytes))) (R.remaining input.new)) }

@@ -14,19 +14,19 @@ use crate::text::{FIELDS_BYTES, fields};
 use study_material::Class;
 use study_values::{FileFault, HEADER_BYTES, PAGE_BYTES, PAGE_CELLS, SourceFault, cells};
 
-/// What the header of a table file says.
+/// The contents of the header of a table file.
 #[derive(Clone, Copy, Debug, PartialEq, Eq)]
 pub struct Header {
     pub class: Class,
     /// The version of the file.
     pub version: u16,
-    /// How many cells the class has.
+    /// The number of cells of the class.
     pub cells: u32,
     /// The first 32 bytes of the file, which each page's digest covers.
     pub fields: [u8; FIELDS_BYTES],
 }
 
-/// The header that the bytes are, or its first fault.
+/// The header in the bytes, or its first fault.
 pub fn read_header(bytes: &[u8; HEADER_BYTES]) -> Result<Header, FileFault>
     ensures class { IfOk result (λ h. class_read bytes.now ≡ Ok h.class) }
     ensures version { IfOk result (λ h. h.version ≡ version_of bytes.now) }
@@ -57,21 +57,20 @@ pub fn page_cells(header: &Header, number: u32, page: &[u8; PAGE_BYTES]) -> bool
     has_page_digest(&header.fields, number, page) && is_padding(behind)
 }
 
-/// Where the pages of a table come from.
+/// A source of the pages of a table.
 pub trait PageSource: Drop {
-    /// Each answer, now and after any calls, gives the bytes of the file of this table in this version.
+    /// Each answer, in this call and all later ones, is bytes of the file of this table in this version.
     ghost honest: { Self → Seen → ℕ → Type 0 };
 
-    /// What it may answer to a request, now and after any calls: bytes, or its fault. A source that does not say its
-    /// bytes may answer anything.
+    /// The possible answers to a request, in this call and all later ones: bytes, or a fault. A source that does not specify its bytes may return anything.
     ghost gives: { Self → Question → Result (List ℕ) ASourceFault → Type 0 };
 
     ghost failed: { Self → ℕ };
 
-    /// How many headers and pages were requested, whatever it answered. The count stays at the last value of its type.
+    /// The number of headers and pages requested, whatever the answers. The count stays at the last value of its type.
     ghost asked: { Self → ℕ };
 
-    /// The header of the file.
+    /// Reads the header of the file.
     fn header(&mut self, into: &mut [u8; HEADER_BYTES]) -> Result<(), SourceFault>
         ensures ok { (t : Seen) (v : ℕ) → honest self.old t v → OnOk result (into.new ≡ header_text t.class v) }
         ensures given { OnOk result (gives self.old of_header (Ok into.new)) }
@@ -84,7 +83,7 @@ pub trait PageSource: Drop {
         ensures no_failure { OnOk result (failed self.new ≡ failed self.old) }
         ensures failure { OnErr result (failed self.new ≡ counted (failed self.old)) };
 
-    /// A page of the file, counted from 0.
+    /// Reads a page of the file, counted from 0.
     fn page(&mut self, n: u32, into: &mut [u8; PAGE_BYTES]) -> Result<(), SourceFault>
         ensures ok { (t : Seen) (v : ℕ) → honest self.old t v → n < pages_of t.class → OnOk result (into.new ≡ page_of t v n) }
         ensures given { OnOk result (gives self.old (of_page n) (Ok into.new)) }
@@ -97,7 +96,7 @@ pub trait PageSource: Drop {
         ensures no_failure { OnOk result (failed self.new ≡ failed self.old) }
         ensures failure { OnErr result (failed self.new ≡ counted (failed self.old)) };
 
-    /// How often it failed. The count stays at the last value of its type.
+    /// The number of failures. The count stays at the last value of its type.
     fn failures(&self) -> u64
         ensures { result ≡ failed self.now };
 }

@@ -1,4 +1,4 @@
-//! The text of a table file, and the tables that are written as one.
+//! The text of a table file, and writing a table as its text.
 ghost use Rattle.std.specs.Prelude.{◌≡◌, ◌≤◌, ℕ, OnOk, OnErr, IfErr, length, ◌+◌, ◌*◌};
 ghost use Rattle.sha2.specs.Sha256.{sha256};
 ghost use Rattle.std.specs.Io.KnownBytes.{Appends};
@@ -18,10 +18,10 @@ use study_table::Table;
 use study_text::{DeviceFailed, write_text};
 use study_values::{FileFault, PAGE_CELLS, cells, file_size};
 
-/// Bytes of the fields of a header.
+/// The number of bytes in the fields of a header.
 pub const FIELDS_BYTES: usize = 32;
 
-/// Bytes of a SHA-256.
+/// The number of bytes in a SHA-256.
 pub const DIGEST_BYTES: usize = 32;
 
 /// The name of a class in 8 bytes, with zero bytes after it.
@@ -117,7 +117,7 @@ fn put_page<W: Write>(
     )
 }
 
-/// How many bytes the file of a class has.
+/// The number of bytes in the file of a class.
 #[tactic(auto, using(study_values::proofs::ClassBounds::few_cells), unfolding(study_values::specs::Size::pages_of))]
 pub fn file_bytes(class: Class) -> u32
     ensures value { result ≡ 64 + 4128 * pages_of class }
@@ -126,7 +126,7 @@ pub fn file_bytes(class: Class) -> u32
     file_size(class)
 }
 
-/// Writes a table, or stops where the writer fails or takes nothing; it took a prefix of the text then.
+/// Writes a table, or stops when the writer fails or takes nothing; the writer then has a prefix of the text.
 pub fn write_table<'a, A: Allocator, W: Write>(
     table: &Table<'a, A>,
     out: &mut W,

@@ -1,6 +1,6 @@
--- Counts that stop.
+-- Saturating counts.
 use Rattle.std.specs.Prelude.{ℕ, ◌+◌, ◌-◌, ◌^◌, min}
 
--- a count, one up; at the last value of a u64 it stays
+-- a count plus one; it stays at the last value of a u64
 abbrev pub counted : ℕ → ℕ
 counted n = min (n + 1) (2 ^ 64 - 1)

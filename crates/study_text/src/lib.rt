@@ -1,8 +1,7 @@
 //! Texts in memory, their words, and readers and writers of bytes.
 //!
-//! `Text` grows at its end. `next_word` cuts a text at its spaces. `write_text` hands a text to any writer: all of it, or the
-//! answer is a fault and the writer has a prefix. `MemoryReader` and `MemoryWriter` are devices in memory that fail where a
-//! test wants it.
+//! `Text` grows at its end. `next_word` cuts a text at its spaces. `write_text` writes a text to any writer: all of it, or a fault is reported and the writer
+//! has a prefix. `MemoryReader` and `MemoryWriter` are devices in memory that fail at a place that a test sets.
 #![tactic(auto)]
 
 mod fault;

@@ -1,4 +1,4 @@
-//! A reader and a writer in memory that go byte by byte and fail where a test wants it.
+//! A reader and a writer in memory that go byte by byte and fail at a place that a test sets.
 ghost use Rattle.std.specs.Prelude.{◌≡◌, ◌<◌, ◌↔◌, [], Some, None, Ok, Err, true, false, length};
 ghost use Rattle.std.specs.Prelude.{drop, vec_len, ◌≤◌, ◌⊎◌, IsOk, IsErr, IfOk, IfErr};
 ghost use Rattle.std.specs.Prelude.{OnOk, OnErr, MatchResult, ◌+◌, ◌-◌, ◌^◌};
@@ -12,31 +12,31 @@ use std::alloc::Allocator;
 use std::io;
 use std::io::{ErrorKind, Read, Write};
 
-/// Whether a device fails where its plan says so: each time, or once if it recovers.
+/// Whether a device fails at its planned place: every time, or once if it recovers.
 fn fails_still(recovers: bool, errors: u64) -> bool
     ensures { result ≡ fails_still recovers errors }
 {
     !recovers || errors == 0
 }
 
-/// A reader of bytes in memory that gives one byte a call.
+/// A reader of bytes in memory that returns one byte per call.
 #[derive(Drop)]
 pub struct MemoryReader<'a> {
     pub text: &'a [u8],
-    /// How many bytes it gave.
+    /// The number of bytes returned so far.
     pub given: usize,
-    /// Where it fails: reads answer an error once so many bytes were given.
+    /// The place of the failure: reads return an error after so many bytes. `None`: never.
     pub fails_after: Option<usize>,
-    /// Whether it goes on after its first error.
+    /// Whether it continues after its first error.
     pub recovers: bool,
-    /// What it answers where it fails. After `Interrupted` the calls of std that fill a buffer try again.
+    /// The kind of its errors. After `Interrupted` the calls of std that fill a buffer try again.
     pub kind: ErrorKind,
-    /// How many errors it answered. The count stays at the last value of its type.
+    /// The number of errors returned. The count stays at the last value of its type.
     pub errors: u64,
 }
 
 impl<'a> MemoryReader<'a> {
-    /// A reader that gives the whole text.
+    /// A reader that returns the whole text.
     pub fn new(text: &'a [u8]) -> Self
         ensures text { result.text.now ≡ text.now }
         ensures given { result.given ≡ 0 }
@@ -53,7 +53,7 @@ impl<'a> MemoryReader<'a> {
         }
     }
 
-    /// A reader that gives so many bytes of the text and then fails, however often it is called.
+    /// A reader that returns so many bytes of the text and then fails, however often it is called.
     pub fn failing_after(text: &'a [u8], count: usize) -> Self
         ensures text { result.text.now ≡ text.now }
         ensures given { result.given ≡ 0 }
@@ -70,7 +70,7 @@ impl<'a> MemoryReader<'a> {
         }
     }
 
-    /// A reader that gives so many bytes of the text, then fails once, and gives the rest when it is called again.
+    /// A reader that returns so many bytes of the text, then fails once, and returns the rest when it is called again.
     pub fn failing_once(text: &'a [u8], count: usize) -> Self
         ensures text { result.text.now ≡ text.now }
         ensures given { result.given ≡ 0 }
@@ -117,30 +117,30 @@ impl<'a> Read for MemoryReader<'a> {
     }
 }
 
-/// What a writer in memory does once it is full.
+/// How a writer in memory behaves once it is full.
 #[derive(Clone, Copy, Debug, PartialEq, Eq)]
 pub enum WhenFull {
     Fail,
     TakeNothing,
 }
 
-/// A writer into memory that takes one byte a call.
+/// A writer into memory that takes one byte per call.
 #[derive(Drop)]
 pub struct MemoryWriter<'a, A: Allocator> {
     pub taken: Vec<u8, &'a A>,
-    /// How many bytes it takes at most.
+    /// The largest number of bytes that it takes.
     pub room: usize,
     pub when_full: WhenFull,
-    /// Whether it goes on after it was full once.
+    /// Whether it continues after it was full once.
     pub recovers: bool,
-    /// What it answers where it fails. After `Interrupted` the calls of std that write a whole text try again.
+    /// The kind of its errors. After `Interrupted` the calls of std that write a whole text try again.
     pub kind: ErrorKind,
-    /// How often it answered an error, or took nothing of bytes that it was given. The count stays at the last value of its type.
+    /// How often it returned an error, or took none of the bytes that it was given. The count stays at the last value of its type.
     pub errors: u64,
 }
 
 impl<'a, A: Allocator> MemoryWriter<'a, A> {
-    /// A writer that takes all bytes for which there is memory.
+    /// A writer that takes all bytes as long as there is memory.
     pub fn new(alloc: &'a A) -> Self
         ensures taken { result.taken.items ≡ [] }
         ensures room { result.room ≡ 2 ^ 64 - 1 }

@@ -1,4 +1,4 @@
--- Small trees and their rows: that the definitions mean what is said.
+-- Small trees and their rows, which show that the definitions mean what the comments say.
 use Rattle.std.proofs.Common.{◌≡◌, ℕ, [], ◌∷◌, Some, None, refl}
 use Rattle.study_moves.specs.declared.moves.Move.{Move}
 use Rattle.study_tree.specs.declared.fault.TreeFault.TheVariants.{NoSuchNode, Root, AlreadyFirst}

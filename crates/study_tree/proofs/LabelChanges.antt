@@ -7,7 +7,7 @@ use Rattle.study_tree.specs.Edits.{has_node, plain, IsWithin}
 use Rattle.study_tree.specs.Changes.{Pass, changed_along, rewritten}
 use Rattle.study_tree.proofs.ShownTrees.{nodes_in-plain}
 
--- the first of a list and the others, where one is written
+-- the first elements of a list and the others, if one is written
 take-set : {X : Type 0} (xs : List X) (k : ℕ) (x : X) → k < length xs → take (suc k) (set xs k x) ≡ take k xs ++ x ∷ []
 take-set [] k x h = absurd (omega arith)
 take-set (y ∷ ys) zero x h = refl
@@ -110,7 +110,7 @@ module _ {L : Type 0} where
   beside-last [] u g = refl
   beside-last (w ∷ us) u g = ap (more w.played w.label.0 (plain w.below)) (beside-last us u g)
 
-  -- what is left to be written once the first k nodes are, where the parent's label is q and the next number n, gives the whole
+  -- the rest, to be written once the first k nodes are, if the parent's label is q and the next number n, completes the whole
   pub record IsLeft (p : Pass L) (d : ℕ) (whole : L × Forest L) (first sum : ℕ) (now : List (Twig (L × ℕ))) (k n : ℕ) (q : L) : Type 0 where
     pub label : whole.0 ≡ (rewritten p d k n q (plain (forest_of (drop k now)))).0
     pub below : whole.1 ≡ beside (plain (forest_of (take k now))) (rewritten p d k n q (plain (forest_of (drop k now)))).1

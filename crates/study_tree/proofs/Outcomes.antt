@@ -1,4 +1,4 @@
--- What follows from a clause about one way in which a call ends.
+-- Consequences of a clause about one outcome of a call.
 use Rattle.std.proofs.Common.{Option, Some, None}
 use Rattle.std.specs.Prelude.{Result, Ok, Err, IfOk, OnOk, OnErr, IfSome, IsOk}
 

@@ -1,4 +1,4 @@
--- What is read at a path, and the last place of one.
+-- The node at a path, and the last place of a path.
 use Rattle.std.proofs.Common.{◌≡◌, ℕ, ◌≤◌, ◌-◌, List, [], ◌∷◌, length, true, Option, Some, None, refl, sym, ap, ◌∙◌, arith, zero, suc}
 use Rattle.std.specs.Prelude.{slice_get, is_some, IfSome}
 use Rattle.std.proofs.lemmas.Bool.{ne_eqb}
@@ -82,7 +82,7 @@ module _ {L : Type 0} where
   twig_children (more m l b r) zero (j ∷ js) = twig_children b j js
   twig_children (more m l b r) (suc k) ks = twig_children r k ks
 
-  -- a node is where a path shows one, with as many children as it shows
+  -- there is a node exactly if a path shows one, with as many children as it shows
   pub places-shown : (t : Plain L) (steps : List ℕ) → (has_spot t steps ≡ is_some (spot_at t steps))
       × IfSome (spot_at t steps) (λ s. s.children ≡ children_at t.below steps)
   places-shown t [] = (refl, refl)

@@ -51,7 +51,7 @@ module _ {L : Type 0} where
   node_in-below (u ∷ ts) zero j js t p e = ap (λ (x : Twig L). node_in x.below j js) (sym e)
   node_in-below (u ∷ ts) (suc k) j js t p e = node_in-below ts k j js t (omega arith) e
 
-  -- the same where the path and what is below t are known by equations
+  -- the same if the path and the forest below t are known by equations
   pub node_in-step : (ts us vs : List (Twig L)) (k j : ℕ) (js ks : List ℕ) (t : Twig L) → k < length ts
       → t ≡ get_or ts k t → ks ≡ j ∷ js → vs ≡ us → forest_of us ≡ t.below
       → node_in (forest_of vs) j js ≡ node_in (forest_of ts) k ks
@@ -97,7 +97,7 @@ module _ {L : Type 0} where
   set-same_plain (v ∷ ts) (suc k) t u p e c = ap (more v.played v.label.0 (plain v.below)) (set-same_plain ts k t u (omega arith) e c)
 
 module _ {L : Type 0} where
-  -- the path goes on from ts by place k, where v is, and then by rest
+  -- the path continues from ts with place k, at which v stands, and then with rest
   pub record Step (ts : List (Twig L)) (steps : List ℕ) (k : ℕ) (rest : List ℕ) (v : Twig L) : Type 0 where
     pub path : steps ≡ k ∷ rest
     pub within : k < length ts
@@ -130,7 +130,7 @@ module _ {L : Type 0} {ts : List (Twig (L × ℕ))} {steps : List ℕ} {k : ℕ}
   pub spare_at-set : Step ts steps k rest v → (n : ℕ) (u : Twig (L × ℕ)) → spare_at n (forest_of (set ts k u)) steps ≡ spare_at u.label.1 u.below rest
   spare_at-set s n u = ap (spare_at n (forest_of (set ts k u))) s.path ∙ spare_at-put n ts k rest u s.within
 
-  -- the node at k changed below it alone
+  -- the node at k changed only below it
   pub below_edited-step : Step ts steps k rest v → (edit : Forest L → Forest L) (u : Twig (L × ℕ))
       → u.played ≡ v.played → u.label.0 ≡ v.label.0 → plain u.below ≡ below_edited edit (plain v.below) rest
       → plain (forest_of (set ts k u)) ≡ below_edited edit (plain (forest_of ts)) steps
@@ -205,7 +205,7 @@ module _ {L : Type 0} where
       → plain (forest_of (remove ts k)) ≡ place_edited dropped_at (plain (forest_of ts)) k ks
   dropped-here ts k ks z = dropped-remove ts k ∙ sym (place_edited-here dropped_at (plain (forest_of ts)) k ks z)
 
-  -- the nodes left and those of the removed one are all that were there
+  -- the remaining nodes and those of the removed one are all nodes there were
   pub nodes_in-remove : (ts : List (Twig L)) (k : ℕ) (t : Twig L) → k < length ts → t ≡ get_or ts k t
       → nodes_in (forest_of (remove ts k)) + nodes_from t ≡ nodes_in (forest_of ts)
   nodes_in-remove [] k t p e = absurd (omega arith)

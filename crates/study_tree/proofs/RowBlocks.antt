@@ -19,7 +19,7 @@ module _ {L : Type 0} where
   past-rows d none = refl
   past-rows d (more m l b r) = rw (le-ltb d d (omega arith)) refl
 
-  -- those of nodes at a greater depth are all deeper
+  -- the rows of nodes at a greater depth are all deeper
   deeper-below : (d e : ℕ) (f : Forest L) (rs : List (Row L)) → d < e → deeper d (rows_in e f ++ rs) ≡ rows_in e f ++ deeper d rs
   deeper-below d e none rs p = refl
   deeper-below d e (more m l b r) rs p =
@@ -42,7 +42,7 @@ module _ {L : Type 0} where
   pub past-split : (d : ℕ) (b r : Forest L) → past d (rows_in (suc d) b ++ rows_in d r) ≡ rows_in d r
   past-split d b r = past-below d (suc d) b (rows_in d r) (omega arith) ∙ past-rows d r
 
-  -- rows deeper than d hold no child at depth d
+  -- no rows deeper than d belong to a child at depth d
   before-below : (d e k : ℕ) (f : Forest L) (rs : List (Row L)) → d < e → before_child d k (rows_in e f ++ rs) ≡ rows_in e f ++ before_child d k rs
   before-below d e k none rs p = refl
   before-below d e zero (more m l b r) rs p =

@@ -14,7 +14,7 @@ use Rattle.study_tree.specs.Rows.{rows_with_label, rows_moved_up, sibling_before
 use Rattle.study_tree.proofs.RowBlocks.{row, cut_below, later, cut-none, cut-here, cut-down, cut-next}
 
 module _ {L : Type 0} where
-  -- an edit of the node at a path, whose first place is k, that puts another block in the place of the node's
+  -- an edit of the node at a path, whose first place is k, that puts another block in place of the node's
   record BlockEdit (edit : Forest L → ℕ → List ℕ → Forest L) (block : List (Row L) → List (Row L)) : Type 0 where
     pub missing : block [] ≡ []
     pub at_none : (k : ℕ) (ks : List ℕ) → edit none k ks ≡ none

@@ -1,4 +1,4 @@
--- What a tree shows, read off its rows.
+-- The contents of a tree's nodes, read off its rows.
 use Rattle.std.proofs.Common.{◌≡◌, ℕ, ◌<◌, ◌≤◌, List, [], ◌∷◌, ◌++◌, length, Some, None, refl, sym, ap}
 use Rattle.std.proofs.Common.{◌∙◌, arith, zero, suc, append_assoc, append-nil, subst, length-append}
 use Rattle.std.specs.Prelude.{if◌then◌else◌}

@@ -1,4 +1,4 @@
--- Each list of rows is that of a tree.
+-- Each list of rows belongs to a tree.
 use Rattle.std.proofs.Common.{◌≡◌, ℕ, ◌<◌, ◌≤◌, List, [], ◌∷◌, ◌++◌, length, Bool, true}
 use Rattle.std.proofs.Common.{false, Option, Some, None, refl, sym, ap, ◌∙◌, arith, zero}
 use Rattle.std.proofs.Common.{suc, append_assoc, append-nil, subst, length-append}
@@ -15,12 +15,12 @@ some-of None h = let no : ⊥ = cc in absurd no
 some-of (Some x) h = (x, refl)
 
 module _ {L : Type 0} where
-  -- the rows stop, or go on above depth d
+  -- the rows end, or continue above depth d
   abbrev StopsAbove : ℕ → List (Row L) → Type 0
   StopsAbove d [] = Unit {0}
   StopsAbove d (r ∷ rs) = r.depth < d
 
-  -- the rows of siblings, one deeper than e, with all below them, and then other rows
+  -- the rows of siblings, one level deeper than e, with all rows below them, and then other rows
   record Split (e : ℕ) (rs : List (Row L)) : Type 0 where
     pub siblings : Forest L
     pub rest : List (Row L)
@@ -57,7 +57,7 @@ module _ {L : Type 0} where
   above-split e r rs above a =
       record { siblings = none; rest = r ∷ rs; joined = refl; stops = above; are = λ h p. (a.0, omega (arith, p, above), a.2, a.3) }
 
-  -- the rows after a first one at depth e + 1, given how shorter lists are split
+  -- the rows after a first one at depth e + 1, given the splitting of shorter lists
   first-split : (n e : ℕ) (r : Row L) (rs : List (Row L)) (above : Bool) → nat_lt r.depth (suc e) ≡ above → length rs ≤ n → AreRowsBelow e (r ∷ rs)
       → ((d : ℕ) (qs : List (Row L)) → length qs ≤ n → AreRowsBelow d qs → Split d qs) → Split e (r ∷ rs)
   first-split n e r rs true above short a split = above-split e r rs (ltb-true r.depth (suc e) above) a

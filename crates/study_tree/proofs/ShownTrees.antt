@@ -1,4 +1,4 @@
--- What of a tree with its spare places shows in the plain tree.
+-- The plain tree of a tree with its spare places.
 use Rattle.std.proofs.Common.{◌≡◌, ℕ, ◌<◌, ◌≤◌, ◌+◌, List, [], ◌∷◌, length, Bool, true, false, IsTrue, Option, Some, None, refl, sym, ap, ◌∙◌, arith, zero, suc}
 use Rattle.std.specs.Prelude.{is_some, if◌then◌else◌, not, nat_le}
 use Rattle.std.specs.Option.{option_copied}
@@ -119,7 +119,7 @@ module _ {L : Type 0} where
   pub size_of-shown : (f : Forest (L × ℕ)) (t : Plain L) (n : ℕ) → plain f ≡ t.below → n ≡ 1 + nodes_in f → n ≡ size_of t
   size_of-shown f t n shown count = omega (arith, ap nodes_in shown, nodes_in-plain f)
 
-  -- what is read at a path of the kept tree, of the plain one
+  -- the node at a path of the kept tree, and of the plain one
   pub has-step : (us vs : List (Twig (L × ℕ))) (b : Forest L) (k : ℕ) (ks steps : List ℕ)
       (o : Option (Twig (L × ℕ))) → vs ≡ us → plain (forest_of us) ≡ b → o ≡ node_in (forest_of vs) k ks
       → steps ≡ k ∷ ks
@@ -145,13 +145,13 @@ module _ {L : Type 0} where
   size-raised f h k ks n edited count =
       omega (arith, nodes_in-plain f, nodes_in-plain h, ap nodes_in edited, nodes_in-place_edited raised_at nodes_in-raised_at (plain f) k ks)
 
-  -- a node taken out: those left, itself and those below it are all that were there
+  -- a node removed: the remaining nodes, itself and those below it are all nodes there were
   pub counted-below : (f h : Forest (L × ℕ)) (t : Twig (L × ℕ)) (us vs : List (Twig (L × ℕ))) → vs ≡ us
       → 1 + nodes_in (forest_of us) ≡ nodes_from t → nodes_in h + nodes_from t ≡ nodes_in f
       → nodes_in h + (1 + nodes_in (forest_of vs)) ≡ nodes_in f
   counted-below f h t us vs same shown count = omega (arith, ap (λ xs. nodes_in (forest_of xs)) same, shown, count)
 
-  -- what a child that is not refused tells
+  -- the consequences of a child that is not refused
   pub child_refusal-open : (t : Plain L) (steps : List ℕ) → child_refusal t steps ≡ None → (has_spot t steps ≡ true) × (length steps < 256) × (size_of t < 4096)
   child_refusal-open t steps h =
       let open_to = no-refusal (has_spot t steps) (nat_le 256 (length steps)) (nat_le 4096 (size_of t)) NoSuchNode TooDeep TreeFull h in

@@ -1,4 +1,4 @@
--- How deep the nodes of a tree are, while it is edited.
+-- The depth of the nodes of a tree while it is edited.
 use Rattle.std.proofs.Common.{◌≡◌, ℕ, ◌<◌, ◌≤◌, List, [], ◌∷◌, length, IsTrue, sym, subst, arith, zero, suc}
 use Rattle.study_moves.specs.declared.moves.Move.{Move}
 use Rattle.study_tree.specs.Forest.{Forest, none, more}
@@ -51,7 +51,7 @@ IsWithin-labelled_at x zero k (more m l b r) h = absurd h
 IsWithin-labelled_at x (suc n) zero (more m l b r) h = h
 IsWithin-labelled_at x (suc n) (suc k) (more m l b r) h = (h.0, IsWithin-labelled_at x (suc n) k r h.1)
 
--- The same over what an edit tells: the nodes were f, and are g now.
+-- The same for the result of an edit: the nodes were f before it, and are g after it.
 module _ {L : Type 0} (n : ℕ) (f g : Forest (L × ℕ)) where
   pub within-same : plain g ≡ plain f → IsWithin n (plain f) → IsWithin n (plain g)
   within-same same h = subst (IsWithin n) (sym same) h

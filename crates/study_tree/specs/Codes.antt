@@ -1,4 +1,4 @@
--- What a `Model` has to give beside its view: trees as numbers, and that a node is larger than those below it. No contract speaks of it.
+-- The parts that a `Model` must have beside its view: trees as numbers, and that a node is larger than those below it. No contract uses them.
 use Rattle.std.specs.Prelude.{◌≡◌, ℕ, ◌+◌, ◌≤◌, List, [], ◌∷◌, ◌++◌, Option, Some, None, refl}
 use Rattle.std.proofs.Common.{arith, ap, ◌∙◌, sym, append_assoc, append-nil}
 use Rattle.std.specs.Coded.{Coded, code_by, coded×, coded_ℕ, coded_list, coded_option}
@@ -9,12 +9,12 @@ use Rattle.study_tree.specs.Forest.{Forest, none, more, Twig, forest_of, nodes_i
 use Rattle.study_tree.specs.Tree.{Held, Plain}
 
 module _ {L : Type 0} where
-  -- each node has fewer below it than stand side by side
+  -- fewer nodes are below each node than in the whole forest
   pub most_le-nodes_in : (ts : List (Twig L)) → most (λ t. nodes_from t + 1) ts ≤ nodes_in (forest_of ts) + 1
   most_le-nodes_in [] = omega arith
   most_le-nodes_in (t ∷ ts) = omega (arith, most_le-nodes_in ts)
 
-  -- A forest is stored as a list: for each node its move and label, the code of what is below it and that of the later ones; `None` at an end.
+  -- A forest is encoded as a list: for each node its move and label, the code of the forest below it and that of the later siblings; `None` at an end.
   abbrev pub tokens_of : Forest L → List (Option (Move × L))
   tokens_of none = None ∷ []
   tokens_of (more m l b r) = Some (m, l) ∷ (tokens_of b ++ tokens_of r)

@@ -1,5 +1,5 @@
--- The nodes that a path leads to, and the edits of a tree there. A path is the places of children from the root,
--- counted from 0; a forest stands for what is below the path's start.
+-- The nodes that paths lead to, and the edits of a tree there. A path is the places of children from the root, counted from 0; a forest is the
+-- part of the tree below the path's start.
 use Rattle.std.specs.Prelude.{ℕ, ◌+◌, List, [], ◌∷◌, Bool, true, false, Option, Some, None, suc, zero}
 use Rattle.study_moves.specs.declared.moves.Move.{Move}
 use Rattle.study_tree.specs.Forest.{Forest, none, more, Twig}
@@ -17,14 +17,14 @@ module _ {L : Type 0} where
   has_node (more m l b r) (zero ∷ ks) = has_node b ks
   has_node (more m l b r) (suc k ∷ ks) = has_node r (k ∷ ks)
 
-  -- the node at place k, and from there along the rest of the path
+  -- the node at place k and then the rest of the path
   abbrev pub node_in : Forest L → ℕ → List ℕ → Option (Twig L)
   node_in none k ks = None
   node_in (more m l b r) zero [] = Some (record { played = m; label = l; below = b })
   node_in (more m l b r) zero (j ∷ js) = node_in b j js
   node_in (more m l b r) (suc k) ks = node_in r k ks
 
-  -- what is below the node at the path, edited
+  -- the forest below the node at the path, edited
   abbrev pub below_edited : (Forest L → Forest L) → Forest L → List ℕ → Forest L
   below_edited g f [] = g f
   below_edited g none (k ∷ ks) = none
@@ -42,7 +42,7 @@ module _ {L : Type 0} where
   with_last m l none = more m l none none
   with_last m l (more n k b r) = more n k b (with_last m l r)
 
-  -- how many stand side by side
+  -- the number of siblings
   abbrev pub width : Forest L → ℕ
   width none = 0
   width (more m l b r) = 1 + width r
@@ -51,14 +51,14 @@ module _ {L : Type 0} where
   abbrev pub add_last : Forest L → List ℕ → Move → L → Forest L
   add_last f steps m l = below_edited (with_last m l) f steps
 
-  -- how many children the node at the path has
+  -- the number of children of the node at the path
   abbrev pub children_at : Forest L → List ℕ → ℕ
   children_at f [] = width f
   children_at none (k ∷ ks) = 0
   children_at (more m l b r) (zero ∷ ks) = children_at b ks
   children_at (more m l b r) (suc k ∷ ks) = children_at r (k ∷ ks)
 
-  -- the siblings of the path's node edited, at its place: k and then along the rest
+  -- the siblings of the path's node edited, at its place: k and then the rest of the path
   abbrev pub place_edited : (ℕ → Forest L → Forest L) → Forest L → ℕ → List ℕ → Forest L
   place_edited g f k [] = g k f
   place_edited g none k (j ∷ js) = none
@@ -71,13 +71,13 @@ module _ {L : Type 0} where
   labelled_at x zero (more m l b r) = more m x b r
   labelled_at x (suc k) (more m l b r) = more m l b (labelled_at x k r)
 
-  -- no node at place k
+  -- the forest without the node at place k
   abbrev pub dropped_at : ℕ → Forest L → Forest L
   dropped_at k none = none
   dropped_at zero (more m l b r) = r
   dropped_at (suc k) (more m l b r) = more m l b (dropped_at k r)
 
-  -- a node before the first of the others
+  -- a node inserted before the first of the others
   abbrev pub second : Move → L → Forest L → Forest L → Forest L
   second m l b none = more m l b none
   second m l b (more n k d r) = more n k d (more m l b r)
@@ -94,7 +94,7 @@ abbrev pub plain : {L : Type 0} → Forest (L × ℕ) → Forest L
 plain none = none
 plain (more m p b r) = more m p.0 (plain b) (plain r)
 
--- how many children more fit below the node at the path with no memory; s is that of the path's start
+-- the number of further children that fit below the node at the path without memory; s is the number for the path's start
 abbrev pub spare_at : {L : Type 0} → ℕ → Forest (L × ℕ) → List ℕ → ℕ
 spare_at s f [] = s
 spare_at s none (k ∷ ks) = 0

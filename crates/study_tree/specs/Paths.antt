@@ -1,4 +1,4 @@
--- Paths as they are printed.
+-- Paths as text.
 use Rattle.std.specs.Prelude.{ℕ, List, [], ◌∷◌, ◌++◌, codes, decimal}
 
 -- the places after the first one, each after a point
@@ -6,7 +6,7 @@ abbrev pub more_places : List ℕ → List ℕ
 more_places [] = []
 more_places (k ∷ ks) = 46 ∷ (decimal k ++ more_places ks)
 
--- how a path is printed: without leading zeros
+-- the text of a path: without leading zeros
 unfoldable pub path_text : List ℕ → List ℕ
 path_text [] = codes "root"
 path_text (k ∷ ks) = decimal k ++ more_places ks

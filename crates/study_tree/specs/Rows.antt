@@ -4,20 +4,20 @@ use Rattle.study_moves.specs.declared.moves.Move.{Move}
 use Rattle.study_tree.specs.Forest.{Forest, none, more}
 use Rattle.study_tree.specs.Tree.{Plain, Spot}
 
--- a node's depth, the root's being 0, the move that led to it, which the root has not, and its label
+-- a node's depth, 0 for the root, the move that led to it, absent for the root, and its label
 pub record Row (L : Type 0) : Type 0 where
   pub depth : ℕ
   pub played : Option Move
   pub label : L
 
--- a list of rows cut at a block: the rows before it, the block, and those after it
+-- a list of rows cut at a block: the rows before it, the block, and the rows after it
 pub record Cut (L : Type 0) : Type 0 where
   pub before : List (Row L)
   pub block : List (Row L)
   pub after : List (Row L)
 
 module _ {L : Type 0} where
-  -- the rows of nodes that stand side by side at depth d
+  -- the rows of sibling nodes at depth d
   abbrev pub rows_in : ℕ → Forest L → List (Row L)
   rows_in d none = []
   rows_in d (more m l b r) = record { depth = d; played = Some m; label = l } ∷ (rows_in (suc d) b ++ rows_in d r)
@@ -26,7 +26,7 @@ module _ {L : Type 0} where
   abbrev pub rows : Plain L → List (Row L)
   rows t = record { depth = 0; played = None; label = t.label } ∷ rows_in 1 t.below
 
-  -- each row has a move and a depth of at least 1 and of at most one more than the row before, whose depth is d
+  -- each row has a move, and a depth of at least 1 and at most one more than the row before it, whose depth is d
   abbrev pub AreRowsBelow : ℕ → List (Row L) → Type 0
   AreRowsBelow d [] = Unit {0}
   AreRowsBelow d (r ∷ rs) = (1 ≤ r.depth) × (r.depth ≤ suc d) × (is_some r.played ≡ true) × AreRowsBelow r.depth rs
@@ -36,7 +36,7 @@ module _ {L : Type 0} where
   AreRows [] = ⊥
   AreRows (r ∷ rs) = (r.depth ≡ 0) × (r.played ≡ None) × AreRowsBelow 0 rs
 
-  -- the first rows, while they are deeper than d; and those from the first that is not
+  -- the first rows, as long as they are deeper than d; and the rows from the first that is not
   abbrev pub deeper : ℕ → List (Row L) → List (Row L)
   deeper d [] = []
   deeper d (r ∷ rs) = if nat_lt d r.depth then r ∷ deeper d rs else []
@@ -45,7 +45,7 @@ module _ {L : Type 0} where
   past d [] = []
   past d (r ∷ rs) = if nat_lt d r.depth then past d rs else r ∷ rs
 
-  -- the block of the first row: it and the rows after it up to the next one of no greater depth; and the rows from that one on
+  -- the block of the first row: the row and the rows after it up to the next one of no greater depth; and the rows from that one on
   abbrev pub first_block : List (Row L) → List (Row L)
   first_block [] = []
   first_block (r ∷ rs) = r ∷ deeper r.depth rs
@@ -54,7 +54,7 @@ module _ {L : Type 0} where
   past_block [] = []
   past_block (r ∷ rs) = past r.depth rs
 
-  -- the rows before the k-th of depth d, counted from 0; and those from it on
+  -- the rows before the k-th of depth d, counted from 0; and the rows from it on
   abbrev pub before_child : ℕ → ℕ → List (Row L) → List (Row L)
   before_child d k [] = []
   before_child d zero (r ∷ rs) = if nat_eq r.depth d then [] else r ∷ before_child d zero rs
@@ -69,7 +69,7 @@ module _ {L : Type 0} where
   abbrev pub around : List (Row L) → Cut L → List (Row L) → Cut L
   around x c y = record { before = x ++ c.before; block = c.block; after = c.after ++ y }
 
-  -- a block, cut at the block of the node that the path leads to from its first row: place k is the k-th row that is one deeper
+  -- a block, cut at the block of the node that the path leads to from its first row: place k is the k-th row one level deeper
   abbrev pub cut_at : List (Row L) → List ℕ → Cut L
   cut_at rs [] = record { before = []; block = rs; after = [] }
   cut_at [] (k ∷ ks) = record { before = []; block = []; after = [] }
@@ -77,11 +77,11 @@ module _ {L : Type 0} where
       around (r ∷ before_child (suc r.depth) k rs) (cut_at (first_block (from_child (suc r.depth) k rs)) ks)
       (past_block (from_child (suc r.depth) k rs))
 
-  -- another block in the place of the one that was cut
+  -- another block in place of the one that was cut
   abbrev pub replaced : (List (Row L) → List (Row L)) → Cut L → List (Row L)
   replaced edit c = c.before ++ (edit c.block ++ c.after)
 
-  -- add last: a row after the block, one deeper than its first
+  -- add last: a row after the block, one level deeper than its first row
   abbrev pub with_last_row : Move → L → List (Row L) → List (Row L)
   with_last_row m l [] = []
   with_last_row m l (r ∷ rs) = (r ∷ rs) ++ record { depth = suc r.depth; played = Some m; label = l } ∷ []
@@ -97,20 +97,20 @@ module _ {L : Type 0} where
   abbrev pub rows_with_label : List (Row L) → List ℕ → L → List (Row L)
   rows_with_label rs steps l = replaced (with_first_label l) (cut_at rs steps)
 
-  -- remove: the block is dropped
+  -- remove: the block is deleted
   abbrev pub rows_without : List (Row L) → List ℕ → List (Row L)
   rows_without rs steps = replaced (λ block. []) (cut_at rs steps)
 
-  -- move up: the block changes places with that of the sibling before it, which the earlier cut is at
+  -- move up: the block is exchanged with that of the sibling before it, which is the block of the earlier cut
   abbrev pub blocks_exchanged : Cut L → Cut L → List (Row L)
   blocks_exchanged earlier c = earlier.before ++ (c.block ++ (earlier.block ++ c.after))
 
-  -- how many of the rows have depth d
+  -- the number of rows of depth d
   abbrev pub count_at : ℕ → List (Row L) → ℕ
   count_at d [] = 0
   count_at d (r ∷ rs) = if nat_eq r.depth d then suc (count_at d rs) else count_at d rs
 
-  -- what a block's first row shows: its move, its label and how many rows of the block are one deeper
+  -- the contents of a block's first row: its move, its label and the number of rows of the block that are one level deeper
   abbrev pub first_spot : List (Row L) → Option (Spot L)
   first_spot [] = None
   first_spot (r ∷ rs) = Some (record { played = r.played; label = r.label; children = count_at (suc r.depth) rs })

@@ -1,4 +1,4 @@
--- A whole tree: what contracts see of one, and when an edit is refused.
+-- A whole tree as contracts see it, and when an edit is refused.
 use Rattle.std.specs.Prelude.{ℕ, ◌+◌, List, [], ◌∷◌, Bool, not, Option, Some, None, length, nat_le, nat_eq, if◌then◌else◌}
 use Rattle.study_moves.specs.declared.moves.Move.{Move}
 use Rattle.study_tree.specs.declared.fault.TreeFault.{TreeFault}
@@ -6,18 +6,18 @@ use Rattle.study_tree.specs.declared.fault.TreeFault.TheVariants.{NoSuchNode, Ro
 use Rattle.study_tree.specs.Forest.{Forest, Twig, nodes_in}
 use Rattle.study_tree.specs.Edits.{has_node, node_in, width, add_last, place_edited, labelled_at, dropped_at, raised_at, last_place, plain, spare_at}
 
--- a tree: the root's label, and what is below the root
+-- a tree: the root's label, and the forest below the root
 pub record Plain (L : Type 0) : Type 0 where
   pub label : L
   pub below : Forest L
 
--- what a node shows: the move that led to it, which the root has not, its label and how many children it has
+-- the contents of a node: the move that led to it, absent for the root, its label and its number of children
 pub record Spot (L : Type 0) : Type 0 where
   pub played : Option Move
   pub label : L
   pub children : ℕ
 
--- what a contract sees of a `Tree`: the tree, how many children more each node takes with no memory, and how many labels were written
+-- a `Tree` as contracts see it: the tree, the number of further children that each node takes without memory, and the number of labels written
 pub record Held (L : Type 0) : Type 0 where
   pub label : L
   pub spare : ℕ
@@ -28,7 +28,7 @@ module _ {L : Type 0} where
   abbrev pub plain_tree : Held L → Plain L
   plain_tree h = record { label = h.label; below = plain h.below }
 
-  -- how many children more the node at the path takes with no memory
+  -- the number of further children that the node at the path takes without memory
   abbrev pub spare_of : Held L → List ℕ → ℕ
   spare_of h steps = spare_at h.spare h.below steps
 
@@ -62,23 +62,23 @@ module _ {L : Type 0} where
   moved_up t [] = t
   moved_up t (k ∷ ks) = record t { below = place_edited raised_at t.below k ks }
 
-  -- the first reason to refuse one more child of the node at the path, want of memory apart
+  -- the first reason to refuse one more child of the node at the path, apart from want of memory
   abbrev pub child_refusal : Plain L → List ℕ → Option TreeFault
   child_refusal t steps =
       if not (has_spot t steps) then Some NoSuchNode
       else (if nat_le 256 (length steps) then Some TooDeep else (if nat_le 4096 (size_of t) then Some TreeFull else None))
 
-  -- the same, to take the node out
+  -- the first reason to refuse removing the node
   abbrev pub removal_refusal : Plain L → List ℕ → Option TreeFault
   removal_refusal t [] = Some Root
   removal_refusal t (k ∷ ks) = if not (has_spot t (k ∷ ks)) then Some NoSuchNode else None
 
-  -- the same, to exchange the node with the one before it
+  -- the first reason to refuse exchanging the node with the one before it
   abbrev pub move_up_refusal : Plain L → List ℕ → Option TreeFault
   move_up_refusal t [] = Some Root
   move_up_refusal t (k ∷ ks) =
       if not (has_spot t (k ∷ ks)) then Some NoSuchNode else (if nat_eq (last_place k ks) 0 then Some AlreadyFirst else None)
 
-  -- the same, to write the node's label
+  -- the first reason to refuse writing the node's label
   abbrev pub label_refusal : Plain L → List ℕ → Option TreeFault
   label_refusal t steps = if not (has_spot t steps) then Some NoSuchNode else None

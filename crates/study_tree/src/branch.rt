@@ -7,7 +7,7 @@ use std::alloc::Allocator;
 use std::marker::Model;
 use study_moves::Move;
 
-/// A borrowed node, and all below it, seen as a tree of its own.
+/// A borrowed node, and all nodes below it, seen as a tree of its own.
 #[derive(Drop)]
 pub struct Branch<'t, 'a, L, A: Allocator> {
     pub(crate) label: &'t L,
@@ -45,14 +45,14 @@ impl<'t, 'a, L, A: Allocator> Branch<'t, 'a, L, A> {
         self.label
     }
 
-    /// How many children the node has.
+    /// The number of children of the node.
     pub fn width(&self) -> u16
         ensures { result ≡ width self.now.below }
     {
         self.children.len() as u16
     }
 
-    /// The child at this place, if there is one.
+    /// The child at this place, `None` if there is no such child.
     pub fn child(&self, place: u16) -> Option<Child<'t, 'a, L, A>>
         ensures { MatchOption result (node_in self.now.below place [] ≡ None)
             (λ c. node_in self.now.below place [] ≡ Some (record { played = c.played; label = c.node.label; below = c.node.below })) }

@@ -7,9 +7,9 @@ ghost use Rattle.study_tree.specs.Changes.{Pass, changed_along, rewritten};
 use crate::node::Node;
 use std::alloc::Allocator;
 
-/// What is done to the labels along a path.
+/// A change of the labels along a path.
 pub trait LabelChange<L> {
-    /// What becomes of the label at a depth.
+    /// The new label at a depth.
     ghost changed: { Self → ℕ → L → L };
 
     /// Changes the label of the path's node at this depth.
@@ -17,27 +17,26 @@ pub trait LabelChange<L> {
         ensures { label.new ≡ changed self.now depth label.old };
 }
 
-/// What is written at all nodes, in written order.
+/// A rewriting of all labels, in written order.
 pub trait Rewriting<L> {
-    /// What becomes of the labels.
+    /// The new labels.
     ghost pass: { Self → Pass L };
 
     /// Writes the root's label, before all others.
     fn begin(&self, label: &mut L)
         ensures { label.new ≡ (pass self.now).begun label.old };
 
-    /// Writes the label of the node with this number, before those below it. Its parent is at this depth.
+    /// Writes the label of the node with this number, before the labels below it. Its parent is at this depth.
     fn enter(&self, depth: usize, number: usize, parent: &L, label: &mut L)
         requires { depth < 2 ^ 16 }
         ensures { label.new ≡ (pass self.now).entered depth number parent.now label.old };
 
-    /// Adds to the label of a node at this depth what its child at this place counts, below which all is written.
+    /// Adds the count of its child at this place to the label of a node at this depth, once all labels below the child are written.
     fn join(&self, depth: usize, place: u16, parent: &mut L, child: &L)
         ensures { parent.new ≡ (pass self.now).joined depth place parent.old child.now };
 }
 
-/// Changes the labels from these nodes, which are at this depth, along the path: of the one at place `first`, and then
-/// along the rest.
+/// Changes the labels along the path, from these siblings, which are at this depth: the label of the one at place `first`, and then along the rest.
 pub fn change_below<'a, L, A: Allocator, C: LabelChange<L>>(
     children: &mut Vec<Node<'a, L, A>, &'a A>,
     depth: usize,
@@ -57,8 +56,8 @@ pub fn change_below<'a, L, A: Allocator, C: LabelChange<L>>(
     }
 }
 
-/// Writes the labels of all these nodes and below them, from this number on, and what they count for their parent, which
-/// is at this depth; says the number of the first node that is not below it.
+/// Writes the labels of all these nodes and below them, from this number on, and adds their counts to their parent, which is at this depth; returns the
+/// number of the first node that is not below it.
 pub fn rewrite_below<'a, L, A: Allocator, W: Rewriting<L>>(
     by: &W,
     depth: usize,

@@ -1,7 +1,6 @@
-//! The tree of a study: at each node the move that led to it and a label, and its children in order.
-//! Each call is proved to be that call on a plain tree, and a refused call leaves the tree and its counts as they were.
-//! The same is said of the tree's rows in written order (a node, all below its first child, then all below its
-//! second) by `edits_in_rows`, `nodes_in_rows` and `rows_are_written`: a plain tree is its list of rows.
+//! The tree of a study: each node has the move that led to it, a label, and its children in order. Each call is proved equal to that call on a plain tree,
+//! and a refused call leaves the tree and its counts unchanged. `edits_in_rows`, `nodes_in_rows` and `rows_are_written` say the same of the tree's rows in
+//! written order (a node, all below its first child, then all below its second): a plain tree is its list of rows.
 #![tactic(auto)]
 
 mod branch;

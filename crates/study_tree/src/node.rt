@@ -1,4 +1,4 @@
-//! Nodes, and what a path leads to among them.
+//! Nodes, and the nodes that paths lead to.
 ghost use Rattle.std.specs.Prelude.{◌≡◌, ◌+◌, ◌-◌, ◌<◌, ◌^◌, IsTrue, IsOk, IfOk, IsSome, IfSome, OnErr, OnOk, [], ◌∷◌, vec_len, vec_capacity, remove};
 ghost use Rattle.std.specs.Prelude.{slice_index_or};
 ghost use Rattle.std.specs.Option.{option_copied};
@@ -36,7 +36,7 @@ impl<'a, L, A: Allocator> Model for Node<'a, L, A> {
     ghost size_decreases = { λ a h. omega (arith, most_le-nodes_in a.children.items) };
 }
 
-/// The node that the path leads to: place `first` among the siblings, and then along the rest.
+/// The node that the path leads to: place `first` among the siblings, and then the rest of the path.
 pub fn node_in<'n, 'a, L, A: Allocator>(
     siblings: &'n [Node<'a, L, A>],
     first: u16,
@@ -51,8 +51,7 @@ pub fn node_in<'n, 'a, L, A: Allocator>(
     }
 }
 
-/// Puts one more node last among siblings, and says its place. Not inlined, so that the way down to it keeps no node on
-/// the stack.
+/// Appends a node to its siblings, and returns its place. Not inlined, so that the way down to it keeps no node on the stack.
 #[inline(never)]
 fn push_node<'a, L: Drop, A: Allocator>(
     alloc: &'a A,
@@ -80,8 +79,8 @@ fn push_node<'a, L: Drop, A: Allocator>(
     Ok(place)
 }
 
-/// Gives the node at the path one more child, the last, and says its place. The label is passed by reference, so that the
-/// way down takes no stack for it, and taken where the path ends.
+/// Adds a last child to the node at the path, and returns its place. The label is passed by reference and moved at the end of the path,
+/// so that the way down uses no stack for it.
 pub fn add_below<'a, L: Drop, A: Allocator>(
     alloc: &'a A,
     children: &mut Vec<Node<'a, L, A>, &'a A>,
@@ -125,8 +124,8 @@ pub fn reserve_below<'a, L, A: Allocator>(
     }
 }
 
-/// Gives the node another label: the one at place `first`, and then along the rest of the path. The label is exchanged
-/// with the node's own and passed by reference, so that the way down takes no stack for it.
+/// Writes another label of the node at place `first`, and then the rest of the path. The label is exchanged with the node's own and passed by reference,
+/// so that the way down uses no stack for it.
 pub fn relabel_below<'a, L, A: Allocator>(
     children: &mut Vec<Node<'a, L, A>, &'a A>,
     first: u16,
@@ -143,7 +142,7 @@ pub fn relabel_below<'a, L, A: Allocator>(
     }
 }
 
-/// Takes the node at the place out. Not inlined, as `push_node`.
+/// Removes the node at the place. Not inlined, as `push_node`.
 #[inline(never)]
 fn take_node<'a, L, A: Allocator>(
     siblings: &mut Vec<Node<'a, L, A>, &'a A>,
@@ -156,7 +155,7 @@ fn take_node<'a, L, A: Allocator>(
     siblings.remove(place)
 }
 
-/// Takes the node out, with all below it.
+/// Removes the node, with all nodes below it.
 pub fn remove_below<'a, L, A: Allocator>(
     children: &mut Vec<Node<'a, L, A>, &'a A>,
     first: u16,
@@ -194,7 +193,7 @@ pub fn move_up_below<'a, L, A: Allocator>(
     }
 }
 
-/// How many nodes there are, of these and below them.
+/// The number of nodes among these and below them.
 pub fn count_in<'a, L, A: Allocator>(nodes: &[Node<'a, L, A>]) -> usize
     requires { nodes_in (forest_of nodes.now) < 2 ^ 32 }
     ensures { result ≡ nodes_in (forest_of nodes.now) }

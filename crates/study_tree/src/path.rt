@@ -5,10 +5,10 @@ use smallvec::SmallVec;
 use std::alloc::{AllocError, Allocator};
 use std::marker::Model;
 
-/// How many places a path holds before it takes memory.
+/// The number of places that a path stores without allocating.
 const INLINE_PLACES: usize = 16;
 
-/// A way down from the root: at each step the place of a child among its siblings, counted from 0.
+/// A path down from the root: at each step the place of a child among its siblings, counted from 0.
 #[derive(Drop)]
 pub struct Path<'a, A: Allocator> {
     places: SmallVec<u16, INLINE_PLACES, &'a A>,
@@ -32,7 +32,7 @@ impl<'a, A: Allocator> Path<'a, A> {
         }
     }
 
-    /// Goes on to the child at this place.
+    /// Extends the path to the child at this place.
     pub fn push(&mut self, place: u16) -> Result<(), AllocError>
         ensures ok { OnOk result (self.new ≡ self.old ++ place ∷ []) }
         ensures err { OnErr result (self.new ≡ self.old) }

@@ -18,13 +18,13 @@ use std::alloc::Allocator;
 use std::marker::Model;
 use study_moves::Move;
 
-/// How many nodes a tree has at most, the root counted.
+/// The largest number of nodes of a tree, the root included.
 pub const MAX_NODES: usize = 4096;
 
-/// How many moves a path has at most.
+/// The largest number of moves of a path.
 pub const MAX_DEPTH: usize = 256;
 
-/// What a node shows.
+/// The contents of a node.
 #[derive(Drop)]
 pub struct NodeRef<'a, L> {
     pub played: Option<Move>,
@@ -78,7 +78,7 @@ impl<'a, L, A: Allocator> Tree<'a, L, A> {
         }
     }
 
-    /// How many nodes there are, the root counted.
+    /// The number of nodes, the root included.
     pub fn size(&self) -> usize
         ensures size { result ≡ size_of (plain_tree self.now) }
         ensures few { size_of (plain_tree self.now) ≤ 4096 }
@@ -87,7 +87,7 @@ impl<'a, L, A: Allocator> Tree<'a, L, A> {
         self.size
     }
 
-    /// How many labels `add_last` and `relabel` have written; stays at the last value of u64.
+    /// The number of labels that `add_last` and `relabel` have written; it stays at the last value of u64.
     pub fn relabelled(&self) -> u64
         ensures { result ≡ self.now.relabelled }
     {
@@ -104,7 +104,7 @@ impl<'a, L, A: Allocator> Tree<'a, L, A> {
         }
     }
 
-    /// The node at the path, if there is one.
+    /// The node at the path, `None` if there is no such node.
     pub fn node(&self, steps: &[u16]) -> Option<NodeRef<'_, L>>
         ensures { MatchOption result (spot_at (plain_tree self.now) steps.now ≡ None)
             (λ n. spot_at (plain_tree self.now) steps.now
@@ -127,7 +127,7 @@ impl<'a, L, A: Allocator> Tree<'a, L, A> {
         }
     }
 
-    /// The root, from which all nodes are reached child by child.
+    /// The root, from which all nodes can be reached child by child.
     pub fn root(&self) -> Branch<'_, 'a, L, A>
         ensures { result ≡ plain_tree self.now }
     {
@@ -137,7 +137,7 @@ impl<'a, L, A: Allocator> Tree<'a, L, A> {
         }
     }
 
-    /// Whether the node may have one more child, as far as memory goes.
+    /// Whether the node may have one more child, apart from memory.
     fn check_child(&self, steps: &[u16]) -> Result<(), TreeFault>
         ensures ok { OnOk result (child_refusal (plain_tree self.now) steps.now ≡ None) }
         ensures err { IfErr result (λ fault. child_refusal (plain_tree self.now) steps.now ≡ Some fault) }
@@ -167,7 +167,7 @@ impl<'a, L, A: Allocator> Tree<'a, L, A> {
 }
 
 impl<'a, L: Drop, A: Allocator> Tree<'a, L, A> {
-    /// Gives the node one more child, the last, and says its place.
+    /// Adds a last child to the node, and returns its place.
     pub fn add_last(&mut self, steps: &[u16], played: Move, label: L) -> Result<u16, TreeFault>
         ensures refusal { MatchOption (child_refusal (plain_tree self.old) steps.now) (IsOkUnless result TreeFault.OutOfMemory) (λ fault. result ≡ Err fault) }
         ensures added { OnOk result (plain_tree self.new ≡ with_child (plain_tree self.old) steps.now played label) }
@@ -208,7 +208,7 @@ impl<'a, L: Drop, A: Allocator> Tree<'a, L, A> {
         Ok(())
     }
 
-    /// Changes the labels along the path, from the root's to that of the path's node.
+    /// Changes the labels along the path, from the root to the path's node.
     pub fn change_along<C: LabelChange<L>>(
         &mut self,
         steps: &[u16],
@@ -240,7 +240,7 @@ impl<'a, L: Drop, A: Allocator> Tree<'a, L, A> {
         self.relabelled = self.relabelled.saturating_add(self.size as u64);
     }
 
-    /// Takes the node out, with all below it.
+    /// Removes the node, with all nodes below it.
     pub fn remove(&mut self, steps: &[u16]) -> Result<(), TreeFault>
         ensures refusal { MatchOption (removal_refusal (plain_tree self.old) steps.now) (IsOk result) (λ fault. result ≡ Err fault) }
         ensures removed { OnOk result (plain_tree self.new ≡ without (plain_tree self.old) steps.now) }

@@ -87,7 +87,7 @@ few_cells KNKN = omega arith
 few_cells KNKP = omega arith
 few_cells KPKP = omega arith
 
--- the pages of a class hold its cells, and all but the last are full
+-- the pages of a class have room for its cells, and all except the last are full
 pub pages_hold : (c : Class) → cells_of c ≤ 4096 * pages_of c
 unfolding pages_of
 pages_hold c = omega arith

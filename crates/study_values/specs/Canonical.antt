@@ -1,4 +1,4 @@
--- How the index is found: the symmetries that bring the white king to a listed square, and the lesser of two numbers.
+-- Computing the index: the symmetries that bring the white king to a listed square, and the lesser of two numbers.
 use Rattle.std.specs.Prelude.{ℕ, Bool, true, false, ◌==◌, nat_lt, List, [], ◌∷◌, map, Option, Some, None, if◌then◌else◌}
 use Rattle.study_board.specs.declared.men.Side.{Side}
 use Rattle.study_board.specs.declared.men.Man.{Man}
@@ -9,7 +9,7 @@ use Rattle.study_board.specs.Images.{differ}
 use Rattle.study_values.specs.Filling.{man_slot_number}
 use Rattle.study_values.specs.Number.{number}
 
--- the symmetry that brings a square to a listed one, if any does
+-- the symmetry that brings a square to a listed one, if there is one
 unfoldable pub canonical_symmetry : Bool → Bool → Bool → ℕ → Symmetry
 canonical_symmetry true diagonal colours s = record { files = nat_lt 3 (file_of s); ranks = false; diagonal = false; colours = colours }
 canonical_symmetry false false colours s =
@@ -22,12 +22,12 @@ abbrev pub last_two_exchanged : List Man → List Man
 last_two_exchanged (a ∷ b ∷ x ∷ y ∷ []) = a ∷ b ∷ y ∷ x ∷ []
 last_two_exchanged xs = xs
 
--- the last two of four men are of one slot
+-- the last two of four men have the same slot
 abbrev pub are_like : Bool → List Man → Bool
 are_like c (a ∷ b ∷ x ∷ y ∷ []) = man_slot_number c x == man_slot_number c y
 are_like c xs = false
 
--- the lesser of two numbers, of those that there are
+-- the lesser of two optional numbers, or the only one
 abbrev pub least : Option ℕ → Option ℕ → Option ℕ
 least None b = b
 least (Some x) None = Some x
@@ -37,12 +37,12 @@ least (Some x) (Some y) = if nat_lt y x then Some y else Some x
 unfoldable pub turned_number : Bool → Side → Symmetry → List Man → Option ℕ
 turned_number pawns to_move t men = number pawns to_move (map (turned_man t) men)
 
--- the last of four men comes to a lower square than the one before it
+-- the last of four men goes to a lower square than the man before it
 abbrev pub descends : Symmetry → List Man → Bool
 descends t (a ∷ b ∷ x ∷ y ∷ []) = nat_lt (turned_square t y.at) (turned_square t x.at)
 descends t xs = false
 
--- the least number by one symmetry, where like men can be exchanged
+-- the least number by one symmetry, if like men can be exchanged
 unfoldable pub least_by : Bool → Side → Symmetry → List Man → Option ℕ
 least_by pawns to_move t men =
     if are_like t.colours men then (if descends t men then turned_number pawns to_move t (last_two_exchanged men) else turned_number pawns to_move t men)

@@ -1,4 +1,4 @@
--- The slots of a position, and the ways to fill them with its men.
+-- The slots of a position, and the orders of its men that fill them.
 use Rattle.std.specs.Prelude.{ℕ, ◌≤◌, Bool, List, [], ◌∷◌}
 use Rattle.std.specs.List.Sorted.{IsPermutation}
 use Rattle.study_board.specs.declared.men.Side.{Side}
@@ -23,16 +23,16 @@ slot_number Black Bishop = 9
 slot_number Black Knight = 10
 slot_number Black Pawn = 11
 
--- the slot of a man, the colours swapped or not
+-- the slot of a man, with the colours swapped or not
 unfoldable pub man_slot_number : Bool → Man → ℕ
 man_slot_number colours m = slot_number (turned_side colours m.side) m.kind
 
--- no man of the list is of a slot before n
+-- no man of the list has a slot before n
 abbrev pub NoneBefore : Bool → ℕ → List Man → Type 0
 NoneBefore colours n [] = Unit {0}
 NoneBefore colours n (x ∷ xs) = (n ≤ man_slot_number colours x) × NoneBefore colours n xs
 
--- the men stand in the order of their slots; like men stand in either order
+-- the men stand in the order of their slots; like men in either order
 abbrev pub IsInSlots : Bool → List Man → Type 0
 IsInSlots colours [] = Unit {0}
 IsInSlots colours (x ∷ xs) = NoneBefore colours (man_slot_number colours x) xs × IsInSlots colours xs

@@ -1,4 +1,4 @@
--- The index of a position as a function: what is computed.
+-- The index of a position as a function, as it is computed.
 use Rattle.std.specs.Prelude.{ℕ, Bool, nat_le, List, [], ◌∷◌, unwrap_or, if◌then◌else◌}
 use Rattle.study_board.specs.declared.men.Man.{Man}
 use Rattle.study_board.specs.Position.{Position}
@@ -9,7 +9,7 @@ use Rattle.study_values.specs.Filling.{man_slot_number}
 use Rattle.study_values.specs.Number.{has_pawn, with_bit}
 use Rattle.study_values.specs.Canonical.{least_of}
 
--- a man put after those of no later slot
+-- a man inserted after those of no later slot
 unfoldable pub put : Bool → Man → List Man → List Man
 put c m [] = m ∷ []
 put c m (x ∷ xs) = if nat_le (man_slot_number c x) (man_slot_number c m) then x ∷ put c m xs else m ∷ x ∷ xs

@@ -1,4 +1,4 @@
--- The numbers of a position, and its index: the least of them, with the bit where a capture in passing is legal.
+-- The numbers of a position, and its index: the least number, with a bit set if a capture in passing is legal.
 use Rattle.std.specs.Prelude.{◌≡◌, ℕ, ◌+◌, ◌*◌, ◌%◌, ◌^◌, ◌≤◌, Bool, true, false, not, ◌&&◌, ◌||◌, ◌==◌}
 use Rattle.std.specs.Prelude.{nat_lt, nat_le, List, [], ◌∷◌, length, Option, Some, None, if◌then◌else◌}
 use Rattle.std.specs.List.{list_any}
@@ -22,18 +22,18 @@ use Rattle.study_values.specs.Filling.{IsFilling}
 abbrev pub has_pawn : List Man → Bool
 has_pawn men = list_any is_pawn men
 
--- what is added to a square's file for its place in the triangle a1, d1, d4: how many squares are on the ranks below,
--- less the rank's first file there
+-- the offset of a rank in the triangle a1, d1, d4: the number of squares on the ranks below, less the rank's first file there; a
+-- square's place is its file and this offset
 abbrev pub places_before : ℕ → ℕ
 places_before n = if n == 0 then 0 else (if n == 1 then 3 else (if n == 2 then 5 else 6))
 
--- the place of the white king's square, if it is listed: with a pawn the files a to d, else a1 b1 c1 d1 b2 c2 d2 c3 d3 d4
+-- the place of the white king's square, if it is listed: with a pawn the files a to d, otherwise a1 b1 c1 d1 b2 c2 d2 c3 d3 d4
 unfoldable pub place : Bool → ℕ → Option ℕ
 place true s = if nat_lt (file_of s) 4 then Some (4 * rank_of s + file_of s) else None
 place false s =
     if nat_lt (file_of s) 4 && not (nat_lt (file_of s) (rank_of s)) then Some (places_before (rank_of s) + file_of s) else None
 
--- how many squares are listed
+-- the number of listed squares
 abbrev pub listed_count : Bool → ℕ
 listed_count true = 32
 listed_count false = 10
@@ -42,7 +42,7 @@ abbrev pub side_number : Side → ℕ
 side_number White = 0
 side_number Black = 1
 
--- the squares of further men, each 64 times less than what comes before
+-- appends the squares of further men as digits in base 64
 abbrev pub append_squares : ℕ → List Man → ℕ
 append_squares n [] = n
 append_squares n (x ∷ xs) = append_squares (n * 64 + x.at) xs
@@ -53,7 +53,7 @@ number pawns to_move [] = None
 number pawns to_move (k ∷ rest) =
     option_map (λ q. append_squares (side_number to_move * listed_count pawns + q) rest) (place pawns k.at)
 
--- a number of the position: that of a filling with the men of an image, the colours swapped where the class asks for it
+-- a number of the position: the number of a filling with the men of an image, the colours swapped if the class requires it
 pub record IsNumber (p : Position) (n : ℕ) : Type 0 where
   pub by : Symmetry
   pub admitted : admits p by ≡ true
@@ -62,12 +62,12 @@ pub record IsNumber (p : Position) (n : ℕ) : Type 0 where
   pub fills : IsFilling false (image by p).men filling
   pub is : number (has_pawn p.men) (image by p).to_move filling ≡ Some n
 
--- the least number of the position, whatever square is passed
+-- the least number of the position, whichever square is passed
 pub record IsLeastNumber (p : Position) (n : ℕ) : Type 0 where
   pub number : IsNumber p n
   pub least : (m : ℕ) → IsNumber p m → n ≤ m
 
--- 16,777,216 more where the bit is set
+-- 16,777,216 more if the bit is set
 abbrev pub with_bit : Bool → ℕ → ℕ
 with_bit true n = 16777216 + n
 with_bit false n = n
@@ -78,7 +78,7 @@ has_bit n = nat_le 16777216 n
 abbrev pub without_bit : ℕ → ℕ
 without_bit n = n % 16777216
 
--- the index: the least number of the position, the bit set where a capture in passing is legal
+-- the index: the least number of the position, with the bit set if a capture in passing is legal
 pub record IsIndex (p : Position) (n : ℕ) : Type 0 where
   pub number : ℕ
   pub least : IsLeastNumber p number
@@ -98,6 +98,6 @@ has_both_pawns l = kinds_have_pawn l.white && kinds_have_pawn l.black
 abbrev pub numbers_of : Class → ℕ
 numbers_of c = 2 * listed_count (class_has_pawn c) * 64 ^ (1 + length (lists_of c).white + length (lists_of c).black)
 
--- how many cells the table of a class has: those of the numbers, twice where the bit can be set
+-- the number of cells in the table of a class: its numbers, twice as many if the bit can be set
 abbrev pub cells_of : Class → ℕ
 cells_of c = if has_both_pawns (lists_of c) then 2 * numbers_of c else numbers_of c

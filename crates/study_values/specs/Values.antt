@@ -1,4 +1,4 @@
--- Answers to the question for a position's value.
+-- Answers to a probe for a position's value.
 use Rattle.std.specs.Prelude.{ℕ, ◌/◌, Bool, true, false, Result, Ok, Err, if◌then◌else◌}
 use Rattle.study_board.specs.Position.{Position}
 use Rattle.study_values.specs.Index.{index_of}
@@ -8,7 +8,7 @@ use Rattle.study_text.specs.Counts.{counted}
 use Rattle.study_values.specs.declared.values.ProbeFault.{ProbeFault}
 use Rattle.study_values.specs.declared.values.ProbeFault.TheVariants.{NoTable, TableRead, PageDamaged}
 
--- the page of its table in which the cell of a position stands
+-- the page of its table that has the cell of a position
 abbrev pub page_number : Position → ℕ
 page_number p = index_of p / 4096
 
@@ -22,11 +22,11 @@ is_device_fault (Err (NoTable c)) = false
 is_device_fault (Err (TableRead f)) = true
 is_device_fault (Err (PageDamaged c n)) = true
 
--- how many faults of a device there were after an answer
+-- the number of device faults after an answer
 abbrev pub faults_after : ℕ → ProbeAnswer → ℕ
 faults_after count answer = if is_device_fault answer then counted count else count
 
--- no damage is told: the tables that are held are those that were asked for, and a device may fail
+-- the fault is no damage to the files: a device may fail, but a table that is opened is the expected one
 abbrev pub IsNotDamage : ProbeFault → Type 0
 IsNotDamage (NoTable c) = Unit {0}
 IsNotDamage (TableRead f) = Unit {0}

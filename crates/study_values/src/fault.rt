@@ -1,9 +1,9 @@
-//! What can go wrong with the file of a table.
+//! Faults of table files.
 
 use study_text::DeviceFailed;
 use thiserror::Error;
 
-/// Why a source of pages gave no page.
+/// Why a source of pages failed to read a page.
 #[derive(Clone, Copy, Debug, PartialEq, Eq, Error)]
 pub enum SourceFault {
     #[error("the device of a table failed")]
@@ -12,9 +12,8 @@ pub enum SourceFault {
     Short,
 }
 
-/// Why bytes are no table file, or why a file is neither read nor written. A file is read from front to back, and the first
-/// fault is reported: those of the header in this order, then page by page that it is cut off, damaged, or not zero after the
-/// last cell, then what follows the last page.
+/// Why bytes are not a valid table file, or why a file could not be read or written. A file is read from front to back, and the first fault is reported: the
+/// faults of the header in this order, then, page by page, that it is cut off, damaged, or not zero after the last cell, then bytes after the last page.
 #[derive(Clone, Copy, Debug, PartialEq, Eq, Error)]
 pub enum FileFault {
     #[error("the file is cut off")]

@@ -1,8 +1,8 @@
-//! Values of positions, and where they come from.
+//! Values of positions, and their sources.
 //!
-//! `Values` is what the marks of a study are made from: a value, and how often one was probed. Its clauses say when an answer is the
-//! game's value, when a class has no table, and that a device's fault is counted. Tables in memory (`WholeTables`) and table
-//! files (`PagedTables` of `study_prober`) give values.
+//! `Values` is the source of the marks of a study: it returns a value for a position, and counts probes. Its clauses say when an answer is the
+//! game's value, when a class has no table, and that a device's fault is counted. Tables in memory (`WholeTables`) and table files
+//! (`PagedTables` of `study_prober`) implement it.
 #![tactic(auto)]
 
 mod fault;

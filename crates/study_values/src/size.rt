@@ -1,11 +1,11 @@
-//! How many cells the table of a class has, and how many bytes its file.
+//! The number of cells in the table of a class, and of bytes in its file.
 ghost use Rattle.std.specs.Prelude.{◌≡◌, ◌+◌, ◌*◌};
 ghost use Rattle.study_values.specs.Number.{cells_of};
 ghost use Rattle.study_values.specs.Size.{pages_of};
 
 use study_material::Class;
 
-/// What the number of a position has more where a capture in passing is legal.
+/// Added to the number of a position if a capture in passing is legal.
 pub const EN_PASSANT_BIT: u32 = 16_777_216;
 
 /// Cells of a page.
@@ -17,7 +17,7 @@ pub const PAGE_BYTES: usize = 4128;
 /// Bytes of a header: its fields and their SHA-256.
 pub const HEADER_BYTES: usize = 64;
 
-/// How many cells there are for positions of the class.
+/// The number of cells for positions of the class.
 pub fn cells(class: Class) -> u32
     ensures { result ≡ cells_of class }
 {
@@ -32,7 +32,7 @@ pub fn cells(class: Class) -> u32
     }
 }
 
-/// How many pages a class has.
+/// The number of pages of a class.
 #[tactic(auto, using(crate::proofs::ClassBounds::few_cells), unfolding(crate::specs::Size::pages_of))]
 pub fn pages(class: Class) -> u32
     ensures { result ≡ pages_of class }
@@ -40,7 +40,7 @@ pub fn pages(class: Class) -> u32
     cells(class).div_ceil(PAGE_CELLS as u32)
 }
 
-/// How many bytes the file of a class has.
+/// The number of bytes in the file of a class.
 #[tactic(auto, using(crate::proofs::ClassBounds::few_cells), unfolding(crate::specs::Size::pages_of))]
 pub fn file_size(class: Class) -> u32
     ensures { result ≡ 64 + 4128 * pages_of class }

@@ -13,7 +13,7 @@ pub enum Value {
     Draw,
 }
 
-/// The value of a cell of a table: 0 a draw, an odd cell c a loss in c - 1 plies, an even one a win in c - 1.
+/// The value of a cell of a table: 0 is a draw, an odd cell c a loss in c - 1 plies, an even one a win in c - 1.
 pub fn value_at(cell: u8) -> Value
     ensures { result ≡ value_of cell }
 {
@@ -27,7 +27,7 @@ pub fn value_at(cell: u8) -> Value
 }
 
 impl Value {
-    /// The plies to the mate.
+    /// The plies to the mate; `None` for a draw.
     pub fn distance(self) -> Option<u8>
         ensures { MatchOption result (self ≡ Value.Draw) (λ n. (self ≢ Value.Draw) × (distance_of self ≡ n)) }
     {

@@ -1,4 +1,4 @@
-//! What answers the values of positions.
+//! Sources of values of positions.
 ghost use Rattle.std.specs.Prelude.{◌≡◌, ◌↔◌, ℕ, Bool, false, IfOk, IfErr, IsErrOf};
 ghost use Rattle.study_board.specs.Position.{Position as APosition};
 ghost use Rattle.study_material.specs.declared.class.Class.{Class as AClass};
@@ -14,7 +14,7 @@ use study_board::Position;
 use study_material::Class;
 use thiserror::Error;
 
-/// Why a value cannot be probed.
+/// Why a value could not be read.
 #[derive(Clone, Copy, Debug, PartialEq, Eq, Error)]
 pub enum ProbeFault {
     #[error("no table of {0:?} is held")]
@@ -46,19 +46,18 @@ pub fn failures_after(count: u64, answer: &Result<Value, ProbeFault>) -> u64
     }
 }
 
-/// Gives the values of positions, and counts how often one was probed and how often a device or a page failed. Both counts
-/// stay at the last value of their type.
+/// Returns the values of positions, and counts how often one was probed and how often a device or a page failed. Both
+/// counts stay at the last value of their type.
 pub trait Values: Drop {
-    /// Each value that is answered, now and after any calls, is the game's.
+    /// Each value that is returned, by this call and all later ones, is the game's.
     ghost is_honest: { Self → Type 0 };
-    /// A table of the class is held.
+    /// A table of the class is loaded.
     ghost held: { Self → AClass → Bool };
 
-    /// What may be answered to the next probe, of this position. Values that do not say their answers may
-    /// answer anything.
+    /// The possible answers to the next probe, of this position. An implementation that does not specify its answers may give any.
     ghost gives: { Self → APosition → ProbeAnswer → Type 0 };
 
-    /// A table of this class may not be read for this fault, now and after any calls.
+    /// Reading a table of this class may fail for this fault, in this call or any later one.
     ghost may_fail: { Self → AClass → ASourceFault → Type 0 };
 
     ghost asked_of: { Self → ℕ };
@@ -80,15 +79,15 @@ pub trait Values: Drop {
         ensures asked { asked_of self.new ≡ counted (asked_of self.old) }
         ensures failures { failed_of self.new ≡ faults_after (failed_of self.old) result };
 
-    /// Whether a table of the class is held.
+    /// Whether a table of the class is loaded.
     fn holds(&self, class: Class) -> bool
         ensures { result ≡ held self.now class };
 
-    /// How often a value was probed.
+    /// The number of probes so far.
     fn asked(&self) -> u64
         ensures { result ≡ asked_of self.now };
 
-    /// How often a device or a page failed.
+    /// The number of failures of a device or a page so far.
     fn failures(&self) -> u64
         ensures { result ≡ failed_of self.now };
 }

@@ -19,7 +19,7 @@ use Rattle.study_zugzwang.specs.Zugzwang.{ZugzwangsAreMutual, IsZugzwang, Scores
 abbrev of : List Man → Side → Option ℕ → Position
 of xs s x = record { men = xs; to_move = s; passed = x }
 
--- the position that is made with the other side to move has the men in the same order
+-- the position made with the other side to move has the men in the same order
 pub handed_on_is : (p q : Position) → IsValid p → IsValid q → IsPermutation p.men q.men → q.to_move ≡ other_side p.to_move → q.passed ≡ None → q ≡ handed_on p
 handed_on_is p q v w h e f =
     let same : p.men ≡ q.men = ascending_same p.men q.men h v.ordered w.ordered in
@@ -39,7 +39,7 @@ one-value law p Draw (Win k) h j = absurd ((law p).won_not_drawn k j h)
 one-value law p Draw (Loss k) h j = absurd ((law p).lost_not_drawn k j h)
 one-value law p Draw Draw h j = refl
 
--- a position scores one number of half points
+-- a position has exactly one score in half points
 pub one-score : EachHasAtMostOneValue → (p : Position) (i j : ℕ) → Scores p i → Scores p j → i ≡ j
 one-score law p i j x y = sym x.2 ∙ ap (λ v. half_points v) (one-value law p x.0 y.0 x.1 y.1) ∙ y.2
 
@@ -63,7 +63,7 @@ won-enough law p q k x e = (
       absurd (omega (arith, same, e, less))),
 )
 
--- what is left of a point
+-- the rest of a point
 pub rest-by : {E : Type 0} → EachHasAtMostOneValue → (p q : Position) (k : ℕ) (r : Result Bool E) → Scores p k → k < 3
     → IfOk r (λ b. (b ≡ true) ↔ ScoresLessThan q (2 - k)) → IfOk r (λ b. (b ≡ true) ↔ ScoreLessThanAPoint p q)
 rest-by law p q k (Ok b) x few h = (
@@ -98,7 +98,7 @@ zugzwang-by p q (Ok b) none is valid h = (
 )
 zugzwang-by p q (Err e) none is valid h = tt
 
--- the other of the two is one, too
+-- the other side's other side is the side itself
 other-twice : (s : Side) → other_side (other_side s) ≡ s
 other-twice White = refl
 other-twice Black = refl

@@ -7,7 +7,7 @@ use Rattle.study_values.specs.declared.value.Value.{Value}
 use Rattle.study_values.specs.declared.value.Value.TheVariants.{Win, Loss, Draw}
 use Rattle.study_values.specs.Game.{IsValueOf}
 
--- what the side to move scores, in half points
+-- the score of the side to move, in half points
 abbrev pub half_points : Value → ℕ
 half_points (Loss n) = 0
 half_points Draw = 1
@@ -24,17 +24,17 @@ ScoresLessThan p n = (k : ℕ) × Scores p k × (k < n)
 abbrev pub ScoreLessThanAPoint : Position → Position → Type 0
 ScoreLessThanAPoint p q = (i : ℕ) × (j : ℕ) × Scores p i × Scores q j × (i + j < 2)
 
--- the same men with the other side to move and nothing passed
+-- the same men with the other side to move and no passed square
 abbrev pub handed_on : Position → Position
 handed_on p = record { men = p.men; to_move = other_side p.to_move; passed = None }
 
--- With either side to move the men are a position, and whoever is to move would rather not be: the two score less than a
--- point between them. Where a capture in passing is legal, the right to it cannot be handed on.
+-- With either side to move the men are a valid position, and neither side wants to be on move: the two sides together score less than a point. If a capture
+-- in passing is legal, the right to it cannot pass to the other side.
 pub record IsZugzwang (p : Position) : Type 0 where
   pub none_passed : has_legal_en_passant p ≡ false
   pub other : IsValid (handed_on p)
   pub less : ScoreLessThanAPoint p (handed_on p)
 
--- Where one of the two is a mutual zugzwang the other is.
+-- If one of the two positions is a mutual zugzwang, the other is.
 abbrev pub ZugzwangsAreMutual : Type 0
 ZugzwangsAreMutual = (p : Position) → IsValid p → IsZugzwang p → IsZugzwang (handed_on p)

@@ -3,7 +3,7 @@ ghost use Rattle.study_zugzwang.specs.Zugzwang.{ZugzwangsAreMutual};
 
 use study_moves::bare_agrees;
 
-/// A mutual zugzwang is one with the other side to move, too.
+/// A mutual zugzwang remains one with the other side to move.
 pub fn zugzwangs_are_mutual()
     ensures { ZugzwangsAreMutual }
 {

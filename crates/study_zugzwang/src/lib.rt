@@ -1,6 +1,6 @@
-//! Mutual zugzwangs: positions in which whoever is to move would rather not be, so that the two score less than a point between them.
+//! Mutual zugzwangs: positions in which neither side wants to be on move, so that the two sides to move together score less than a point.
 //!
-//! The definition stands over positions and the values of the game alone. A search of a class and the review of a study rest on it.
+//! The definition uses positions and the values of the game alone. The search of a class and the review of a study rest on it.
 #![tactic(auto)]
 
 mod laws;

@@ -1,4 +1,4 @@
-//! Mutual zugzwangs: what the side to move scores, and the same men with the other side to move.
+//! Mutual zugzwangs: the score of the side to move, and the same men with the other side to move.
 ghost use Rattle.std.specs.Prelude.{◌≡◌, ◌<◌, IfSome, IfNone};
 ghost use Rattle.study_board.specs.Position.{IsValid};
 ghost use Rattle.study_zugzwang.specs.Zugzwang.{half_points, handed_on};
@@ -6,7 +6,7 @@ ghost use Rattle.study_zugzwang.specs.Zugzwang.{half_points, handed_on};
 use study_board::Position;
 use study_values::Value;
 
-/// What the side to move scores, in half points.
+/// The score of the side to move, in half points.
 pub fn half_points(value: Value) -> u8
     ensures value { result ≡ half_points value }
     ensures few { result < 3 }
@@ -18,7 +18,7 @@ pub fn half_points(value: Value) -> u8
     }
 }
 
-/// The same men with the other side to move and nothing passed, if that is a position.
+/// The same men with the other side to move and no passed square, if that is a valid position.
 pub fn handed_on(p: &Position) -> Option<Position>
     ensures none { IfNone result (¬ (IsValid (handed_on p.now))) }
     ensures some { IfSome result (λ q. (q ≡ handed_on p.now) × IsValid q) }

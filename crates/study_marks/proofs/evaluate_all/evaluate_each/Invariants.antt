@@ -7,7 +7,7 @@ use Rattle.study_marks.specs.Answers.{WereTold}
 use Rattle.study_marks.proofs.PositionsListed.{IsAsked}
 use Rattle.study_marks.proofs.evaluate_all.evaluate_each.Given as goal
 
--- the first positions are asked
+-- the first positions are evaluated
 abbrev pub invariant-loop-p : goal.invariant-loop-p
 invariant-loop-p g l = record {
   asked : IsAsked (g.V.Values.held l.fn.values) (g.V.Values.held l.values) (g.V.Values.asked_of l.fn.values)

@@ -7,7 +7,7 @@ use Rattle.study_material.specs.Lists.{is_other_than_king, lists, ordered, is_ex
 use Rattle.study_material.proofs.MenBesideKings.{lists-others, none_king, few_others}
 use Rattle.study_material.proofs.material.class_of.Goals as goal
 
--- what is listed is the men beside the kings
+-- the listed men are the men beside the kings
 are_others : (xs ys zs men : List Man) → zs ≡ ys → ys ≡ filter is_other_than_king xs → xs ≡ men → zs ≡ filter is_other_than_king men
 are_others xs ys zs men e f g = e ∙ f ∙ ap (λ l. filter is_other_than_king l) g
 

@@ -4,7 +4,7 @@ use Rattle.study_text.proofs.TextTaken.{Wrote-cut, Wrote-stops_at, OnErr-known}
 use Rattle.study_tree.specs.Paths.{more_places}
 use Rattle.study_reply.proofs.path_written.put_more.Goals as goal
 
--- the next place, and then those after it
+-- the next place, and then the places after it
 more-next : (ks : List ℕ) (i : ℕ) → i < length ks → more_places (drop i ks) ≡ (46 ∷ decimal (get_or ks i 0)) ++ more_places (drop (i + 1) ks)
 more-next ks i lt =
     let next : suc i ≡ i + 1 = omega arith in

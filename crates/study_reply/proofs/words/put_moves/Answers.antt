@@ -6,7 +6,7 @@ use Rattle.study_text.proofs.TextTaken.{Wrote-cut, Wrote-stops_at, OnErr-known}
 use Rattle.study_reply.specs.Words.{moves_listed}
 use Rattle.study_reply.proofs.words.put_moves.Goals as goal
 
--- the next move, and then those after it
+-- the next move, and then the moves after it
 listed-next : (p : Position) (ms : List Move) (i : ℕ) (m : Move) → i < length ms → m ≡ get_or ms i m
     → moves_listed p (drop i ms) ≡ (32 ∷ move_text p m) ++ moves_listed p (drop (i + 1) ms)
 listed-next p ms i m lt e =

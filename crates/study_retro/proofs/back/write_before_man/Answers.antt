@@ -12,7 +12,7 @@ use Rattle.study_levels.proofs.SquaresLeft.{AreLeft, left-all, first-in, first-o
 use Rattle.study_retro.proofs.BackLemmas.{set-then, set-kept, set-why, led_came, before_in, in_before}
 use Rattle.study_retro.proofs.back.write_before_man.Goals as goal
 
--- no other side's man has moved
+-- no man of the other side has moved
 pub returns-then-ne-clause-done : goal.returns-then-ne-clause-done
 returns-then-ne-clause-done c = λ n b.
     let came = led_came c.args.class c.args.number c.requires.numbered.0 c.requires.numbered.1 c.args.setup.now.men.items c.args.setup.now.to_move

@@ -6,7 +6,7 @@ use Rattle.study_levels.specs.Propagation.{IsSetWhere}
 use Rattle.study_retro.proofs.BackLemmas.{departed, is_before, twin_before, small_before, before_is, before_below, set-then, set-kept, set-why}
 use Rattle.study_retro.proofs.back.write_from.Goals as goal
 
--- what lands elsewhere is not before the number
+-- a move that lands on another number is not before this one
 pub returns-then-not-lands_from-clause-done : goal.returns-then-not-lands_from-clause-done
 returns-then-not-lands_from-clause-done c = λ n b.
     absurd (false≢true (sym c.if-not-lands_from.true ∙ (c.lands_from.ensures b.to b.before.from b.at b.before.leads).1 b.before.lands))

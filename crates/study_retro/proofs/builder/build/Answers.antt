@@ -15,7 +15,7 @@ unfit_where : (b : Bool) → not b ≡ true → b ≡ false
 unfit_where true e = sym e
 unfit_where false e = refl
 
--- what a slice wrote back into a vector of its length
+-- the contents of a slice, written back into a vector of its length
 written : (n : ℕ) (xs zs : List ℕ) → length xs ≡ n → take n (xs ++ zs) ≡ xs
 written n xs zs e = subst (λ (m : ℕ). take m (xs ++ zs) ≡ xs) e (take-append_seam xs zs)
 

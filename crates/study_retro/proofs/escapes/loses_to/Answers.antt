@@ -3,12 +3,12 @@ use Rattle.std.proofs.lemmas.Bool.{false≢true}
 use Rattle.study_retro.proofs.BackLemmas.{departed, safe_below, safe_escape, safe_legal, safe_won}
 use Rattle.study_retro.proofs.escapes.loses_to.Goals as goal
 
--- a move that is not quiet is left to others
+-- a move that is not quiet is left to other functions
 pub returns-then-reaches_last_rank-clause-yes : goal.returns-then-reaches_last_rank-clause-yes
 returns-then-reaches_last_rank-clause-yes g c = λ t plain q at.
     absurd (false≢true (sym plain ∙ sym c.reaches_last_rank.ensures ∙ c.if-reaches_last_rank.true))
 
--- after a double step the position is looked at
+-- after a double step the position is examined
 pub wins_after-requires-clause-legal : goal.wins_after-requires-clause-legal
 wins_after-requires-clause-legal g c = λ q at.
     let stays = sym c.reaches_last_rank.ensures ∙ c.if-reaches_last_rank.false in

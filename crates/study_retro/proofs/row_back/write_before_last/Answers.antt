@@ -6,7 +6,7 @@ use Rattle.study_board.proofs.EqualMen.{side_same}
 use Rattle.study_retro.proofs.RowBackLemmas.{last_came}
 use Rattle.study_retro.proofs.row_back.write_before_last.Goals as goal
 
--- no other side's man has moved
+-- no man of the other side has moved
 pub returns-then-ne-clause-done : goal.returns-then-ne-clause-done
 returns-then-ne-clause-done c = λ n y on e b.
     let row = c.args.row.now in

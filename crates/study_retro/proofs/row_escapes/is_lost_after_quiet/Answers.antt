@@ -6,7 +6,7 @@ use Rattle.study_retro.specs.ClassGame.{class_game}
 use Rattle.study_levels.specs.Numbered.{label_by}
 use Rattle.study_retro.proofs.row_escapes.is_lost_after_quiet.Goals as goal
 
--- where each move is quiet, the quiet moves decide
+-- if each move is quiet, the quiet moves decide
 pub returns-then-some-clause-yes : goal.returns-then-some-clause-yes
 returns-then-some-clause-yes g c = λ t.
     let q = c.requires.numbered in

@@ -4,7 +4,7 @@ use Rattle.study_retro.proofs.BackLemmas.{departed}
 use Rattle.study_retro.proofs.RowEscapeLemmas.{go_below, go_escape, go_won}
 use Rattle.study_retro.proofs.row_escapes.losing_after.Goals as goal
 
--- a move that is not quiet is left to others
+-- a move that is not quiet is left to other functions
 pub returns-then-reaches_last_rank-clause-yes : goal.returns-then-reaches_last_rank-clause-yes
 returns-then-reaches_last_rank-clause-yes g c = λ plain. absurd (false≢true (sym plain ∙ sym c.reaches_last_rank.ensures ∙ c.if-reaches_last_rank.true))
 

@@ -48,7 +48,7 @@ squares_won-won-requires-clause-cells g c = λ x onx e.
     (last_can class number y q.0 q.1 plain row.others.items row.last row.to_move told his x w.3) passes stays c.args.game.now.tables.now
     c.requires.laws c.args.cells.now (64 * c.in-Some.after + x) fits)
 
--- where the last man goes to a square that is neither won nor its last rank it escapes
+-- if the last man goes to a square that is neither won nor on its last rank, it escapes
 pub returns-in-Some-clause-no : goal.returns-in-Some-clause-no
 returns-in-Some-clause-no g c = λ y on e f.
     let class = c.args.game.now.class in
@@ -76,7 +76,7 @@ returns-in-Some-clause-no g c = λ y on e f.
     or_false false b e = (refl, e)
     or_false true b e = absurd (false≢true (sym e))
 
--- and elsewhere all of its quiet moves lose
+-- otherwise all of its quiet moves lose
 pub returns-in-Some-clause-yes : goal.returns-in-Some-clause-yes
 returns-in-Some-clause-yes g c = λ y q on e at x legal quiet.
     let class = c.args.game.now.class in

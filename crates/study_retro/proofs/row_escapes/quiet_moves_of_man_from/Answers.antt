@@ -29,7 +29,7 @@ loop-others-init g c = record {
   some = c.requires.some;
 }
 
--- where none is left to lose the others need not be looked at
+-- if no number may lose the other moves need not be examined
 pub returns-then-is_empty-clause-yes : goal.returns-then-is_empty-clause-yes
 returns-then-is_empty-clause-yes g c = λ y q on e.
     absurd (false≢true (sym (ap (λ (s : ℕ). has s y) (c.is_empty-in-loop-others.ensures.0 c.if-is_empty.true) ∙ has-zero y) ∙ e))

@@ -23,7 +23,7 @@ returns-then-ne-clause-yes g c = λ y q on e at x legal quiet.
     c.args.man.now c.requires.man x legal quiet in
     absurd (false≢true (sym (sym (side_same _ _) ∙ not-true _ (sym c.ne.ensures ∙ c.if-ne.true)) ∙ go.1))
 
--- and where none is left to lose none needs to be looked at
+-- and if no number may lose no move needs to be examined
 pub returns-then-is_empty-clause-no : goal.returns-then-is_empty-clause-no
 returns-then-is_empty-clause-no g c = λ y on e f. absurd (false≢true (sym f ∙ e))
 

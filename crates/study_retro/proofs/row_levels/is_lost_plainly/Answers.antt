@@ -6,7 +6,7 @@ use Rattle.study_retro.specs.ClassGame.{class_game}
 use Rattle.study_levels.specs.Numbered.{label_by}
 use Rattle.study_retro.proofs.row_levels.is_lost_plainly.Goals as goal
 
--- where each move is quiet, the quiet moves decide
+-- if each move is quiet, the quiet moves decide
 pub returns-then-moves-2-clause-yes : goal.returns-then-moves-2-clause-yes
 returns-then-moves-2-clause-yes g c = λ t.
     let q = c.requires.numbered in

@@ -13,7 +13,7 @@ use Rattle.study_review.proofs.walk.+add_below.Given as goal
 abbrev pub decreases-add_below : goal.decreases-add_below
 decreases-add_below g l = nodes_in (below_at (marked l.bench.now).tree.below l.trail.now.steps.items)
 
--- what is written, and any lines of the nodes that are left, are lines of all
+-- the text so far, and any lines of the remaining nodes, are lines of all
 abbrev pub invariant-loop-place : goal.invariant-loop-place
 invariant-loop-place g l = record {
   faults : g.V.Values.is_honest l.fn.values → GoesOn (FaultLines (marked l.bench)) l.fn.trail.steps.items

@@ -9,7 +9,7 @@ use Rattle.study_tree.proofs.changes.+rewrite_below.Given as goal
 abbrev pub decreases-rewrite_below : goal.decreases-rewrite_below
 decreases-rewrite_below g l = nodes_in (forest_of l.children.now.items)
 
--- what is left to be written gives the whole
+-- the rest to be written completes the whole
 abbrev pub invariant-loop-place : goal.invariant-loop-place
 invariant-loop-place g l =
     IsLeft (g.W.Rewriting.pass l.by) l.depth

@@ -2,7 +2,7 @@ use Rattle.std.proofs.Common.{◌≡◌, ◌+◌, drop}
 use Rattle.study_tree.specs.Forest.{forest_of, nodes_in}
 use Rattle.study_tree.proofs.node.+count_in.Given as goal
 
--- the count so far, and the nodes left, are all
+-- the count so far, and the remaining nodes, are all
 abbrev pub invariant-loop-node : goal.invariant-loop-node
 invariant-loop-node g l = l.count + nodes_in (forest_of (drop l.node-index l.nodes)) ≡ nodes_in (forest_of l.nodes)
 
