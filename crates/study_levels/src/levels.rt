@@ -1,5 +1,5 @@
 //! Levels: from the mates in at most so many plies to the mates in one more.
-ghost use Rattle.std.specs.Prelude.{◌≡◌, ◌≢◌, ◌+◌, ◌*◌, ◌^◌, ◌<◌, ◌≤◌, ◌⊎◌, ◌%◌, ℕ, false, length, slice_index, IsTrue};
+ghost use Rattle.std.specs.Prelude.{◌≡◌, ◌+◌, ◌*◌, ◌^◌, ◌<◌, ◌≤◌, ◌⊎◌, ◌%◌, ℕ, false, length, slice_index, IsTrue};
 ghost use Rattle.study_levels.specs.Propagation.{AreAdded, AreDropped, AreLowered};
 ghost use Rattle.study_levels.specs.Numbered.{CellsAreRight, CellsHavePositions, EndsRight, HasFarMate, IsNumberedClass};
 ghost use Rattle.study_levels.specs.Numbered.{LossesAreKept, LossesAreTrue, LossesGoBack, RowLossesAreKept, RowLossesAreTrue};

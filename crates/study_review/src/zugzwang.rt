@@ -1,6 +1,5 @@
 //! Mutual zugzwangs at the nodes of a study.
 ghost use Rattle.std.specs.Prelude.{◌≡◌, ◌++◌, ◌<◌, false, OnOk, IfOk, IfErr, IsErrOf};
-ghost use Rattle.study_board.specs.Position.{IsValid};
 ghost use Rattle.study_material.specs.declared.class.Class.{Class as AClass};
 ghost use Rattle.study_moves.specs.EnPassant.{has_legal_en_passant};
 ghost use Rattle.study_values.specs.Values.{IsNotDamage};
