@@ -13,5 +13,5 @@ mod tables;
 pub use options::{Form, Options, read_words};
 pub use program::{report_script, studyreport};
 pub use progress::Progress;
-pub use status::{put_file_fault, put_stop, put_studies};
+pub use status::{put_stop, put_studies};
 pub use tables::open_tables;
