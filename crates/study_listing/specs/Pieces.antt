@@ -4,6 +4,8 @@ use Rattle.std.specs.Io.KnownBytes.{Appends}
 use Rattle.study_material.specs.declared.class.Class.{Class}
 use Rattle.study_material.specs.Needs.{IsOrder}
 use Rattle.study_notation.specs.Fen.{digits_told}
+use Rattle.study_values.specs.declared.values.ProbeFault.{ProbeFault}
+use Rattle.study_values.specs.declared.values.ProbeFault.TheVariants.{NoTable, TableRead, PageDamaged}
 use Rattle.study_values.specs.Number.{cells_of}
 use Rattle.study_listing.specs.declared.filters.Selection.{Selection}
 use Rattle.study_listing.specs.declared.filter_words.Unread.{Unread}
@@ -53,6 +55,12 @@ AreThese false c classes = IsOrder c classes
 -- the classes whose tables are used: for a mutual zugzwang and the longest mate the class alone is enough
 abbrev pub AreLookedAt : Request → List Class → Type 0
 AreLookedAt r classes = AreThese (needs_one_table r) (class_of_request r) classes
+
+-- no table of some class is held, and nothing else is wrong
+abbrev pub IsMissing : (Class → Bool) → ProbeFault → Type 0
+IsMissing held (NoTable c) = held c ≡ false
+IsMissing held (TableRead f) = ⊥
+IsMissing held (PageDamaged c n) = ⊥
 
 -- ---- the text
 

@@ -1,14 +1,15 @@
-//! The facts in the text of a position.
-ghost use Rattle.std.specs.Prelude.{◌≡◌, ◌↔◌, true, false, IfOk, IfErr, IfSome, IsErrOf};
-ghost use Rattle.study_material.specs.declared.class.Class.{Class as AClass};
+//! What the text of a position says of it.
+#![tactic(auto, using(study_search::proofs::Faults::can_report, study_search::proofs::Faults::if_reported))]
+
+ghost use Rattle.std.specs.Prelude.{◌≡◌, true, IfOk, IfErr, IfSome};
 ghost use Rattle.study_moves.specs.Rules.{is_legal};
 ghost use Rattle.study_values.specs.Game.{IsValueOf};
-ghost use Rattle.study_values.specs.Values.{IsNotDamage};
+ghost use Rattle.study_search.specs.Faults.{CanReport, HasSameTables};
 ghost use Rattle.study_listing.specs.Facts.{AreFacts, IsOtherValue, IsOneKey, SaidIf, has_other, has_key};
 
 use study_board::Position;
 use study_moves::{Move, values_are_unique};
-use study_search::{Outcome, Theme, key_move};
+use study_search::{Outcome, Theme, key_move, value_of};
 use study_values::{ProbeFault, Value, Values};
 use study_zugzwang::handed_on;
 
@@ -59,10 +60,9 @@ fn find_key<V: Values>(
 ) -> Result<Option<Move>, ProbeFault>
     ensures game { V.is_honest values.old → IsValueOf p.now value → IfOk result (IsOneKey p.now) }
     ensures legal { IfOk result (λ key. IfSome key (λ m. is_legal p.now m ≡ true)) }
-    ensures no_table { (c : AClass) → IsErrOf result (ProbeFault.NoTable c) → V.held values.old c ≡ false }
-    ensures no_damage { V.is_honest values.old → IfErr result IsNotDamage }
+    ensures faults { IfErr result (CanReport V.held V.may_fail V.is_honest values.old) }
     ensures honest { V.is_honest values.old → V.is_honest values.new }
-    ensures tables { (c : AClass) → V.held values.new c ≡ V.held values.old c }
+    ensures tables { HasSameTables V.held V.may_fail values.old values.new }
 {
     values_are_unique();
     match value {
@@ -81,10 +81,9 @@ fn key_if<V: Values>(
 ) -> Result<Option<Move>, ProbeFault>
     ensures game { V.is_honest values.old → IsValueOf p.now value → IfOk result (SaidIf wanted (IsOneKey p.now)) }
     ensures legal { IfOk result (λ key. IfSome key (λ m. is_legal p.now m ≡ true)) }
-    ensures no_table { (c : AClass) → IsErrOf result (ProbeFault.NoTable c) → V.held values.old c ≡ false }
-    ensures no_damage { V.is_honest values.old → IfErr result IsNotDamage }
+    ensures faults { IfErr result (CanReport V.held V.may_fail V.is_honest values.old) }
     ensures honest { V.is_honest values.old → V.is_honest values.new }
-    ensures tables { (c : AClass) → V.held values.new c ≡ V.held values.old c }
+    ensures tables { HasSameTables V.held V.may_fail values.old values.new }
 {
     if wanted {
         return find_key(p, value, values);
@@ -95,14 +94,13 @@ fn key_if<V: Values>(
 /// The value with the other side to move, if that position is valid.
 fn other_value<V: Values>(p: &Position, values: &mut V) -> Result<Option<Value>, ProbeFault>
     ensures game { V.is_honest values.old → IfOk result (IsOtherValue p.now) }
-    ensures no_table { (c : AClass) → IsErrOf result (ProbeFault.NoTable c) → V.held values.old c ≡ false }
-    ensures no_damage { V.is_honest values.old → IfErr result IsNotDamage }
+    ensures faults { IfErr result (CanReport V.held V.may_fail V.is_honest values.old) }
     ensures honest { V.is_honest values.old → V.is_honest values.new }
-    ensures tables { (c : AClass) → V.held values.new c ≡ V.held values.old c }
+    ensures tables { HasSameTables V.held V.may_fail values.old values.new }
 {
     match handed_on(p) {
         None => Ok(None),
-        Some(q) => match values.value(&q) {
+        Some(q) => match value_of(&q, values) {
             Err(fault) => Err(fault),
             Ok(value) => Ok(Some(value)),
         },
@@ -116,10 +114,9 @@ fn other_if<V: Values>(
     values: &mut V,
 ) -> Result<Option<Value>, ProbeFault>
     ensures game { V.is_honest values.old → IfOk result (SaidIf wanted (IsOtherValue p.now)) }
-    ensures no_table { (c : AClass) → IsErrOf result (ProbeFault.NoTable c) → V.held values.old c ≡ false }
-    ensures no_damage { V.is_honest values.old → IfErr result IsNotDamage }
+    ensures faults { IfErr result (CanReport V.held V.may_fail V.is_honest values.old) }
     ensures honest { V.is_honest values.old → V.is_honest values.new }
-    ensures tables { (c : AClass) → V.held values.new c ≡ V.held values.old c }
+    ensures tables { HasSameTables V.held V.may_fail values.old values.new }
 {
     if wanted {
         return other_value(p, values);
@@ -135,12 +132,11 @@ pub fn facts_of<V: Values>(
 ) -> Result<Facts, ProbeFault>
     ensures game { V.is_honest values.old → IfOk result (AreFacts wanted.other wanted.key p.now) }
     ensures legal { IfOk result (λ f. IfSome f.key (λ m. is_legal p.now m ≡ true)) }
-    ensures no_table { (c : AClass) → IsErrOf result (ProbeFault.NoTable c) → V.held values.old c ≡ false }
-    ensures no_damage { V.is_honest values.old → IfErr result IsNotDamage }
+    ensures faults { IfErr result (CanReport V.held V.may_fail V.is_honest values.old) }
     ensures honest { V.is_honest values.old → V.is_honest values.new }
-    ensures tables { (c : AClass) → V.held values.new c ≡ V.held values.old c }
+    ensures tables { HasSameTables V.held V.may_fail values.old values.new }
 {
-    match values.value(p) {
+    match value_of(p, values) {
         Err(fault) => Err(fault),
         Ok(value) => match other_if(wanted.other, p, values) {
             Err(fault) => Err(fault),

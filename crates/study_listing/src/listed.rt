@@ -1,13 +1,14 @@
-//! Which of the found positions are listed, and which image of each.
-ghost use Rattle.std.specs.Prelude.{◌≡◌, ◌↔◌, ◌⊎◌, true, false, Some, is_some, IfOk, IfErr, IfSome, IfNone, IsErrOf};
+//! Which positions of those that are found are listed, and which image of each.
+#![tactic(auto, using(study_search::proofs::Faults::can_report, study_search::proofs::Faults::if_reported))]
+
+ghost use Rattle.std.specs.Prelude.{◌≡◌, ◌↔◌, true, Some, is_some, IfOk, IfErr, IfSome, IfNone};
 ghost use Rattle.study_board.specs.Position.{IsValid, Position as APosition};
 ghost use Rattle.study_index.specs.Computed.{position_numbered};
-ghost use Rattle.study_material.specs.declared.class.Class.{Class as AClass};
+ghost use Rattle.study_search.specs.Faults.{CanReport, HasSameTables};
 ghost use Rattle.study_search.specs.Finding.{IsFound, IsLookedFor};
 ghost use Rattle.study_search.specs.Pairs.{counterpart};
 ghost use Rattle.study_zugzwang.specs.Zugzwang.{handed_on};
-ghost use Rattle.study_values.specs.Values.{IsNotDamage};
-ghost use Rattle.study_listing.specs.Filters.{first_placed, turns, HasWantedKey};
+ghost use Rattle.study_listing.specs.Filters.{first_placed, turns};
 ghost use Rattle.study_listing.specs.Lists.{has_like_sides, is_of_zugzwangs, is_for_white, is_paired, second_placed, shown};
 ghost use Rattle.study_listing.specs.Lists.{IsOneOfPair, IsListed, IsListedAt, IsTextAt};
 
@@ -63,10 +64,9 @@ fn is_one_of_pair<V: Values>(
 ) -> Result<bool, ProbeFault>
     ensures game { V.is_honest values.old → IsLookedFor search.now p.now
         → IfOk result (λ b. (b ≡ true) ↔ IsOneOfPair search.now p.now) }
-    ensures no_table { (c : AClass) → IsErrOf result (ProbeFault.NoTable c) → V.held values.old c ≡ false }
-    ensures no_damage { V.is_honest values.old → IfErr result IsNotDamage }
+    ensures faults { IfErr result (CanReport V.held V.may_fail V.is_honest values.old) }
     ensures honest { V.is_honest values.old → V.is_honest values.new }
-    ensures tables { (c : AClass) → V.held values.new c ≡ V.held values.old c }
+    ensures tables { HasSameTables V.held V.may_fail values.old values.new }
 {
     let paired = is_paired(search);
     if paired {
@@ -118,10 +118,9 @@ fn is_listed<V: Values>(
 ) -> Result<bool, ProbeFault>
     ensures game { V.is_honest values.old → IsLookedFor selection.now.search p.now → is_some (shown selection.now p.now) ≡ true
         → IfOk result (λ b. (b ≡ true) ↔ IsListed selection.now p.now) }
-    ensures no_table { (c : AClass) → IsErrOf result (ProbeFault.NoTable c) → V.held values.old c ≡ false }
-    ensures no_damage { V.is_honest values.old → IfErr result IsNotDamage }
+    ensures faults { IfErr result (CanReport V.held V.may_fail V.is_honest values.old) }
     ensures honest { V.is_honest values.old → V.is_honest values.new }
-    ensures tables { (c : AClass) → V.held values.new c ≡ V.held values.old c }
+    ensures tables { HasSameTables V.held V.may_fail values.old values.new }
 {
     match is_one_of_pair(&selection.search, p, values) {
         Err(fault) => Err(fault),
@@ -142,10 +141,9 @@ fn image_listed<V: Values>(
         → IfOk result (λ at. IfSome at (λ q. shown selection.now p.now ≡ Some q)) }
     ensures none { V.is_honest values.old → IsLookedFor selection.now.search p.now
         → IfOk result (λ at. IfNone at (¬ (IsListed selection.now p.now))) }
-    ensures no_table { (c : AClass) → IsErrOf result (ProbeFault.NoTable c) → V.held values.old c ≡ false }
-    ensures no_damage { V.is_honest values.old → IfErr result IsNotDamage }
+    ensures faults { IfErr result (CanReport V.held V.may_fail V.is_honest values.old) }
     ensures honest { V.is_honest values.old → V.is_honest values.new }
-    ensures tables { (c : AClass) → V.held values.new c ≡ V.held values.old c }
+    ensures tables { HasSameTables V.held V.may_fail values.old values.new }
 {
     match shown(selection, p) {
         None => Ok(None),
@@ -169,10 +167,9 @@ pub(crate) fn listed_at<V: Values>(
         (p : APosition) × (position_numbered selection.now.search.class number ≡ Some p) × (shown selection.now p ≡ Some q))) }
     ensures none { V.is_honest values.old → IsFound selection.now.search number
         → IfOk result (λ at. IfNone at (¬ (IsListedAt selection.now number))) }
-    ensures no_table { (c : AClass) → IsErrOf result (ProbeFault.NoTable c) → V.held values.old c ≡ false }
-    ensures no_damage { V.is_honest values.old → IfErr result IsNotDamage }
+    ensures faults { IfErr result (CanReport V.held V.may_fail V.is_honest values.old) }
     ensures honest { V.is_honest values.old → V.is_honest values.new }
-    ensures tables { (c : AClass) → V.held values.new c ≡ V.held values.old c }
+    ensures tables { HasSameTables V.held V.may_fail values.old values.new }
 {
     match decode(selection.search.class, number) {
         None => Ok(None),
@@ -193,10 +190,9 @@ pub(crate) fn text_at<V: Values>(
         → IfOk result (λ at. IfSome at (λ text. IsTextAt selection.now form number text.bytes)) }
     ensures none { V.is_honest values.old → IsFound selection.now.search number
         → IfOk result (λ at. IfNone at (¬ (IsListedAt selection.now number))) }
-    ensures no_table { (c : AClass) → IsErrOf result (ProbeFault.NoTable c) → V.held values.old c ≡ false }
-    ensures no_damage { V.is_honest values.old → IfErr result IsNotDamage }
+    ensures faults { IfErr result (CanReport V.held V.may_fail V.is_honest values.old) }
     ensures honest { V.is_honest values.old → V.is_honest values.new }
-    ensures tables { (c : AClass) → V.held values.new c ≡ V.held values.old c }
+    ensures tables { HasSameTables V.held V.may_fail values.old values.new }
 {
     match listed_at(selection, number, values) {
         Err(fault) => Err(fault),

@@ -1,13 +1,14 @@
-//! The list of the found positions, written as they are found.
-ghost use Rattle.std.specs.Prelude.{◌≡◌, ◌≤◌, ◌<◌, ℕ, false, Some, IfOk, IfErr, OnErr, IsErrOf};
-ghost use Rattle.study_material.specs.declared.class.Class.{Class as AClass};
+//! The list of the positions that are found, as they are found.
+#![tactic(auto, using(study_search::proofs::Faults::can_report, study_search::proofs::Faults::if_reported))]
+
+ghost use Rattle.std.specs.Prelude.{◌≡◌, ◌≤◌, ◌<◌, ℕ, Some, IfOk, IfErr, IsErrOf};
+ghost use Rattle.study_search.specs.Faults.{CanReport, HasSameTables};
 ghost use Rattle.study_search.specs.declared.themes.Theme.TheVariants as theme;
 ghost use Rattle.study_values.specs.declared.values.ProbeFault.{ProbeFault as AFault};
 ghost use Rattle.study_values.specs.Number.{cells_of};
-ghost use Rattle.study_values.specs.Values.{IsNotDamage};
 ghost use Rattle.study_listing.specs.Filters.{no_filters};
 ghost use Rattle.study_listing.specs.Lists.{AreSoMany, HasWritten, HasWrittenSome, HasStopped, IsSelectionOf};
-ghost use Rattle.study_listing.specs.Stops.{StopsUndamaged};
+ghost use Rattle.study_listing.specs.Stops.{CanStop};
 
 use crate::fault::Stop;
 use crate::filters::{Filters, Selection};
@@ -65,10 +66,9 @@ pub fn count_numbers<V: Values, H: Watch>(
     watch: &mut H,
 ) -> Result<u32, ProbeFault>
     ensures count { V.is_honest values.old → IfOk result (AreSoMany selection.now numbers.from numbers.to) }
-    ensures no_table { (c : AClass) → IsErrOf result (ProbeFault.NoTable c) → V.held values.old c ≡ false }
-    ensures no_damage { V.is_honest values.old → IfErr result IsNotDamage }
+    ensures faults { IfErr result (CanReport V.held V.may_fail V.is_honest values.old) }
     ensures honest { V.is_honest values.old → V.is_honest values.new }
-    ensures tables { (c : AClass) → V.held values.new c ≡ V.held values.old c }
+    ensures tables { HasSameTables V.held V.may_fail values.old values.new }
 {
     let mut at = numbers.from;
     let mut count = 0u32;
@@ -111,10 +111,9 @@ pub fn list_numbers<V: Values, W: Write, H: Watch>(
     ensures device { V.is_honest values.old → IsErrOf result Stop.WriteDevice
         → HasStopped selection.now form numbers.from numbers.to (W.contents out.old) (W.contents out.new) }
     ensures fits { ¬ (IsErrOf result Stop.TooManyStudies) }
-    ensures no_table { (c : AClass) → IsErrOf result (Stop.Values (ProbeFault.NoTable c)) → V.held values.old c ≡ false }
-    ensures no_damage { V.is_honest values.old → IfErr result StopsUndamaged }
+    ensures faults { IfErr result (CanStop V.held V.may_fail V.is_honest values.old) }
     ensures honest { V.is_honest values.old → V.is_honest values.new }
-    ensures tables { (c : AClass) → V.held values.new c ≡ V.held values.old c }
+    ensures tables { HasSameTables V.held V.may_fail values.old values.new }
 {
     let mut at = numbers.from;
     let mut count = 0u32;
@@ -149,10 +148,9 @@ pub fn count_found<V: Values, H: Watch>(
     watch: &mut H,
 ) -> Result<u32, ProbeFault>
     ensures count { V.is_honest values.old → IfOk result (AreSoMany selection.now 0 (cells_of selection.now.search.class)) }
-    ensures no_table { (c : AClass) → IsErrOf result (ProbeFault.NoTable c) → V.held values.old c ≡ false }
-    ensures no_damage { V.is_honest values.old → IfErr result IsNotDamage }
+    ensures faults { IfErr result (CanReport V.held V.may_fail V.is_honest values.old) }
     ensures honest { V.is_honest values.old → V.is_honest values.new }
-    ensures tables { (c : AClass) → V.held values.new c ≡ V.held values.old c }
+    ensures tables { HasSameTables V.held V.may_fail values.old values.new }
 {
     let all = Numbers {
         from: 0,
@@ -175,10 +173,9 @@ fn list_lines<V: Values, W: Write, H: Watch>(
     ensures device { V.is_honest values.old → IsErrOf result Stop.WriteDevice
         → HasStopped selection.now Form.Lines 0 (cells_of selection.now.search.class) (W.contents out.old) (W.contents out.new) }
     ensures fits { ¬ (IsErrOf result Stop.TooManyStudies) }
-    ensures no_table { (c : AClass) → IsErrOf result (Stop.Values (ProbeFault.NoTable c)) → V.held values.old c ≡ false }
-    ensures no_damage { V.is_honest values.old → IfErr result StopsUndamaged }
+    ensures faults { IfErr result (CanStop V.held V.may_fail V.is_honest values.old) }
     ensures honest { V.is_honest values.old → V.is_honest values.new }
-    ensures tables { (c : AClass) → V.held values.new c ≡ V.held values.old c }
+    ensures tables { HasSameTables V.held V.may_fail values.old values.new }
 {
     let all = Numbers {
         from: 0,
@@ -204,10 +201,9 @@ fn list_studies<V: Values, W: Write, H: Watch>(
         → HasWrittenSome selection.now Form.Script 0 (cells_of selection.now.search.class) (W.contents out.old) (W.contents out.new) }
     ensures device { V.is_honest values.old → IsErrOf result Stop.WriteDevice
         → HasStopped selection.now Form.Script 0 (cells_of selection.now.search.class) (W.contents out.old) (W.contents out.new) }
-    ensures no_table { (c : AClass) → IsErrOf result (Stop.Values (ProbeFault.NoTable c)) → V.held values.old c ≡ false }
-    ensures no_damage { V.is_honest values.old → IfErr result StopsUndamaged }
+    ensures faults { IfErr result (CanStop V.held V.may_fail V.is_honest values.old) }
     ensures honest { V.is_honest values.old → V.is_honest values.new }
-    ensures tables { (c : AClass) → V.held values.new c ≡ V.held values.old c }
+    ensures tables { HasSameTables V.held V.may_fail values.old values.new }
 {
     let all = Numbers {
         from: 0,
@@ -242,10 +238,9 @@ pub fn list_found<V: Values, W: Write, H: Watch>(
         → HasWrittenSome selection.now form 0 (cells_of selection.now.search.class) (W.contents out.old) (W.contents out.new) }
     ensures device { V.is_honest values.old → IsErrOf result Stop.WriteDevice
         → HasStopped selection.now form 0 (cells_of selection.now.search.class) (W.contents out.old) (W.contents out.new) }
-    ensures no_table { (c : AClass) → IsErrOf result (Stop.Values (ProbeFault.NoTable c)) → V.held values.old c ≡ false }
-    ensures no_damage { V.is_honest values.old → IfErr result StopsUndamaged }
+    ensures faults { IfErr result (CanStop V.held V.may_fail V.is_honest values.old) }
     ensures honest { V.is_honest values.old → V.is_honest values.new }
-    ensures tables { (c : AClass) → V.held values.new c ≡ V.held values.old c }
+    ensures tables { HasSameTables V.held V.may_fail values.old values.new }
 {
     match form {
         Form::Lines => list_lines(selection, values, out, watch),
@@ -259,10 +254,9 @@ pub fn selection_of<V: Values>(
     values: &mut V,
 ) -> Result<Option<Selection>, ProbeFault>
     ensures game { V.is_honest values.old → IfOk result (IsSelectionOf request.now) }
-    ensures no_table { (c : AClass) → IsErrOf result (ProbeFault.NoTable c) → V.held values.old c ≡ false }
-    ensures no_damage { V.is_honest values.old → IfErr result IsNotDamage }
+    ensures faults { IfErr result (CanReport V.held V.may_fail V.is_honest values.old) }
     ensures honest { V.is_honest values.old → V.is_honest values.new }
-    ensures tables { (c : AClass) → V.held values.new c ≡ V.held values.old c }
+    ensures tables { HasSameTables V.held V.may_fail values.old values.new }
 {
     match request {
         Request::Positions(selection) => Ok(Some(*selection)),

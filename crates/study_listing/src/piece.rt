@@ -1,13 +1,13 @@
 //! A list piece by piece.
-ghost use Rattle.std.specs.Prelude.{◌≡◌, ◌++◌, ◌∷◌, [], false, IfErr, OnOk, IsErrOf, decimal};
+#![tactic(auto, using(study_search::proofs::Faults::can_report, study_search::proofs::Faults::if_reported))]
+
+ghost use Rattle.std.specs.Prelude.{◌≡◌, ◌∷◌, [], false, IfErr, OnOk, IsErrOf};
 ghost use Rattle.std.specs.Io.KnownBytes.{Appends};
 ghost use Rattle.study_material.specs.declared.class.Class.{Class as AClass};
-ghost use Rattle.study_values.specs.Number.{cells_of};
-ghost use Rattle.study_values.specs.Values.{IsNotDamage};
+ghost use Rattle.study_values.specs.declared.fault.SourceFault.{SourceFault as ASourceFault};
 ghost use Rattle.study_listing.specs.Lists.{IsSelectionOf};
-ghost use Rattle.study_listing.specs.Pieces.{AreLookedAt, end_of, how_far, HasWrittenPiece, HasWrittenLines};
-ghost use Rattle.study_listing.specs.Requests.{class_of_request};
-ghost use Rattle.study_listing.specs.Stops.{StopsUndamaged};
+ghost use Rattle.study_listing.specs.Pieces.{AreLookedAt, end_of, how_far, IsMissing, HasWrittenPiece, HasWrittenLines};
+ghost use Rattle.study_listing.specs.Stops.{CanStop, StopsUndamaged};
 
 use crate::fault::Stop;
 use crate::filters::Selection;
@@ -43,8 +43,7 @@ pub fn classes_for(request: &Request) -> ArrayVec<Class, CLASS_COUNT>
 
 /// Refuses a request if a needed table is missing, naming the first class without one.
 pub fn need_tables<V: Values>(request: &Request, values: &V) -> Result<(), ProbeFault>
-    ensures no_table { (c : AClass) → IsErrOf result (ProbeFault.NoTable c) → V.held values.now c ≡ false }
-    ensures no_damage { IfErr result IsNotDamage }
+    ensures { IfErr result (IsMissing (V.held values.now)) }
 {
     for class in classes_for(request) {
         if !values.holds(class) {
@@ -69,8 +68,8 @@ fn write_lines<V: Values, W: Write>(
     out: &mut W,
 ) -> Result<(), Stop>
     ensures lines { V.is_honest values.old → OnOk result (HasWrittenLines selection numbers.from numbers.to (W.contents out.old) (W.contents out.new)) }
-    ensures no_table { (c : AClass) → IsErrOf result (Stop.Values (ProbeFault.NoTable c)) → V.held values.old c ≡ false }
-    ensures no_damage { V.is_honest values.old → IfErr result StopsUndamaged }
+    ensures fits { ¬ (IsErrOf result Stop.TooManyStudies) }
+    ensures faults { IfErr result (CanStop V.held V.may_fail V.is_honest values.old) }
 {
     match selection {
         None => Ok(()),
@@ -102,6 +101,7 @@ fn how_far(end: u32, all: u32) -> ArrayString<32>
 fn write_how_far<W: Write>(out: &mut W, end: u32, all: u32) -> Result<(), Stop>
     ensures written { OnOk result (Appends (W.contents out.old) (W.contents out.new) (how_far end all)) }
     ensures device { IfErr result (λ stop. stop ≡ Stop.WriteDevice) }
+    ensures fits { ¬ (IsErrOf result Stop.TooManyStudies) }
 {
     match write_text(out, how_far(end, all).as_str().as_bytes()) {
         Err(_) => Err(Stop::WriteDevice),
@@ -118,8 +118,8 @@ fn write_selected<V: Values, W: Write>(
 ) -> Result<(), Stop>
     ensures text { V.is_honest values.old → IsSelectionOf piece.now.request selection
         → OnOk result (HasWrittenPiece piece.now (W.contents out.old) (W.contents out.new)) }
-    ensures no_table { (c : AClass) → IsErrOf result (Stop.Values (ProbeFault.NoTable c)) → V.held values.old c ≡ false }
-    ensures no_damage { V.is_honest values.old → IfErr result StopsUndamaged }
+    ensures fits { ¬ (IsErrOf result Stop.TooManyStudies) }
+    ensures faults { IfErr result (CanStop V.held V.may_fail V.is_honest values.old) }
 {
     let end = end_of(piece);
     let numbers = Numbers {
@@ -141,7 +141,9 @@ pub fn write_piece<V: Values, W: Write>(
 ) -> Result<(), Stop>
     ensures text { V.is_honest values.old → OnOk result (HasWrittenPiece piece.now (W.contents out.old) (W.contents out.new)) }
     ensures no_table { (c : AClass) → IsErrOf result (Stop.Values (ProbeFault.NoTable c)) → V.held values.old c ≡ false }
+    ensures failed_so { (f : ASourceFault) → IsErrOf result (Stop.Values (ProbeFault.TableRead f)) → (c : AClass) × V.may_fail values.old c f }
     ensures no_damage { V.is_honest values.old → IfErr result StopsUndamaged }
+    ensures fits { ¬ (IsErrOf result Stop.TooManyStudies) }
 {
     if let Err(fault) = need_tables(&piece.request, values) {
         return Err(Stop::Values(fault));

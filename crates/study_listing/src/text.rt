@@ -1,10 +1,11 @@
 //! A position in a line of text, and its study as a script.
-ghost use Rattle.std.specs.Prelude.{◌≡◌, ◌≤◌, ◌+◌, ◌++◌, ◌∷◌, [], true, false, length, decimal, codes, IfOk, IfErr, IfSome, IsErrOf};
+#![tactic(auto, using(study_search::proofs::Faults::can_report, study_search::proofs::Faults::if_reported))]
+
+ghost use Rattle.std.specs.Prelude.{◌≡◌, ◌≤◌, ◌+◌, ◌++◌, true, decimal, IfOk, IfErr, IfSome};
 ghost use Rattle.arrayvec.specs.ArrayString.{array_string_len};
-ghost use Rattle.study_material.specs.declared.class.Class.{Class as AClass};
 ghost use Rattle.study_moves.specs.Rules.{is_legal};
+ghost use Rattle.study_search.specs.Faults.{CanReport, HasSameTables};
 ghost use Rattle.study_search.specs.declared.themes.Theme.{Theme as ATheme};
-ghost use Rattle.study_values.specs.Values.{IsNotDamage};
 ghost use Rattle.study_reply.specs.Words.{value_words};
 ghost use Rattle.study_listing.specs.Facts.{IsTextOf};
 ghost use Rattle.study_listing.specs.Lines.{fen_of, value_after, move_after, line_of};
@@ -188,10 +189,9 @@ fn study_of(p: &Position, facts: &Facts) -> Listed
 /// The line of a position with this theme.
 fn line_text<V: Values>(p: &Position, theme: Theme, values: &mut V) -> Result<Listed, ProbeFault>
     ensures game { V.is_honest values.old → IfOk result (λ text. IsTextOf Form.Lines theme p.now text.bytes) }
-    ensures no_table { (c : AClass) → IsErrOf result (ProbeFault.NoTable c) → V.held values.old c ≡ false }
-    ensures no_damage { V.is_honest values.old → IfErr result IsNotDamage }
+    ensures faults { IfErr result (CanReport V.held V.may_fail V.is_honest values.old) }
     ensures honest { V.is_honest values.old → V.is_honest values.new }
-    ensures tables { (c : AClass) → V.held values.new c ≡ V.held values.old c }
+    ensures tables { HasSameTables V.held V.may_fail values.old values.new }
 {
     let wanted = wanted_for(theme);
     match facts_of(p, wanted, values) {
@@ -203,10 +203,9 @@ fn line_text<V: Values>(p: &Position, theme: Theme, values: &mut V) -> Result<Li
 /// The study of a position: the result of the side to move, and the only move that keeps it, if there is one.
 fn study_text<V: Values>(p: &Position, values: &mut V) -> Result<Listed, ProbeFault>
     ensures game { V.is_honest values.old → (t : ATheme) → IfOk result (λ text. IsTextOf Form.Script t p.now text.bytes) }
-    ensures no_table { (c : AClass) → IsErrOf result (ProbeFault.NoTable c) → V.held values.old c ≡ false }
-    ensures no_damage { V.is_honest values.old → IfErr result IsNotDamage }
+    ensures faults { IfErr result (CanReport V.held V.may_fail V.is_honest values.old) }
     ensures honest { V.is_honest values.old → V.is_honest values.new }
-    ensures tables { (c : AClass) → V.held values.new c ≡ V.held values.old c }
+    ensures tables { HasSameTables V.held V.may_fail values.old values.new }
 {
     let wanted = Wanted {
         other: false,
@@ -226,10 +225,9 @@ pub fn text_of<V: Values>(
     values: &mut V,
 ) -> Result<Listed, ProbeFault>
     ensures game { V.is_honest values.old → IfOk result (λ text. IsTextOf form theme p.now text.bytes) }
-    ensures no_table { (c : AClass) → IsErrOf result (ProbeFault.NoTable c) → V.held values.old c ≡ false }
-    ensures no_damage { V.is_honest values.old → IfErr result IsNotDamage }
+    ensures faults { IfErr result (CanReport V.held V.may_fail V.is_honest values.old) }
     ensures honest { V.is_honest values.old → V.is_honest values.new }
-    ensures tables { (c : AClass) → V.held values.new c ≡ V.held values.old c }
+    ensures tables { HasSameTables V.held V.may_fail values.old values.new }
 {
     match form {
         Form::Lines => line_text(p, theme, values),

@@ -1,3 +1,4 @@
+pub mod Faults
 pub mod OnlyMoves
 mod OneMove
 mod ThemeImages

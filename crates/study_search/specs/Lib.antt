@@ -1,3 +1,4 @@
+pub mod Faults
 pub mod OnlyMoves
 pub mod Listed
 pub mod Themes

@@ -1,7 +1,8 @@
 //! The positions of a class that have a theme, one after the other.
-ghost use Rattle.std.specs.Prelude.{◌≡◌, ◌≤◌, ◌<◌, ◌↔◌, true, false, IfOk, IfErr, IfSome, IsErrOf};
-ghost use Rattle.study_material.specs.declared.class.Class.{Class as AClass};
-ghost use Rattle.study_values.specs.Values.{IsNotDamage};
+#![tactic(auto, using(crate::proofs::Faults::can_report, crate::proofs::Faults::if_reported))]
+
+ghost use Rattle.std.specs.Prelude.{◌≡◌, ◌≤◌, ◌<◌, ◌↔◌, true, IfOk, IfErr, IfSome};
+ghost use Rattle.study_search.specs.Faults.{CanReport, HasSameTables};
 ghost use Rattle.study_search.specs.OnlyMoves.{IsMost};
 ghost use Rattle.study_search.specs.Finding.{is_for, IsLookedFor, IsFound, IsNext};
 
@@ -37,10 +38,9 @@ fn is_looked_for<V: Values>(
     values: &mut V,
 ) -> Result<bool, ProbeFault>
     ensures game { V.is_honest values.old → IfOk result (λ b. (b ≡ true) ↔ IsLookedFor search.now p.now) }
-    ensures no_table { (c : AClass) → IsErrOf result (ProbeFault.NoTable c) → V.held values.old c ≡ false }
-    ensures no_damage { V.is_honest values.old → IfErr result IsNotDamage }
+    ensures faults { IfErr result (CanReport V.held V.may_fail V.is_honest values.old) }
     ensures honest { V.is_honest values.old → V.is_honest values.new }
-    ensures tables { (c : AClass) → V.held values.new c ≡ V.held values.old c }
+    ensures tables { HasSameTables V.held V.may_fail values.old values.new }
 {
     let wanted = is_for(search.side, p.to_move());
     if wanted {
@@ -52,10 +52,9 @@ fn is_looked_for<V: Values>(
 /// Whether the number is that of a matching position.
 fn is_found<V: Values>(search: &Search, number: u32, values: &mut V) -> Result<bool, ProbeFault>
     ensures game { V.is_honest values.old → IfOk result (λ b. (b ≡ true) ↔ IsFound search.now number) }
-    ensures no_table { (c : AClass) → IsErrOf result (ProbeFault.NoTable c) → V.held values.old c ≡ false }
-    ensures no_damage { V.is_honest values.old → IfErr result IsNotDamage }
+    ensures faults { IfErr result (CanReport V.held V.may_fail V.is_honest values.old) }
     ensures honest { V.is_honest values.old → V.is_honest values.new }
-    ensures tables { (c : AClass) → V.held values.new c ≡ V.held values.old c }
+    ensures tables { HasSameTables V.held V.may_fail values.old values.new }
 {
     match decode(search.class, number) {
         None => Ok(false),
@@ -72,10 +71,9 @@ pub fn next_found<V: Values>(
 ) -> Result<Option<u32>, ProbeFault>
     ensures game { V.is_honest values.old → IfOk result (IsNext (IsFound search.now) from to) }
     ensures within { IfOk result (λ next. IfSome next (λ n. (from ≤ n) × (n < to))) }
-    ensures no_table { (c : AClass) → IsErrOf result (ProbeFault.NoTable c) → V.held values.old c ≡ false }
-    ensures no_damage { V.is_honest values.old → IfErr result IsNotDamage }
+    ensures faults { IfErr result (CanReport V.held V.may_fail V.is_honest values.old) }
     ensures honest { V.is_honest values.old → V.is_honest values.new }
-    ensures tables { (c : AClass) → V.held values.new c ≡ V.held values.old c }
+    ensures tables { HasSameTables V.held V.may_fail values.old values.new }
 {
     for number in from..to {
         match is_found(search, number, values) {
@@ -95,10 +93,9 @@ pub fn most_only_moves<V: Values>(
     values: &mut V,
 ) -> Result<Option<u8>, ProbeFault>
     ensures game { V.is_honest values.old → IfOk result (IsMost outcome p.now limit) }
-    ensures no_table { (c : AClass) → IsErrOf result (ProbeFault.NoTable c) → V.held values.old c ≡ false }
-    ensures no_damage { V.is_honest values.old → IfErr result IsNotDamage }
+    ensures faults { IfErr result (CanReport V.held V.may_fail V.is_honest values.old) }
     ensures honest { V.is_honest values.old → V.is_honest values.new }
-    ensures tables { (c : AClass) → V.held values.new c ≡ V.held values.old c }
+    ensures tables { HasSameTables V.held V.may_fail values.old values.new }
 {
     match has_only_moves(p, outcome, 0, values) {
         Err(fault) => return Err(fault),

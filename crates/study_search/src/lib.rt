@@ -12,6 +12,7 @@ mod longest;
 mod only_moves;
 mod pairs;
 mod themes;
+mod value;
 mod zugzwang;
 
 pub use finding::{Search, most_only_moves, next_found};
@@ -23,4 +24,5 @@ pub use longest::longest_mate;
 pub use only_moves::{Outcome, has_only_moves, key_move, only_move};
 pub use pairs::is_listed_of_two;
 pub use themes::{Theme, has_theme, is_underpromotion};
+pub use value::value_of;
 pub use zugzwang::is_zugzwang;

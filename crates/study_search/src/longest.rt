@@ -1,11 +1,13 @@
 //! The longest mate of a side in a class.
-ghost use Rattle.std.specs.Prelude.{◌≡◌, ◌↔◌, ℕ, Some, false, IfOk, IfErr, IsErrOf};
-ghost use Rattle.study_material.specs.declared.class.Class.{Class as AClass};
+#![tactic(auto, using(crate::proofs::Faults::can_report, crate::proofs::Faults::if_reported))]
+
+ghost use Rattle.std.specs.Prelude.{◌≡◌, ◌↔◌, ℕ, Some, IfOk, IfErr};
 ghost use Rattle.study_moves.specs.Game.{IsWon};
-ghost use Rattle.study_values.specs.Values.{IsNotDamage};
+ghost use Rattle.study_search.specs.Faults.{CanReport, HasSameTables};
 ghost use Rattle.study_search.specs.Longest.{longer, mate_by, MatesIn, MatesAt, IsLongest};
 
 use crate::finding::is_for;
+use crate::value::value_of;
 use study_board::{Position, Side};
 use study_index::decode;
 use study_material::Class;
@@ -37,13 +39,12 @@ fn mate_by(value: Value) -> Option<u8>
 /// The number of plies in which the side to move mates, if it does.
 pub fn mate_of<V: Values>(p: &Position, values: &mut V) -> Result<Option<u8>, ProbeFault>
     ensures game { V.is_honest values.old → IfOk result (λ mate. (k : ℕ) → (mate ≡ Some k) ↔ IsWon p.now k) }
-    ensures no_table { (c : AClass) → IsErrOf result (ProbeFault.NoTable c) → V.held values.old c ≡ false }
-    ensures no_damage { V.is_honest values.old → IfErr result IsNotDamage }
+    ensures faults { IfErr result (CanReport V.held V.may_fail V.is_honest values.old) }
     ensures honest { V.is_honest values.old → V.is_honest values.new }
-    ensures tables { (c : AClass) → V.held values.new c ≡ V.held values.old c }
+    ensures tables { HasSameTables V.held V.may_fail values.old values.new }
 {
     values_are_unique();
-    match values.value(p) {
+    match value_of(p, values) {
         Err(fault) => Err(fault),
         Ok(value) => Ok(mate_by(value)),
     }
@@ -52,10 +53,9 @@ pub fn mate_of<V: Values>(p: &Position, values: &mut V) -> Result<Option<u8>, Pr
 /// The number of plies in which the side mates, if it is to move and does.
 fn mate_for<V: Values>(p: &Position, side: Side, values: &mut V) -> Result<Option<u8>, ProbeFault>
     ensures game { V.is_honest values.old → IfOk result (λ mate. (k : ℕ) → (mate ≡ Some k) ↔ MatesIn side k p.now) }
-    ensures no_table { (c : AClass) → IsErrOf result (ProbeFault.NoTable c) → V.held values.old c ≡ false }
-    ensures no_damage { V.is_honest values.old → IfErr result IsNotDamage }
+    ensures faults { IfErr result (CanReport V.held V.may_fail V.is_honest values.old) }
     ensures honest { V.is_honest values.old → V.is_honest values.new }
-    ensures tables { (c : AClass) → V.held values.new c ≡ V.held values.old c }
+    ensures tables { HasSameTables V.held V.may_fail values.old values.new }
 {
     let wanted = is_for(Some(side), p.to_move());
     if wanted {
@@ -72,10 +72,9 @@ fn mate_at<V: Values>(
     values: &mut V,
 ) -> Result<Option<u8>, ProbeFault>
     ensures game { V.is_honest values.old → IfOk result (λ mate. (k : ℕ) → (mate ≡ Some k) ↔ MatesAt class side number k) }
-    ensures no_table { (c : AClass) → IsErrOf result (ProbeFault.NoTable c) → V.held values.old c ≡ false }
-    ensures no_damage { V.is_honest values.old → IfErr result IsNotDamage }
+    ensures faults { IfErr result (CanReport V.held V.may_fail V.is_honest values.old) }
     ensures honest { V.is_honest values.old → V.is_honest values.new }
-    ensures tables { (c : AClass) → V.held values.new c ≡ V.held values.old c }
+    ensures tables { HasSameTables V.held V.may_fail values.old values.new }
 {
     match decode(class, number) {
         None => Ok(None),
@@ -90,10 +89,9 @@ pub fn longest_mate<V: Values>(
     values: &mut V,
 ) -> Result<Option<u8>, ProbeFault>
     ensures game { V.is_honest values.old → IfOk result (IsLongest class side) }
-    ensures no_table { (c : AClass) → IsErrOf result (ProbeFault.NoTable c) → V.held values.old c ≡ false }
-    ensures no_damage { V.is_honest values.old → IfErr result IsNotDamage }
+    ensures faults { IfErr result (CanReport V.held V.may_fail V.is_honest values.old) }
     ensures honest { V.is_honest values.old → V.is_honest values.new }
-    ensures tables { (c : AClass) → V.held values.new c ≡ V.held values.old c }
+    ensures tables { HasSameTables V.held V.may_fail values.old values.new }
 {
     let mut longest = None;
     for number in 0..cells(class) {

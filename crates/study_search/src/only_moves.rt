@@ -1,13 +1,15 @@
-//! The number of only moves in a row that the defender can make the hero find, by the values of positions.
-ghost use Rattle.std.specs.Prelude.{◌≡◌, ◌≤◌, ◌↔◌, Some, true, false, length, IfOk, IfErr, IfSome, IsErrOf};
+//! How many only moves in a row the defender can make the hero find, by the values of positions.
+#![tactic(auto, using(crate::proofs::Faults::can_report, crate::proofs::Faults::if_reported))]
+
+ghost use Rattle.std.specs.Prelude.{◌≡◌, ◌≤◌, ◌↔◌, Some, true, length, IfOk, IfErr, IfSome};
 ghost use Rattle.std.specs.List.{All};
-ghost use Rattle.study_material.specs.declared.class.Class.{Class as AClass};
 ghost use Rattle.study_moves.specs.declared.moves.Move.{Move as AMove};
 ghost use Rattle.study_moves.specs.Rules.{is_legal};
-ghost use Rattle.study_values.specs.Values.{IsNotDamage};
+ghost use Rattle.study_search.specs.Faults.{CanReport, HasSameTables};
 ghost use Rattle.study_search.specs.OnlyMoves.{has_outcome, keeps_outcome, Has, Holds, IsOnlyMove, IsKey, HasOnlyMoves};
 ghost use Rattle.study_search.specs.Listed.{SomeLeads, IsOnlyAmong};
 
+use crate::value::value_of;
 use study_board::Position;
 use study_moves::{MAX_MOVES, Move, legal_moves, played, values_are_unique};
 use study_values::{ProbeFault, Value, Values};
@@ -48,13 +50,12 @@ pub(crate) fn has<V: Values>(
     values: &mut V,
 ) -> Result<bool, ProbeFault>
     ensures game { V.is_honest values.old → IfOk result (λ b. (b ≡ true) ↔ Has outcome p.now) }
-    ensures no_table { (c : AClass) → IsErrOf result (ProbeFault.NoTable c) → V.held values.old c ≡ false }
-    ensures no_damage { V.is_honest values.old → IfErr result IsNotDamage }
+    ensures faults { IfErr result (CanReport V.held V.may_fail V.is_honest values.old) }
     ensures honest { V.is_honest values.old → V.is_honest values.new }
-    ensures tables { (c : AClass) → V.held values.new c ≡ V.held values.old c }
+    ensures tables { HasSameTables V.held V.may_fail values.old values.new }
 {
     values_are_unique();
-    match values.value(p) {
+    match value_of(p, values) {
         Err(fault) => Err(fault),
         Ok(value) => Ok(has_outcome(outcome, value)),
     }
@@ -63,13 +64,12 @@ pub(crate) fn has<V: Values>(
 /// Whether the move that led here keeps the outcome.
 fn holds<V: Values>(q: &Position, outcome: Outcome, values: &mut V) -> Result<bool, ProbeFault>
     ensures game { V.is_honest values.old → IfOk result (λ b. (b ≡ true) ↔ Holds outcome q.now) }
-    ensures no_table { (c : AClass) → IsErrOf result (ProbeFault.NoTable c) → V.held values.old c ≡ false }
-    ensures no_damage { V.is_honest values.old → IfErr result IsNotDamage }
+    ensures faults { IfErr result (CanReport V.held V.may_fail V.is_honest values.old) }
     ensures honest { V.is_honest values.old → V.is_honest values.new }
-    ensures tables { (c : AClass) → V.held values.new c ≡ V.held values.old c }
+    ensures tables { HasSameTables V.held V.may_fail values.old values.new }
 {
     values_are_unique();
-    match values.value(q) {
+    match value_of(q, values) {
         Err(fault) => Err(fault),
         Ok(value) => Ok(keeps_outcome(outcome, value)),
     }
@@ -84,10 +84,9 @@ fn some_holds<V: Values>(
 ) -> Result<bool, ProbeFault>
     requires legal { All (λ m. is_legal p.now m ≡ true) moves.now }
     ensures game { V.is_honest values.old → IfOk result (λ b. (b ≡ true) ↔ SomeLeads (Holds outcome) p.now moves.now) }
-    ensures no_table { (c : AClass) → IsErrOf result (ProbeFault.NoTable c) → V.held values.old c ≡ false }
-    ensures no_damage { V.is_honest values.old → IfErr result IsNotDamage }
+    ensures faults { IfErr result (CanReport V.held V.may_fail V.is_honest values.old) }
     ensures honest { V.is_honest values.old → V.is_honest values.new }
-    ensures tables { (c : AClass) → V.held values.new c ≡ V.held values.old c }
+    ensures tables { HasSameTables V.held V.may_fail values.old values.new }
 {
     match moves.split_first() {
         None => Ok(false),
@@ -112,10 +111,9 @@ fn only_among<V: Values>(
     requires legal { All (λ m. is_legal p.now m ≡ true) moves.now }
     ensures game { V.is_honest values.old → IfOk result (λ only. (m : AMove) → (only ≡ Some m) ↔ IsOnlyAmong outcome p.now m moves.now) }
     ensures legal { IfOk result (λ only. IfSome only (λ m. is_legal p.now m ≡ true)) }
-    ensures no_table { (c : AClass) → IsErrOf result (ProbeFault.NoTable c) → V.held values.old c ≡ false }
-    ensures no_damage { V.is_honest values.old → IfErr result IsNotDamage }
+    ensures faults { IfErr result (CanReport V.held V.may_fail V.is_honest values.old) }
     ensures honest { V.is_honest values.old → V.is_honest values.new }
-    ensures tables { (c : AClass) → V.held values.new c ≡ V.held values.old c }
+    ensures tables { HasSameTables V.held V.may_fail values.old values.new }
 {
     match moves.split_first() {
         None => Ok(None),
@@ -142,10 +140,9 @@ pub fn only_move<V: Values>(
 ) -> Result<Option<Move>, ProbeFault>
     ensures game { V.is_honest values.old → IfOk result (λ only. (m : AMove) → (only ≡ Some m) ↔ IsOnlyMove outcome p.now m) }
     ensures legal { IfOk result (λ only. IfSome only (λ m. is_legal p.now m ≡ true)) }
-    ensures no_table { (c : AClass) → IsErrOf result (ProbeFault.NoTable c) → V.held values.old c ≡ false }
-    ensures no_damage { V.is_honest values.old → IfErr result IsNotDamage }
+    ensures faults { IfErr result (CanReport V.held V.may_fail V.is_honest values.old) }
     ensures honest { V.is_honest values.old → V.is_honest values.new }
-    ensures tables { (c : AClass) → V.held values.new c ≡ V.held values.old c }
+    ensures tables { HasSameTables V.held V.may_fail values.old values.new }
 {
     let moves = legal_moves(p);
     only_among(p, outcome, moves.as_slice(), values)
@@ -159,10 +156,9 @@ pub fn key_move<V: Values>(
 ) -> Result<Option<Move>, ProbeFault>
     ensures game { V.is_honest values.old → IfOk result (λ only. (m : AMove) → (only ≡ Some m) ↔ IsKey outcome p.now m) }
     ensures legal { IfOk result (λ only. IfSome only (λ m. is_legal p.now m ≡ true)) }
-    ensures no_table { (c : AClass) → IsErrOf result (ProbeFault.NoTable c) → V.held values.old c ≡ false }
-    ensures no_damage { V.is_honest values.old → IfErr result IsNotDamage }
+    ensures faults { IfErr result (CanReport V.held V.may_fail V.is_honest values.old) }
     ensures honest { V.is_honest values.old → V.is_honest values.new }
-    ensures tables { (c : AClass) → V.held values.new c ≡ V.held values.old c }
+    ensures tables { HasSameTables V.held V.may_fail values.old values.new }
 {
     match has(p, outcome, values) {
         Err(fault) => Err(fault),
@@ -183,10 +179,9 @@ fn some_reply_leads<V: Values>(
     requires legal { All (λ m. is_legal q.now m ≡ true) replies.now }
     requires few { length replies.now ≤ MAX_MOVES }
     ensures game { V.is_honest values.old → IfOk result (λ b. (b ≡ true) ↔ SomeLeads (HasOnlyMoves outcome n) q.now replies.now) }
-    ensures no_table { (c : AClass) → IsErrOf result (ProbeFault.NoTable c) → V.held values.old c ≡ false }
-    ensures no_damage { V.is_honest values.old → IfErr result IsNotDamage }
+    ensures faults { IfErr result (CanReport V.held V.may_fail V.is_honest values.old) }
     ensures honest { V.is_honest values.old → V.is_honest values.new }
-    ensures tables { (c : AClass) → V.held values.new c ≡ V.held values.old c }
+    ensures tables { HasSameTables V.held V.may_fail values.old values.new }
 {
     match replies.split_first() {
         None => Ok(false),
@@ -210,10 +205,9 @@ pub fn has_only_moves<V: Values>(
     values: &mut V,
 ) -> Result<bool, ProbeFault>
     ensures game { V.is_honest values.old → IfOk result (λ b. (b ≡ true) ↔ HasOnlyMoves outcome n p.now) }
-    ensures no_table { (c : AClass) → IsErrOf result (ProbeFault.NoTable c) → V.held values.old c ≡ false }
-    ensures no_damage { V.is_honest values.old → IfErr result IsNotDamage }
+    ensures faults { IfErr result (CanReport V.held V.may_fail V.is_honest values.old) }
     ensures honest { V.is_honest values.old → V.is_honest values.new }
-    ensures tables { (c : AClass) → V.held values.new c ≡ V.held values.old c }
+    ensures tables { HasSameTables V.held V.may_fail values.old values.new }
 {
     match has(p, outcome, values) {
         Err(fault) => Err(fault),

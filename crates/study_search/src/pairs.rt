@@ -1,11 +1,12 @@
-//! Which of the two placements of a mutual zugzwang is listed if both sides have the same men.
-ghost use Rattle.std.specs.Prelude.{◌≡◌, ◌↔◌, ◌≤◌, true, false, IfOk, IfErr, IsErrOf};
+//! Which of the two placements of a mutual zugzwang is listed where both sides have the same men.
+#![tactic(auto, using(crate::proofs::Faults::can_report, crate::proofs::Faults::if_reported))]
+
+ghost use Rattle.std.specs.Prelude.{◌≡◌, ◌↔◌, ◌≤◌, true, IfOk, IfErr};
 ghost use Rattle.study_board.specs.Position.{IsValid};
-ghost use Rattle.study_material.specs.declared.class.Class.{Class as AClass};
 ghost use Rattle.study_moves.specs.Game.{IsDrawn};
 ghost use Rattle.study_values.specs.Index.{index_of};
-ghost use Rattle.study_values.specs.Values.{IsNotDamage};
 ghost use Rattle.study_zugzwang.specs.Zugzwang.{handed_on};
+ghost use Rattle.study_search.specs.Faults.{CanReport, HasSameTables};
 ghost use Rattle.study_search.specs.Pairs.{ComesFirst, IsListedOfTwo};
 
 use crate::only_moves::{Outcome, has};
@@ -21,10 +22,9 @@ fn has_lower_number<V: Values>(
     values: &mut V,
 ) -> Result<bool, ProbeFault>
     ensures game { V.is_honest values.old → IfOk result (λ b. (b ≡ true) ↔ (¬ (IsDrawn q.now) × (index_of p.now ≤ index_of q.now))) }
-    ensures no_table { (c : AClass) → IsErrOf result (ProbeFault.NoTable c) → V.held values.old c ≡ false }
-    ensures no_damage { V.is_honest values.old → IfErr result IsNotDamage }
+    ensures faults { IfErr result (CanReport V.held V.may_fail V.is_honest values.old) }
     ensures honest { V.is_honest values.old → V.is_honest values.new }
-    ensures tables { (c : AClass) → V.held values.new c ≡ V.held values.old c }
+    ensures tables { HasSameTables V.held V.may_fail values.old values.new }
 {
     match has(q, Outcome::Draw, values) {
         Err(fault) => Err(fault),
@@ -40,10 +40,9 @@ fn has_lower_number<V: Values>(
 /// Whether the first of two positions is drawn or, if neither is, has the lower number.
 fn comes_first<V: Values>(p: &Position, q: &Position, values: &mut V) -> Result<bool, ProbeFault>
     ensures game { V.is_honest values.old → IfOk result (λ b. (b ≡ true) ↔ ComesFirst p.now q.now) }
-    ensures no_table { (c : AClass) → IsErrOf result (ProbeFault.NoTable c) → V.held values.old c ≡ false }
-    ensures no_damage { V.is_honest values.old → IfErr result IsNotDamage }
+    ensures faults { IfErr result (CanReport V.held V.may_fail V.is_honest values.old) }
     ensures honest { V.is_honest values.old → V.is_honest values.new }
-    ensures tables { (c : AClass) → V.held values.new c ≡ V.held values.old c }
+    ensures tables { HasSameTables V.held V.may_fail values.old values.new }
 {
     match has(p, Outcome::Draw, values) {
         Err(fault) => Err(fault),
@@ -55,10 +54,9 @@ fn comes_first<V: Values>(p: &Position, q: &Position, values: &mut V) -> Result<
 /// Whether, of a mutual zugzwang with White to move and its colour image with the other side to move, this one is listed.
 pub fn is_listed_of_two<V: Values>(p: &Position, values: &mut V) -> Result<bool, ProbeFault>
     ensures game { V.is_honest values.old → IsValid (handed_on p.now) → IfOk result (λ b. (b ≡ true) ↔ IsListedOfTwo p.now) }
-    ensures no_table { (c : AClass) → IsErrOf result (ProbeFault.NoTable c) → V.held values.old c ≡ false }
-    ensures no_damage { V.is_honest values.old → IfErr result IsNotDamage }
+    ensures faults { IfErr result (CanReport V.held V.may_fail V.is_honest values.old) }
     ensures honest { V.is_honest values.old → V.is_honest values.new }
-    ensures tables { (c : AClass) → V.held values.new c ≡ V.held values.old c }
+    ensures tables { HasSameTables V.held V.may_fail values.old values.new }
 {
     match handed_on(p) {
         None => Ok(false),

@@ -1,10 +1,11 @@
 //! The themes of positions: mutual zugzwangs, only moves, underpromotions and long mates.
-ghost use Rattle.std.specs.Prelude.{◌≡◌, ◌↔◌, true, false, IfOk, IfErr, IsErrOf};
+#![tactic(auto, using(crate::proofs::Faults::can_report, crate::proofs::Faults::if_reported))]
+
+ghost use Rattle.std.specs.Prelude.{◌≡◌, ◌↔◌, true, IfOk, IfErr};
 ghost use Rattle.std.specs.List.{All};
-ghost use Rattle.study_material.specs.declared.class.Class.{Class as AClass};
 ghost use Rattle.study_moves.specs.Game.{IsWon};
 ghost use Rattle.study_moves.specs.Rules.{is_legal};
-ghost use Rattle.study_values.specs.Values.{IsNotDamage};
+ghost use Rattle.study_search.specs.Faults.{CanReport, HasSameTables};
 ghost use Rattle.study_search.specs.Listed.{SomeLeads};
 ghost use Rattle.study_search.specs.Themes.{is_underpromoted, Underpromotes, LeadsIntoZugzwang, spoiling, FailsIntoZugzwang, HasTheme};
 
@@ -49,10 +50,9 @@ fn underpromotes<V: Values>(
     values: &mut V,
 ) -> Result<bool, ProbeFault>
     ensures game { V.is_honest values.old → IfOk result (λ b. (b ≡ true) ↔ Underpromotes outcome p.now) }
-    ensures no_table { (c : AClass) → IsErrOf result (ProbeFault.NoTable c) → V.held values.old c ≡ false }
-    ensures no_damage { V.is_honest values.old → IfErr result IsNotDamage }
+    ensures faults { IfErr result (CanReport V.held V.may_fail V.is_honest values.old) }
     ensures honest { V.is_honest values.old → V.is_honest values.new }
-    ensures tables { (c : AClass) → V.held values.new c ≡ V.held values.old c }
+    ensures tables { HasSameTables V.held V.may_fail values.old values.new }
 {
     match key_move(p, outcome, values) {
         Err(fault) => Err(fault),
@@ -63,10 +63,9 @@ fn underpromotes<V: Values>(
 
 fn draws_by_underpromotion<V: Values>(p: &Position, values: &mut V) -> Result<bool, ProbeFault>
     ensures game { V.is_honest values.old → IfOk result (λ b. (b ≡ true) ↔ Underpromotes Outcome.Draw p.now) }
-    ensures no_table { (c : AClass) → IsErrOf result (ProbeFault.NoTable c) → V.held values.old c ≡ false }
-    ensures no_damage { V.is_honest values.old → IfErr result IsNotDamage }
+    ensures faults { IfErr result (CanReport V.held V.may_fail V.is_honest values.old) }
     ensures honest { V.is_honest values.old → V.is_honest values.new }
-    ensures tables { (c : AClass) → V.held values.new c ≡ V.held values.old c }
+    ensures tables { HasSameTables V.held V.may_fail values.old values.new }
 {
     underpromotes(p, Outcome::Draw, values)
 }
@@ -74,10 +73,9 @@ fn draws_by_underpromotion<V: Values>(p: &Position, values: &mut V) -> Result<bo
 /// Whether exactly one move holds, and it promotes to less than a queen.
 fn holds_by_underpromotion<V: Values>(p: &Position, values: &mut V) -> Result<bool, ProbeFault>
     ensures game { V.is_honest values.old → IfOk result (λ b. (b ≡ true) ↔ HasTheme Theme.Underpromotion p.now) }
-    ensures no_table { (c : AClass) → IsErrOf result (ProbeFault.NoTable c) → V.held values.old c ≡ false }
-    ensures no_damage { V.is_honest values.old → IfErr result IsNotDamage }
+    ensures faults { IfErr result (CanReport V.held V.may_fail V.is_honest values.old) }
     ensures honest { V.is_honest values.old → V.is_honest values.new }
-    ensures tables { (c : AClass) → V.held values.new c ≡ V.held values.old c }
+    ensures tables { HasSameTables V.held V.may_fail values.old values.new }
 {
     match underpromotes(p, Outcome::Win, values) {
         Err(fault) => Err(fault),
@@ -93,10 +91,9 @@ fn leads_into_zugzwang<V: Values>(
     values: &mut V,
 ) -> Result<bool, ProbeFault>
     ensures game { V.is_honest values.old → IfOk result (λ b. (b ≡ true) ↔ LeadsIntoZugzwang outcome p.now) }
-    ensures no_table { (c : AClass) → IsErrOf result (ProbeFault.NoTable c) → V.held values.old c ≡ false }
-    ensures no_damage { V.is_honest values.old → IfErr result IsNotDamage }
+    ensures faults { IfErr result (CanReport V.held V.may_fail V.is_honest values.old) }
     ensures honest { V.is_honest values.old → V.is_honest values.new }
-    ensures tables { (c : AClass) → V.held values.new c ≡ V.held values.old c }
+    ensures tables { HasSameTables V.held V.may_fail values.old values.new }
 {
     match key_move(p, outcome, values) {
         Err(fault) => Err(fault),
@@ -125,10 +122,9 @@ fn fails_into_zugzwang<V: Values>(
     values: &mut V,
 ) -> Result<bool, ProbeFault>
     ensures game { V.is_honest values.old → IfOk result (λ b. (b ≡ true) ↔ FailsIntoZugzwang outcome q.now) }
-    ensures no_table { (c : AClass) → IsErrOf result (ProbeFault.NoTable c) → V.held values.old c ≡ false }
-    ensures no_damage { V.is_honest values.old → IfErr result IsNotDamage }
+    ensures faults { IfErr result (CanReport V.held V.may_fail V.is_honest values.old) }
     ensures honest { V.is_honest values.old → V.is_honest values.new }
-    ensures tables { (c : AClass) → V.held values.new c ≡ V.held values.old c }
+    ensures tables { HasSameTables V.held V.may_fail values.old values.new }
 {
     match only_move(q, spoiling(outcome), values) {
         Err(fault) => Err(fault),
@@ -149,10 +145,9 @@ fn some_fails_into_zugzwang<V: Values>(
 ) -> Result<bool, ProbeFault>
     requires legal { All (λ m. is_legal p.now m ≡ true) moves.now }
     ensures game { V.is_honest values.old → IfOk result (λ b. (b ≡ true) ↔ SomeLeads (FailsIntoZugzwang outcome) p.now moves.now) }
-    ensures no_table { (c : AClass) → IsErrOf result (ProbeFault.NoTable c) → V.held values.old c ≡ false }
-    ensures no_damage { V.is_honest values.old → IfErr result IsNotDamage }
+    ensures faults { IfErr result (CanReport V.held V.may_fail V.is_honest values.old) }
     ensures honest { V.is_honest values.old → V.is_honest values.new }
-    ensures tables { (c : AClass) → V.held values.new c ≡ V.held values.old c }
+    ensures tables { HasSameTables V.held V.may_fail values.old values.new }
 {
     match moves.split_first() {
         None => Ok(false),
@@ -174,10 +169,9 @@ fn has_zugzwang_try<V: Values>(
     values: &mut V,
 ) -> Result<bool, ProbeFault>
     ensures game { V.is_honest values.old → IfOk result (λ b. (b ≡ true) ↔ HasTheme (Theme.ZugzwangTry outcome) p.now) }
-    ensures no_table { (c : AClass) → IsErrOf result (ProbeFault.NoTable c) → V.held values.old c ≡ false }
-    ensures no_damage { V.is_honest values.old → IfErr result IsNotDamage }
+    ensures faults { IfErr result (CanReport V.held V.may_fail V.is_honest values.old) }
     ensures honest { V.is_honest values.old → V.is_honest values.new }
-    ensures tables { (c : AClass) → V.held values.new c ≡ V.held values.old c }
+    ensures tables { HasSameTables V.held V.may_fail values.old values.new }
 {
     match leads_into_zugzwang(p, outcome, values) {
         Err(fault) => Err(fault),
@@ -192,10 +186,9 @@ fn has_zugzwang_try<V: Values>(
 /// Whether the hero mates in so many plies, and not in fewer.
 fn mates_in<V: Values>(p: &Position, plies: u8, values: &mut V) -> Result<bool, ProbeFault>
     ensures game { V.is_honest values.old → IfOk result (λ b. (b ≡ true) ↔ IsWon p.now plies) }
-    ensures no_table { (c : AClass) → IsErrOf result (ProbeFault.NoTable c) → V.held values.old c ≡ false }
-    ensures no_damage { V.is_honest values.old → IfErr result IsNotDamage }
+    ensures faults { IfErr result (CanReport V.held V.may_fail V.is_honest values.old) }
     ensures honest { V.is_honest values.old → V.is_honest values.new }
-    ensures tables { (c : AClass) → V.held values.new c ≡ V.held values.old c }
+    ensures tables { HasSameTables V.held V.may_fail values.old values.new }
 {
     match mate_of(p, values) {
         Err(fault) => Err(fault),
@@ -207,10 +200,9 @@ fn mates_in<V: Values>(p: &Position, plies: u8, values: &mut V) -> Result<bool, 
 /// Whether the position has the theme.
 pub fn has_theme<V: Values>(p: &Position, theme: Theme, values: &mut V) -> Result<bool, ProbeFault>
     ensures game { V.is_honest values.old → IfOk result (λ b. (b ≡ true) ↔ HasTheme theme p.now) }
-    ensures no_table { (c : AClass) → IsErrOf result (ProbeFault.NoTable c) → V.held values.old c ≡ false }
-    ensures no_damage { V.is_honest values.old → IfErr result IsNotDamage }
+    ensures faults { IfErr result (CanReport V.held V.may_fail V.is_honest values.old) }
     ensures honest { V.is_honest values.old → V.is_honest values.new }
-    ensures tables { (c : AClass) → V.held values.new c ≡ V.held values.old c }
+    ensures tables { HasSameTables V.held V.may_fail values.old values.new }
 {
     match theme {
         Theme::Zugzwang => is_zugzwang(p, values),

@@ -1,9 +1,12 @@
-//! Mutual zugzwangs: the men are a valid position with either side to move, and the two sides to move score less than one point between them.
-ghost use Rattle.std.specs.Prelude.{◌≡◌, ◌<◌, ◌↔◌, true, false, IfOk, IfErr, IsErrOf};
-ghost use Rattle.study_material.specs.declared.class.Class.{Class as AClass};
-ghost use Rattle.study_values.specs.Values.{IsNotDamage};
-ghost use Rattle.study_zugzwang.specs.Zugzwang.{Scores, ScoresLessThan, ScoreLessThanAPoint, IsZugzwang};
+//! Mutual zugzwangs: with either side to move the men are a position, and the two who are to move score less than one
+//! point between them.
+#![tactic(auto, using(crate::proofs::Faults::can_report, crate::proofs::Faults::if_reported))]
 
+ghost use Rattle.std.specs.Prelude.{◌≡◌, ◌<◌, ◌↔◌, true, IfOk, IfErr};
+ghost use Rattle.study_zugzwang.specs.Zugzwang.{Scores, ScoresLessThan, ScoreLessThanAPoint, IsZugzwang};
+ghost use Rattle.study_search.specs.Faults.{CanReport, HasSameTables};
+
+use crate::value::value_of;
 use study_board::Position;
 use study_moves::{has_legal_en_passant, values_are_unique};
 use study_values::{ProbeFault, Values};
@@ -13,12 +16,11 @@ use study_zugzwang::{half_points, handed_on};
 fn score<V: Values>(p: &Position, values: &mut V) -> Result<u8, ProbeFault>
     ensures game { V.is_honest values.old → IfOk result (Scores p.now) }
     ensures few { IfOk result (λ k. k < 3) }
-    ensures no_table { (c : AClass) → IsErrOf result (ProbeFault.NoTable c) → V.held values.old c ≡ false }
-    ensures no_damage { V.is_honest values.old → IfErr result IsNotDamage }
+    ensures faults { IfErr result (CanReport V.held V.may_fail V.is_honest values.old) }
     ensures honest { V.is_honest values.old → V.is_honest values.new }
-    ensures tables { (c : AClass) → V.held values.new c ≡ V.held values.old c }
+    ensures tables { HasSameTables V.held V.may_fail values.old values.new }
 {
-    match values.value(p) {
+    match value_of(p, values) {
         Err(fault) => Err(fault),
         Ok(value) => Ok(half_points(value)),
     }
@@ -26,10 +28,9 @@ fn score<V: Values>(p: &Position, values: &mut V) -> Result<u8, ProbeFault>
 
 fn scores_less_than<V: Values>(p: &Position, limit: u8, values: &mut V) -> Result<bool, ProbeFault>
     ensures game { V.is_honest values.old → IfOk result (λ b. (b ≡ true) ↔ ScoresLessThan p.now limit) }
-    ensures no_table { (c : AClass) → IsErrOf result (ProbeFault.NoTable c) → V.held values.old c ≡ false }
-    ensures no_damage { V.is_honest values.old → IfErr result IsNotDamage }
+    ensures faults { IfErr result (CanReport V.held V.may_fail V.is_honest values.old) }
     ensures honest { V.is_honest values.old → V.is_honest values.new }
-    ensures tables { (c : AClass) → V.held values.new c ≡ V.held values.old c }
+    ensures tables { HasSameTables V.held V.may_fail values.old values.new }
 {
     values_are_unique();
     match score(p, values) {
@@ -45,10 +46,9 @@ fn score_less_than_a_point<V: Values>(
     values: &mut V,
 ) -> Result<bool, ProbeFault>
     ensures game { V.is_honest values.old → IfOk result (λ b. (b ≡ true) ↔ ScoreLessThanAPoint p.now q.now) }
-    ensures no_table { (c : AClass) → IsErrOf result (ProbeFault.NoTable c) → V.held values.old c ≡ false }
-    ensures no_damage { V.is_honest values.old → IfErr result IsNotDamage }
+    ensures faults { IfErr result (CanReport V.held V.may_fail V.is_honest values.old) }
     ensures honest { V.is_honest values.old → V.is_honest values.new }
-    ensures tables { (c : AClass) → V.held values.new c ≡ V.held values.old c }
+    ensures tables { HasSameTables V.held V.may_fail values.old values.new }
 {
     values_are_unique();
     match score(p, values) {
@@ -65,10 +65,9 @@ fn score_less_than_a_point<V: Values>(
 /// Whether the position is a mutual zugzwang, whoever is to move.
 pub fn is_zugzwang<V: Values>(p: &Position, values: &mut V) -> Result<bool, ProbeFault>
     ensures game { V.is_honest values.old → IfOk result (λ b. (b ≡ true) ↔ IsZugzwang p.now) }
-    ensures no_table { (c : AClass) → IsErrOf result (ProbeFault.NoTable c) → V.held values.old c ≡ false }
-    ensures no_damage { V.is_honest values.old → IfErr result IsNotDamage }
+    ensures faults { IfErr result (CanReport V.held V.may_fail V.is_honest values.old) }
     ensures honest { V.is_honest values.old → V.is_honest values.new }
-    ensures tables { (c : AClass) → V.held values.new c ≡ V.held values.old c }
+    ensures tables { HasSameTables V.held V.may_fail values.old values.new }
 {
     let passing = has_legal_en_passant(p);
     if passing {

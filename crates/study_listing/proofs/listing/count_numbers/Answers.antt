@@ -1,5 +1,6 @@
-use Rattle.std.proofs.Common.{◌+◌, ◌<◌, ◌≤◌, ◌∙◌, inl, arith}
+use Rattle.std.proofs.Common.{◌+◌, ◌<◌, ◌≤◌, inl, arith}
 use Rattle.study_search.specs.Finding.{IsFound}
+use Rattle.study_search.proofs.Faults.{same_on}
 use Rattle.study_listing.specs.Lists.{IsListedAt}
 use Rattle.study_listing.proofs.Written.{not-listed, none-listed, many-on, many-more, many-end, next-none, next-some, if-some, if-none}
 use Rattle.study_listing.proofs.listing.count_numbers.Goals as goal
@@ -22,7 +23,7 @@ loop-at-preserved-in-Ok-None g c =
           (not-listed s at end (next-none (IsFound s.search) at end c.in-Ok-None.field-0 (c.in-Ok-None.ensures.game (c.loop-at.invariant.honest h))
           c.in-Ok-None.field-0-is));
       honest = λ h. c.next_found.ensures.honest (c.loop-at.invariant.honest h);
-      tables = λ k. c.next_found.ensures.tables k ∙ c.loop-at.invariant.tables k;
+      tables = same_on c.loop-at.invariant.tables c.next_found.ensures.tables;
     }
 
 pub loop-at-preserved-in-Ok-None-listed_at : goal.loop-at-preserved-in-Ok-None-listed_at
@@ -50,7 +51,7 @@ loop-at-preserved-in-Ok-None-listed_at g c =
           (c.in-Ok-None-listed_at.ensures.none (c.next_found.ensures.honest honest) first.2) c.in-Ok-None-listed_at.field-0-is in
           many-on s c.args.numbers.from at (n + 1) c.loop-at.count (c.loop-at.invariant.counted h) on (none-listed s at n first.3 not);
       honest = λ h. c.listed_at.ensures.honest (c.next_found.ensures.honest (c.loop-at.invariant.honest h));
-      tables = λ k. c.listed_at.ensures.tables k ∙ c.next_found.ensures.tables k ∙ c.loop-at.invariant.tables k;
+      tables = same_on (same_on c.loop-at.invariant.tables c.next_found.ensures.tables) c.listed_at.ensures.tables;
     }
 
 pub loop-at-preserved : goal.loop-at-preserved
@@ -77,7 +78,7 @@ loop-at-preserved g c =
           (c.in-Ok-Some-listed_at.ensures.some (c.next_found.ensures.honest honest) first.2) c.in-Ok-Some-listed_at.field-0-is in
           many-more s c.args.numbers.from at n c.loop-at.count (c.loop-at.invariant.counted h) from up (not-listed s at n first.3) listed;
       honest = λ h. c.listed_at.ensures.honest (c.next_found.ensures.honest (c.loop-at.invariant.honest h));
-      tables = λ k. c.listed_at.ensures.tables k ∙ c.next_found.ensures.tables k ∙ c.loop-at.invariant.tables k;
+      tables = same_on (same_on c.loop-at.invariant.tables c.next_found.ensures.tables) c.listed_at.ensures.tables;
     }
 
 pub returns-clause-count : goal.returns-clause-count

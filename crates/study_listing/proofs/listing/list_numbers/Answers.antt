@@ -2,6 +2,7 @@ use Rattle.std.proofs.Common.{ℕ, ◌+◌, ◌<◌, ◌≤◌, ◌∙◌, List,
 use Rattle.std.specs.Io.KnownBytes.{Appends}
 use Rattle.study_text.specs.Taken.{TakesPrefix}
 use Rattle.study_search.specs.Finding.{IsFound}
+use Rattle.study_search.proofs.Faults.{same_on}
 use Rattle.study_listing.specs.Lists.{IsListedAt, IsTextAt}
 use Rattle.study_listing.proofs.Written.{not-listed, none-listed, written-on, written-more, written-stopped, written-end, next-none, next-some, if-some, if-none}
 use Rattle.study_listing.proofs.listing.list_numbers.Goals as goal
@@ -25,7 +26,7 @@ loop-at-preserved-in-Ok-None g c =
           (not-listed s at end (next-none (IsFound s.search) at end c.in-Ok-None.field-0 (c.in-Ok-None.ensures.game (c.loop-at.invariant.honest h))
           c.in-Ok-None.field-0-is));
       honest = λ h. c.next_found.ensures.honest (c.loop-at.invariant.honest h);
-      tables = λ k. c.next_found.ensures.tables k ∙ c.loop-at.invariant.tables k;
+      tables = same_on c.loop-at.invariant.tables c.next_found.ensures.tables;
     }
 
 pub loop-at-preserved-in-Ok-None-text_at : goal.loop-at-preserved-in-Ok-None-text_at
@@ -57,7 +58,7 @@ loop-at-preserved-in-Ok-None-text_at g c =
           written-on s c.args.form c.args.numbers.from at (n + 1) old mid c.loop-at.count (c.loop-at.invariant.written h) on
           (none-listed s at n first.3 not);
       honest = λ h. c.text_at.ensures.honest (c.next_found.ensures.honest (c.loop-at.invariant.honest h));
-      tables = λ k. c.text_at.ensures.tables k ∙ c.next_found.ensures.tables k ∙ c.loop-at.invariant.tables k;
+      tables = same_on (same_on c.loop-at.invariant.tables c.next_found.ensures.tables) c.text_at.ensures.tables;
     }
 
 pub returns-in-Err-write_text-clause-device : goal.returns-in-Err-write_text-clause-device
@@ -121,7 +122,7 @@ loop-at-preserved g c =
           (c.loop-at.invariant.written h) from up (not-listed s at n first.3) listed said
           (subst (λ (t : List ℕ). Appends mid (g.W.Write.contents c.write_text.new.out) t) same c.in-Ok.ensures.ok);
       honest = λ h. c.text_at.ensures.honest (c.next_found.ensures.honest (c.loop-at.invariant.honest h));
-      tables = λ k. c.text_at.ensures.tables k ∙ c.next_found.ensures.tables k ∙ c.loop-at.invariant.tables k;
+      tables = same_on (same_on c.loop-at.invariant.tables c.next_found.ensures.tables) c.text_at.ensures.tables;
     }
 
 pub returns-clause-list : goal.returns-clause-list

@@ -1,5 +1,5 @@
 use Rattle.std.proofs.Common.{◌≡◌, ◌-◌, ◌≤◌, ◌⊎◌}
-use Rattle.study_material.specs.declared.class.Class.{Class}
+use Rattle.study_search.specs.Faults.{HasSameTables}
 use Rattle.study_listing.specs.Lists.{HasWritten}
 use Rattle.study_listing.proofs.listing.list_numbers.Given as goal
 
@@ -11,7 +11,7 @@ invariant-loop-at g l = record {
   written : g.V.Values.is_honest l.fn.values
       → HasWritten l.selection l.form l.numbers.from l.at (g.W.Write.contents l.fn.out) (g.W.Write.contents l.out) l.count;
   honest : g.V.Values.is_honest l.fn.values → g.V.Values.is_honest l.values;
-  tables : (c : Class) → g.V.Values.held l.values c ≡ g.V.Values.held l.fn.values c;
+  tables : HasSameTables g.V.Values.held g.V.Values.may_fail l.fn.values l.values;
 }
 
 abbrev pub decreases-loop-at : goal.decreases-loop-at

@@ -1,5 +1,4 @@
-use Rattle.std.proofs.Common.{◌≡◌}
-use Rattle.study_material.specs.declared.class.Class.{Class}
+use Rattle.study_search.specs.Faults.{HasSameTables}
 use Rattle.study_search.specs.OnlyMoves.{HasOnlyMoves}
 use Rattle.study_search.proofs.finding.most_only_moves.Given as goal
 
@@ -7,5 +6,5 @@ abbrev pub invariant-loop-n : goal.invariant-loop-n
 invariant-loop-n g l = record {
   line : g.V.Values.is_honest l.fn.values → HasOnlyMoves l.outcome l.n l.p;
   honest : g.V.Values.is_honest l.fn.values → g.V.Values.is_honest l.values;
-  tables : (c : Class) → g.V.Values.held l.values c ≡ g.V.Values.held l.fn.values c;
+  tables : HasSameTables g.V.Values.held g.V.Values.may_fail l.fn.values l.values;
 }

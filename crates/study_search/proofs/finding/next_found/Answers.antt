@@ -1,5 +1,6 @@
-use Rattle.std.proofs.Common.{rules, arith, ◌≤◌, ◌<◌, ◌∙◌}
+use Rattle.std.proofs.Common.{rules, arith, ◌≤◌, ◌<◌}
 use Rattle.study_search.specs.Finding.{IsFound}
+use Rattle.study_search.proofs.Faults.{same_on}
 use Rattle.study_search.proofs.AllFound.{none-more}
 use Rattle.study_search.proofs.finding.next_found.Goals as goal
 
@@ -15,7 +16,7 @@ loop-number-preserved g c = record {
       none-more (IsFound c.args.search.now) c.args.from c.loop-number.number c.in-Ok-false.field-0 (c.loop-number.invariant.none h)
       c.in-Ok-false.field-0-test (c.in-Ok-false.ensures.game (c.loop-number.invariant.honest h));
   honest = λ h. c.is_found.ensures.honest (c.loop-number.invariant.honest h);
-  tables = λ k. c.is_found.ensures.tables k ∙ c.loop-number.invariant.tables k;
+  tables = same_on c.loop-number.invariant.tables c.is_found.ensures.tables;
 }
 
 pub returns-clause-game : goal.returns-clause-game

@@ -1,5 +1,5 @@
-use Rattle.std.proofs.Common.{◌≡◌, ℕ, ◌<◌, ◌≤◌}
-use Rattle.study_material.specs.declared.class.Class.{Class}
+use Rattle.std.proofs.Common.{ℕ, ◌<◌, ◌≤◌}
+use Rattle.study_search.specs.Faults.{HasSameTables}
 use Rattle.study_search.specs.Finding.{IsFound}
 use Rattle.study_search.proofs.finding.next_found.Given as goal
 
@@ -7,5 +7,5 @@ abbrev pub invariant-loop-number : goal.invariant-loop-number
 invariant-loop-number g l = record {
   none : g.V.Values.is_honest l.fn.values → (k : ℕ) → l.from ≤ k → k < l.number → ¬ (IsFound l.search k);
   honest : g.V.Values.is_honest l.fn.values → g.V.Values.is_honest l.values;
-  tables : (c : Class) → g.V.Values.held l.values c ≡ g.V.Values.held l.fn.values c;
+  tables : HasSameTables g.V.Values.held g.V.Values.may_fail l.fn.values l.values;
 }

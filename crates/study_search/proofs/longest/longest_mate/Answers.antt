@@ -1,6 +1,7 @@
-use Rattle.std.proofs.Common.{arith, ℕ, ◌+◌, ◌≤◌, Option, sym, ◌∙◌, subst}
+use Rattle.std.proofs.Common.{arith, ℕ, ◌+◌, ◌≤◌, Option, sym, subst}
 use Rattle.study_values.specs.Number.{cells_of}
 use Rattle.study_search.specs.Longest.{MatesAt}
+use Rattle.study_search.proofs.Faults.{same_on}
 use Rattle.study_search.proofs.LongestFound.{IsLongestBelow, longest-more, longest-all}
 use Rattle.study_search.proofs.longest.longest_mate.Goals as goal
 
@@ -11,7 +12,7 @@ loop-number-preserved g c = record {
       (longest-more (MatesAt c.args.class c.args.side) c.loop-number.number c.loop-number.longest c.in-Ok.mate
       (c.loop-number.invariant.longest h) (c.in-Ok.ensures.game (c.loop-number.invariant.honest h)));
   honest = λ h. c.mate_at.ensures.honest (c.loop-number.invariant.honest h);
-  tables = λ k. c.mate_at.ensures.tables k ∙ c.loop-number.invariant.tables k;
+  tables = same_on c.loop-number.invariant.tables c.mate_at.ensures.tables;
 }
 
 pub returns-clause-game : goal.returns-clause-game

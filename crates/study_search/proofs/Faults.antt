@@ -1,0 +1,39 @@
+-- What can come of a later evaluation could have come before the first.
+use Rattle.std.proofs.Common.{◌≡◌, Bool, false, Result, Ok, Err, IfErr, ◌↔◌, refl, sym, ◌∙◌}
+use Rattle.std.specs.Prelude.{IsErrOf}
+use Rattle.study_board.specs.Position.{Position, IsValid}
+use Rattle.study_material.specs.declared.class.Class.{Class}
+use Rattle.study_material.specs.Class.{IsOf}
+use Rattle.study_material.proofs.EachHasClass.{class_exists}
+use Rattle.study_values.specs.declared.fault.SourceFault.{SourceFault}
+use Rattle.study_values.specs.declared.value.Value.{Value}
+use Rattle.study_values.specs.declared.values.ProbeFault.{ProbeFault}
+use Rattle.study_values.specs.declared.values.ProbeFault.TheVariants.{NoTable, TableRead, PageDamaged}
+use Rattle.study_values.specs.Values.{IsNotDamage}
+use Rattle.study_search.specs.Faults.{CanReport, HasSameTables}
+
+pub same_on : {V : Type 0} {held : V → Class → Bool} {may_fail : V → Class → SourceFault → Type 0} {old mid new : V}
+    → HasSameTables held may_fail old mid → HasSameTables held may_fail mid new → HasSameTables held may_fail old new
+same_on h k = record { same = λ c. k.same c ∙ h.same c; fails = λ c f m. h.fails c f (k.fails c f m) }
+
+module _ {V : Type 0} (held : V → Class → Bool) (may_fail : V → Class → SourceFault → Type 0) (is_honest : V → Type 0) where
+  -- what a probe reports
+  pub probed : (p : Position) → IsValid p → (old : V) (r : Result Value ProbeFault)
+      → ((c : Class) → IsErrOf r (NoTable c) ↔ (IsOf c p × (held old c ≡ false)))
+      → ((c : Class) (f : SourceFault) → IsOf c p → IsErrOf r (TableRead f) → may_fail old c f) → (is_honest old → IfErr r IsNotDamage)
+      → IfErr r (CanReport held may_fail is_honest old)
+  probed p valid old (Ok v) lacks fails right = tt
+  probed p valid old (Err (NoTable c)) lacks fails right = ((lacks c).0 refl).1
+  probed p valid old (Err (TableRead f)) lacks fails right = let own = class_exists p valid in (own.0, fails own.0 f own.1 refl)
+  probed p valid old (Err (PageDamaged c n)) lacks fails right = right
+
+  pub can_report : (old new : V) (f : ProbeFault) → CanReport held may_fail is_honest new f → HasSameTables held may_fail old new
+      → (is_honest old → is_honest new) → CanReport held may_fail is_honest old f
+  can_report old new (NoTable c) e tables honest = sym (tables.same c) ∙ e
+  can_report old new (TableRead f) e tables honest = (e.0, tables.fails e.0 f e.1)
+  can_report old new (PageDamaged c n) e tables honest = λ h. e (honest h)
+
+  pub if_reported : {T : Type 0} (old new : V) (r : Result T ProbeFault) → IfErr r (CanReport held may_fail is_honest new) → HasSameTables held may_fail old new
+      → (is_honest old → is_honest new) → IfErr r (CanReport held may_fail is_honest old)
+  if_reported old new (Ok x) e tables honest = tt
+  if_reported old new (Err f) e tables honest = can_report old new f e tables honest

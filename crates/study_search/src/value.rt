@@ -1,0 +1,18 @@
+//! The value of a position, and which fault can come in its place.
+ghost use Rattle.std.specs.Prelude.{IfOk, IfErr};
+ghost use Rattle.study_values.specs.Game.{IsValueOf};
+ghost use Rattle.study_search.specs.Faults.{CanReport, HasSameTables};
+
+use study_board::Position;
+use study_values::{ProbeFault, Value, Values};
+
+/// The value of a position.
+pub fn value_of<V: Values>(p: &Position, values: &mut V) -> Result<Value, ProbeFault>
+    ensures game { V.is_honest values.old → IfOk result (IsValueOf p.now) }
+    ensures faults { IfErr result (CanReport V.held V.may_fail V.is_honest values.old) }
+    ensures honest { V.is_honest values.old → V.is_honest values.new }
+    ensures tables { HasSameTables V.held V.may_fail values.old values.new }
+{
+    let _men = p.men();
+    values.value(p)
+}
