@@ -2,6 +2,8 @@
 #![tactic(auto, using(crate::proofs::Faults::can_report, crate::proofs::Faults::if_reported))]
 
 ghost use Rattle.std.specs.Prelude.{◌≡◌, ◌≤◌, ◌<◌, ◌↔◌, true, IfOk, IfErr, IfSome};
+ghost use Rattle.study_values.specs.Number.{without_bit};
+ghost use Rattle.study_index.specs.Decoded.{slots_of, told_side};
 ghost use Rattle.study_search.specs.Faults.{CanReport, HasSameTables};
 ghost use Rattle.study_search.specs.OnlyMoves.{IsMost};
 ghost use Rattle.study_search.specs.Finding.{is_for, IsLookedFor, IsFound, IsNext};
@@ -9,7 +11,7 @@ ghost use Rattle.study_search.specs.Finding.{is_for, IsLookedFor, IsFound, IsNex
 use crate::only_moves::{Outcome, has_only_moves};
 use crate::themes::{Theme, has_theme};
 use study_board::{Position, Side};
-use study_index::decode;
+use study_index::{decode, told};
 use study_material::Class;
 use study_values::{ProbeFault, Values};
 
@@ -31,7 +33,16 @@ pub fn is_for(wanted: Option<Side>, to_move: Side) -> bool
     }
 }
 
-/// Whether the position matches the search.
+/// The side that is to move in the position of a number, if there is one: it is read off before the men are.
+#[inline]
+pub fn side_at(class: Class, number: u32) -> Side
+    ensures { result ≡ told_side (slots_of class) (without_bit number) }
+{
+    let setup = told(class, number);
+    setup.to_move
+}
+
+/// Whether the position is looked for.
 fn is_looked_for<V: Values>(
     p: &Position,
     search: &Search,
@@ -56,6 +67,10 @@ fn is_found<V: Values>(search: &Search, number: u32, values: &mut V) -> Result<b
     ensures honest { V.is_honest values.old → V.is_honest values.new }
     ensures tables { HasSameTables V.held V.may_fail values.old values.new }
 {
+    let wanted = is_for(search.side, side_at(search.class, number));
+    if !wanted {
+        return Ok(false);
+    }
     match decode(search.class, number) {
         None => Ok(false),
         Some(p) => is_looked_for(&p, search, values),

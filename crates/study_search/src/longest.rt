@@ -6,7 +6,7 @@ ghost use Rattle.study_moves.specs.Game.{IsWon};
 ghost use Rattle.study_search.specs.Faults.{CanReport, HasSameTables};
 ghost use Rattle.study_search.specs.Longest.{longer, mate_by, MatesIn, MatesAt, IsLongest};
 
-use crate::finding::is_for;
+use crate::finding::{is_for, side_at};
 use crate::value::value_of;
 use study_board::{Position, Side};
 use study_index::decode;
@@ -76,6 +76,10 @@ fn mate_at<V: Values>(
     ensures honest { V.is_honest values.old → V.is_honest values.new }
     ensures tables { HasSameTables V.held V.may_fail values.old values.new }
 {
+    let wanted = is_for(Some(side), side_at(class, number));
+    if !wanted {
+        return Ok(None);
+    }
     match decode(class, number) {
         None => Ok(None),
         Some(p) => mate_for(&p, side, values),

@@ -3,8 +3,9 @@
 #![tactic(auto, using(crate::proofs::Faults::can_report, crate::proofs::Faults::if_reported))]
 
 ghost use Rattle.std.specs.Prelude.{◌≡◌, ◌<◌, ◌↔◌, true, IfOk, IfErr};
-ghost use Rattle.study_zugzwang.specs.Zugzwang.{Scores, ScoresLessThan, ScoreLessThanAPoint, IsZugzwang};
+ghost use Rattle.study_zugzwang.specs.Zugzwang.{Scores, ScoresLessThan, IsZugzwang};
 ghost use Rattle.study_search.specs.Faults.{CanReport, HasSameTables};
+ghost use Rattle.study_search.specs.Listed.{OtherScoresLess};
 
 use crate::value::value_of;
 use study_board::Position;
@@ -39,13 +40,26 @@ fn scores_less_than<V: Values>(p: &Position, limit: u8, values: &mut V) -> Resul
     }
 }
 
-/// Whether the two sides to move score less than a point between them. If the first wins, the second is not evaluated.
-fn score_less_than_a_point<V: Values>(
-    p: &Position,
-    q: &Position,
-    values: &mut V,
-) -> Result<bool, ProbeFault>
-    ensures game { V.is_honest values.old → IfOk result (λ b. (b ≡ true) ↔ ScoreLessThanAPoint p.now q.now) }
+/// Whether no capture in passing is legal, and the same men are a position with the other side to move, in which that side scores less.
+fn other_scores_less<V: Values>(p: &Position, limit: u8, values: &mut V) -> Result<bool, ProbeFault>
+    ensures game { V.is_honest values.old → IfOk result (λ b. (b ≡ true) ↔ OtherScoresLess p.now limit) }
+    ensures faults { IfErr result (CanReport V.held V.may_fail V.is_honest values.old) }
+    ensures honest { V.is_honest values.old → V.is_honest values.new }
+    ensures tables { HasSameTables V.held V.may_fail values.old values.new }
+{
+    let passing = has_legal_en_passant(p);
+    if passing {
+        return Ok(false);
+    }
+    match handed_on(p) {
+        None => Ok(false),
+        Some(q) => scores_less_than(&q, limit, values),
+    }
+}
+
+/// Whether the position is a mutual zugzwang, whoever is to move. Where the side to move wins, nothing else is looked at.
+pub fn is_zugzwang<V: Values>(p: &Position, values: &mut V) -> Result<bool, ProbeFault>
+    ensures game { V.is_honest values.old → IfOk result (λ b. (b ≡ true) ↔ IsZugzwang p.now) }
     ensures faults { IfErr result (CanReport V.held V.may_fail V.is_honest values.old) }
     ensures honest { V.is_honest values.old → V.is_honest values.new }
     ensures tables { HasSameTables V.held V.may_fail values.old values.new }
@@ -57,24 +71,7 @@ fn score_less_than_a_point<V: Values>(
             if points == 2 {
                 return Ok(false);
             }
-            scores_less_than(q, 2 - points, values)
+            other_scores_less(p, 2 - points, values)
         }
-    }
-}
-
-/// Whether the position is a mutual zugzwang, whoever is to move.
-pub fn is_zugzwang<V: Values>(p: &Position, values: &mut V) -> Result<bool, ProbeFault>
-    ensures game { V.is_honest values.old → IfOk result (λ b. (b ≡ true) ↔ IsZugzwang p.now) }
-    ensures faults { IfErr result (CanReport V.held V.may_fail V.is_honest values.old) }
-    ensures honest { V.is_honest values.old → V.is_honest values.new }
-    ensures tables { HasSameTables V.held V.may_fail values.old values.new }
-{
-    let passing = has_legal_en_passant(p);
-    if passing {
-        return Ok(false);
-    }
-    match handed_on(p) {
-        None => Ok(false),
-        Some(q) => score_less_than_a_point(p, &q, values),
     }
 }

@@ -1,14 +1,11 @@
-use Rattle.std.proofs.Common.{sym, ◌∙◌}
-use Rattle.study_zugzwang.proofs.Zugzwangs.{no-zugzwang, no-other, zugzwang-by}
+use Rattle.study_search.proofs.HalfPoints.{none-won, zugzwang-left}
 use Rattle.study_search.proofs.zugzwang.is_zugzwang.Goals as goal
 
-pub returns-then-passing-clause-game : goal.returns-then-passing-clause-game
-returns-then-passing-clause-game g c h = no-zugzwang c.args.p.now (sym c.has_legal_en_passant-passing.ensures ∙ c.if-passing.true)
+pub returns-then-points-eq2-clause-game : goal.returns-then-points-eq2-clause-game
+returns-then-points-eq2-clause-game g c h =
+    none-won c.values_are_unique.ensures c.args.p.now c.in-Ok.points (c.in-Ok.ensures.game h) c.if-points-eq2.true
 
-pub returns-in-None-clause-game : goal.returns-in-None-clause-game
-returns-in-None-clause-game g c h = no-other c.args.p.now c.in-None.ensures.none
-
-pub returns-in-Some-clause-game : goal.returns-in-Some-clause-game
-returns-in-Some-clause-game g c h =
-    zugzwang-by c.args.p.now c.in-Some.q c.score_less_than_a_point.result (sym c.has_legal_en_passant-passing.ensures ∙ c.if-passing.false)
-    c.in-Some.ensures.some.0 c.in-Some.ensures.some.1 (c.score_less_than_a_point.ensures.game h)
+pub returns-else-points-eq2-clause-game : goal.returns-else-points-eq2-clause-game
+returns-else-points-eq2-clause-game g c h =
+    zugzwang-left c.values_are_unique.ensures c.args.p.now c.in-Ok.points c.other_scores_less.result (c.in-Ok.ensures.game h)
+    c.in-Ok.ensures.few (c.other_scores_less.ensures.game (c.score.ensures.honest h))
