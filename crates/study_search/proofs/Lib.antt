@@ -1,4 +1,5 @@
 pub mod Faults
+mod LeastMate
 pub mod OnlyMoves
 mod OneMove
 mod HalfPoints

@@ -3,7 +3,7 @@ use Rattle.std.proofs.Common.{◌≡◌, ℕ, ◌-◌, ◌<◌, Bool, true, fals
 use Rattle.std.specs.List.{Contains, AllPairs}
 use Rattle.std.specs.Prelude.{slice_index_or}
 use Rattle.std.proofs.lemmas.Bool.{false≢true}
-use Rattle.study_board.specs.Position.{Position}
+use Rattle.study_board.specs.Position.{Position, IsValid}
 use Rattle.study_moves.specs.declared.moves.Move.{Move}
 use Rattle.study_moves.specs.Rules.{is_legal, after}
 use Rattle.study_moves.specs.Laws.{EachHasAtMostOneValue}
@@ -15,6 +15,7 @@ use Rattle.study_search.specs.declared.only_moves.Outcome.{Outcome}
 use Rattle.study_search.specs.declared.only_moves.Outcome.TheVariants.{Win, Draw}
 use Rattle.study_search.specs.OnlyMoves.{Has, Holds, IsOnlyMove, IsKey, HasOnlyMoves, has_outcome, keeps_outcome}
 use Rattle.study_search.specs.Listed.{SomeLeads, IsOnlyAmong}
+use Rattle.study_search.proofs.LeastMate.{first-there, later-there, won-by}
 
 -- by the value
 pub has-by : EachHasAtMostOneValue → (o : Outcome) (p : Position) (v : Value) → IsValueOf p v → (has_outcome o v ≡ true) ↔ Has o p
@@ -42,12 +43,6 @@ pub some-at : (P : Position → Type 0) (q : Position) (ms : List Move) (m : Mov
 some-at P q [] m k l e h = absurd (omega (arith, l))
 some-at P q (n ∷ ms) m zero l e h = inl (subst (λ (x : Move). P (after q x)) (sym e) h)
 some-at P q (n ∷ ms) m (suc k) l e h = inr (some-at P q ms m k (let z : k < length ms = omega (arith, l) in z) e h)
-
-first-there : (n : Move) (ms : List Move) → Contains (n ∷ ms) n
-first-there n ms = (0, (let z : 0 < length (n ∷ ms) = omega arith in z), refl)
-
-later-there : (n : Move) (ms : List Move) (m : Move) → Contains ms m → Contains (n ∷ ms) m
-later-there n ms m c = (suc c.0, (let l = c.1 in let z : suc c.0 < length (n ∷ ms) = omega (arith, l) in z), c.2)
 
 pub some-to : (P : Position → Type 0) (q : Position) (ms : List Move) → SomeLeads P q ms → (m : Move) × Contains ms m × P (after q m)
 some-to P q [] h = absurd h
@@ -180,6 +175,22 @@ line-by o (suc n) p q m ms r some more has only is legal g =
         let c = (legal-is z.0).1 z.1 in
         g2.1 (some-at (HasOnlyMoves o n) (after p m) ms z.0 c.0 c.1 c.2 z.2)
 
+none-is-some : (m : Move) → None ≡ Some m → ⊥
+none-is-some m e = cc
+
+-- who has an only move to win wins
+pub has-of : (o : Outcome) (p : Position) (m : Move) → IsValid p → (o ≡ Draw → Has Draw p) → IsOnlyMove o p m → Has o p
+has-of Win p m valid draws only = won-by p m valid only.legal only.holds.0 only.holds.1.0
+has-of Draw p m valid draws only = draws refl
+
+pub no-line : (o : Outcome) (n : ℕ) (p : Position) (only : Option Move) → (n ≡ 0 → ⊥) → ((m : Move) → (only ≡ Some m) ↔ IsOnlyMove o p m) → only ≡ None
+    → (false ≡ true) ↔ HasOnlyMoves o n p
+no-line o zero p only some h e = absurd (some refl)
+no-line o (suc n) p only some h e = ((λ f. absurd (false≢true f)), (λ a. absurd (none-is-some a.1.0 (sym e ∙ (h a.1.0).1 a.1.1))))
+
+pub line-of-one : (o : Outcome) (n : ℕ) (p : Position) (m : Move) → n ≡ 1 → Has o p → IsOnlyMove o p m → (true ≡ true) ↔ HasOnlyMoves o n p
+line-of-one o n p m e has only = ((λ t. subst (λ k. HasOnlyMoves o k p) (sym e) (has, (m, only, inl refl))), (λ a. refl))
+
 pub line-fewer : (o : Outcome) (n : ℕ) (p : Position) → HasOnlyMoves o (suc n) p → HasOnlyMoves o n p
 line-fewer o zero p a = a.0
 line-fewer o (suc n) p a = (a.0, (a.1.0, a.1.1, fewer (λ q. line-fewer o n q) a.1.0 a.1.2))
@@ -190,10 +201,7 @@ line-fewer o (suc n) p a = (a.0, (a.1.0, a.1.1, fewer (λ q. line-fewer o n q) a
     fewer less m (inl e) = absurd (omega (arith, e))
     fewer less m (inr y) = inr (y.0, y.1, less (after (after p m) y.0) y.2)
 
--- the key, whether the position has the outcome or not
-none-is-some : (m : Move) → None ≡ Some m → ⊥
-none-is-some m e = cc
-
+-- the key, where the position has the outcome or not
 pub no-key : (o : Outcome) (p : Position) (b : Bool) → ((b ≡ true) ↔ Has o p) → b ≡ false → (m : Move) → (None ≡ Some m) ↔ IsKey o p m
 no-key o p b h e m = ((λ x. absurd (none-is-some m x)), (λ k. absurd (false≢true (sym e ∙ h.1 k.0))))
 

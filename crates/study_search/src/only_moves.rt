@@ -1,7 +1,7 @@
 //! How many only moves in a row the defender can make the hero find, by the values of positions.
 #![tactic(auto, using(crate::proofs::Faults::can_report, crate::proofs::Faults::if_reported))]
 
-ghost use Rattle.std.specs.Prelude.{◌≡◌, ◌≤◌, ◌↔◌, Some, true, length, IfOk, IfErr, IfSome};
+ghost use Rattle.std.specs.Prelude.{◌≡◌, ◌≤◌, ◌<◌, ◌↔◌, Some, true, length, IfOk, IfErr, IfSome};
 ghost use Rattle.std.specs.List.{All};
 ghost use Rattle.study_moves.specs.declared.moves.Move.{Move as AMove};
 ghost use Rattle.study_moves.specs.Rules.{is_legal};
@@ -178,6 +178,7 @@ fn some_reply_leads<V: Values>(
 ) -> Result<bool, ProbeFault>
     requires legal { All (λ m. is_legal q.now m ≡ true) replies.now }
     requires few { length replies.now ≤ MAX_MOVES }
+    requires some { 0 < n }
     ensures game { V.is_honest values.old → IfOk result (λ b. (b ≡ true) ↔ SomeLeads (HasOnlyMoves outcome n) q.now replies.now) }
     ensures faults { IfErr result (CanReport V.held V.may_fail V.is_honest values.old) }
     ensures honest { V.is_honest values.old → V.is_honest values.new }
@@ -187,12 +188,64 @@ fn some_reply_leads<V: Values>(
         None => Ok(false),
         Some((r, rest)) => {
             let next = played(q, *r);
-            match has_only_moves(&next, outcome, n, values) {
+            match has_only_moves_on(&next, outcome, n, values) {
                 Err(fault) => Err(fault),
                 Ok(true) => Ok(true),
                 Ok(false) => some_reply_leads(q, outcome, n, rest, values),
             }
         }
+    }
+}
+
+/// Whether the hero, who is to move, has to find n only moves in a row, of a position that he draws if a draw is the outcome. That he wins, if a
+/// win is, follows from the move that holds.
+#[cycle(line)]
+fn finds_only_moves<V: Values>(
+    p: &Position,
+    outcome: Outcome,
+    n: u8,
+    values: &mut V,
+) -> Result<bool, ProbeFault>
+    requires { 0 < n }
+    ensures game { V.is_honest values.old → (outcome ≡ Outcome.Draw → Has Outcome.Draw p.now)
+        → IfOk result (λ b. (b ≡ true) ↔ HasOnlyMoves outcome n p.now) }
+    ensures faults { IfErr result (CanReport V.held V.may_fail V.is_honest values.old) }
+    ensures honest { V.is_honest values.old → V.is_honest values.new }
+    ensures tables { HasSameTables V.held V.may_fail values.old values.new }
+{
+    let _men = p.men();
+    match only_move(p, outcome, values) {
+        Err(fault) => Err(fault),
+        Ok(None) => Ok(false),
+        Ok(Some(m)) => {
+            if n == 1 {
+                return Ok(true);
+            }
+            let next = played(p, m);
+            let replies = legal_moves(&next);
+            some_reply_leads(&next, outcome, n - 1, replies.as_slice(), values)
+        }
+    }
+}
+
+/// The same as `has_only_moves`, after a reply to a move that holds. A hero who wins before the reply wins after it, so that whether he wins is not
+/// evaluated again.
+#[cycle(line)]
+fn has_only_moves_on<V: Values>(
+    p: &Position,
+    outcome: Outcome,
+    n: u8,
+    values: &mut V,
+) -> Result<bool, ProbeFault>
+    requires { 0 < n }
+    ensures game { V.is_honest values.old → IfOk result (λ b. (b ≡ true) ↔ HasOnlyMoves outcome n p.now) }
+    ensures faults { IfErr result (CanReport V.held V.may_fail V.is_honest values.old) }
+    ensures honest { V.is_honest values.old → V.is_honest values.new }
+    ensures tables { HasSameTables V.held V.may_fail values.old values.new }
+{
+    match outcome {
+        Outcome::Win => finds_only_moves(p, outcome, n, values),
+        Outcome::Draw => has_only_moves(p, outcome, n, values),
     }
 }
 
@@ -216,18 +269,7 @@ pub fn has_only_moves<V: Values>(
             if n == 0 {
                 return Ok(true);
             }
-            match only_move(p, outcome, values) {
-                Err(fault) => Err(fault),
-                Ok(None) => Ok(false),
-                Ok(Some(m)) => {
-                    if n == 1 {
-                        return Ok(true);
-                    }
-                    let next = played(p, m);
-                    let replies = legal_moves(&next);
-                    some_reply_leads(&next, outcome, n - 1, replies.as_slice(), values)
-                }
-            }
+            finds_only_moves(p, outcome, n, values)
         }
     }
 }
