@@ -1,4 +1,4 @@
-//! What the text of a position says of it.
+//! The facts in the text of a position.
 #![tactic(auto, using(study_search::proofs::Faults::can_report, study_search::proofs::Faults::if_reported))]
 
 ghost use Rattle.std.specs.Prelude.{◌≡◌, true, IfOk, IfErr, IfSome};

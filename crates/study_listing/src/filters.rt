@@ -1,4 +1,4 @@
-//! Filters: where men stand, and how the key goes.
+//! Filters: the squares of men, and the kind of key.
 #![tactic(auto, using(study_search::proofs::Faults::can_report, study_search::proofs::Faults::if_reported))]
 
 ghost use Rattle.std.specs.Prelude.{◌≡◌, ◌↔◌, true, IfOk, IfErr, IfSome};

@@ -1,4 +1,4 @@
-//! Which positions of those that are found are listed, and which image of each.
+//! Which of the found positions are listed, and which image of each.
 #![tactic(auto, using(study_search::proofs::Faults::can_report, study_search::proofs::Faults::if_reported))]
 
 ghost use Rattle.std.specs.Prelude.{◌≡◌, ◌↔◌, true, Some, is_some, IfOk, IfErr, IfSome, IfNone};

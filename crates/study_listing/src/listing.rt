@@ -1,4 +1,4 @@
-//! The list of the positions that are found, as they are found.
+//! The list of the found positions, written as they are found.
 #![tactic(auto, using(study_search::proofs::Faults::can_report, study_search::proofs::Faults::if_reported))]
 
 ghost use Rattle.std.specs.Prelude.{◌≡◌, ◌≤◌, ◌<◌, ℕ, Some, IfOk, IfErr, IsErrOf};

@@ -201,7 +201,7 @@ line-fewer o (suc n) p a = (a.0, (a.1.0, a.1.1, fewer (λ q. line-fewer o n q) a
     fewer less m (inl e) = absurd (omega (arith, e))
     fewer less m (inr y) = inr (y.0, y.1, less (after (after p m) y.0) y.2)
 
--- the key, where the position has the outcome or not
+-- the key, whether the position has the outcome or not
 pub no-key : (o : Outcome) (p : Position) (b : Bool) → ((b ≡ true) ↔ Has o p) → b ≡ false → (m : Move) → (None ≡ Some m) ↔ IsKey o p m
 no-key o p b h e m = ((λ x. absurd (none-is-some m x)), (λ k. absurd (false≢true (sym e ∙ h.1 k.0))))
 

@@ -19,7 +19,7 @@ side-told c n p e = by_test (is_entry c n) e
     by_test false f = absurd (let no : None ≡ Some p = f in cc)
     by_test true f = ap (λ (q : Position). q.to_move) (sym (let same : Some (position_told c n) ≡ Some p = f in let is : position_told c n ≡ p = cc in is))
 
--- where another side is to move nothing is found
+-- if another side is to move nothing is found
 pub not-found : (s : Search) (n : ℕ) → is_for s.side (told_side (slots_of s.class) (without_bit n)) ≡ false → (false ≡ true) ↔ IsFound s n
 not-found s n e = (
   (λ f. absurd (false≢true f)),

@@ -33,7 +33,7 @@ pub fn is_for(wanted: Option<Side>, to_move: Side) -> bool
     }
 }
 
-/// The side that is to move in the position of a number, if there is one: it is read off before the men are.
+/// The side to move in the position of a number, if there is one: it is decoded before the men are.
 #[inline]
 pub fn side_at(class: Class, number: u32) -> Side
     ensures { result ≡ told_side (slots_of class) (without_bit number) }
@@ -42,7 +42,7 @@ pub fn side_at(class: Class, number: u32) -> Side
     setup.to_move
 }
 
-/// Whether the position is looked for.
+/// Whether the position matches the search.
 fn is_looked_for<V: Values>(
     p: &Position,
     search: &Search,

@@ -1,4 +1,4 @@
-//! How many only moves in a row the defender can make the hero find, by the values of positions.
+//! The number of only moves in a row that the defender can make the hero find, by the values of positions.
 #![tactic(auto, using(crate::proofs::Faults::can_report, crate::proofs::Faults::if_reported))]
 
 ghost use Rattle.std.specs.Prelude.{◌≡◌, ◌≤◌, ◌<◌, ◌↔◌, Some, true, length, IfOk, IfErr, IfSome};

@@ -1,4 +1,4 @@
-//! Which of the two placements of a mutual zugzwang is listed where both sides have the same men.
+//! Which of the two placements of a mutual zugzwang is listed if both sides have the same men.
 #![tactic(auto, using(crate::proofs::Faults::can_report, crate::proofs::Faults::if_reported))]
 
 ghost use Rattle.std.specs.Prelude.{◌≡◌, ◌↔◌, ◌≤◌, true, IfOk, IfErr};

@@ -1,4 +1,4 @@
-//! The value of a position, and which fault can come in its place.
+//! The value of a position, or a fault that the values can report.
 ghost use Rattle.std.specs.Prelude.{IfOk, IfErr};
 ghost use Rattle.study_values.specs.Game.{IsValueOf};
 ghost use Rattle.study_search.specs.Faults.{CanReport, HasSameTables};

@@ -1,5 +1,4 @@
-//! Mutual zugzwangs: with either side to move the men are a position, and the two who are to move score less than one
-//! point between them.
+//! Mutual zugzwangs: the men are a valid position with either side to move, and the two sides to move score less than one point between them.
 #![tactic(auto, using(crate::proofs::Faults::can_report, crate::proofs::Faults::if_reported))]
 
 ghost use Rattle.std.specs.Prelude.{◌≡◌, ◌<◌, ◌↔◌, true, IfOk, IfErr};
@@ -40,7 +39,7 @@ fn scores_less_than<V: Values>(p: &Position, limit: u8, values: &mut V) -> Resul
     }
 }
 
-/// Whether no capture in passing is legal, and the same men are a position with the other side to move, in which that side scores less.
+/// Whether no capture in passing is legal, and the same men are a valid position with the other side to move, in which that side scores less.
 fn other_scores_less<V: Values>(p: &Position, limit: u8, values: &mut V) -> Result<bool, ProbeFault>
     ensures game { V.is_honest values.old → IfOk result (λ b. (b ≡ true) ↔ OtherScoresLess p.now limit) }
     ensures faults { IfErr result (CanReport V.held V.may_fail V.is_honest values.old) }
@@ -57,7 +56,7 @@ fn other_scores_less<V: Values>(p: &Position, limit: u8, values: &mut V) -> Resu
     }
 }
 
-/// Whether the position is a mutual zugzwang, whoever is to move. Where the side to move wins, nothing else is looked at.
+/// Whether the position is a mutual zugzwang, whoever is to move. If the side to move wins, nothing else is evaluated.
 pub fn is_zugzwang<V: Values>(p: &Position, values: &mut V) -> Result<bool, ProbeFault>
     ensures game { V.is_honest values.old → IfOk result (λ b. (b ≡ true) ↔ IsZugzwang p.now) }
     ensures faults { IfErr result (CanReport V.held V.may_fail V.is_honest values.old) }

@@ -88,16 +88,18 @@ pub search_over : (h : Known) (m : Faults) (Right : Type 0) (d : Denial) → IsO
 search_over h m Right d is = inl is
 
 pub search_stopped : (h : Known) (m : Faults) (Right : Type 0) (stop : Stop) → ((c : Class) → stop ≡ stops.Values (probe.NoTable c) → IsHeldAs (h c) false)
+    → ((f : SourceFault) → stop ≡ stops.Values (probe.TableRead f) → (c : Class) × (m c f ≡ true))
     → (Right → StopsUndamaged stop) → IsOfSearch h m Right (of_stop stop)
-search_stopped h m Right (stops.Values fault) lacks right = inr (fault, untold-in fault lacks right, refl)
+search_stopped h m Right (stops.Values fault) lacks fails right = inr (fault, untold-in fault lacks fails right, refl)
   where
     untold-in : (fault : ProbeFault) → ((c : Class) → stops.Values fault ≡ stops.Values (probe.NoTable c) → IsHeldAs (h c) false)
+        → ((f : SourceFault) → stops.Values fault ≡ stops.Values (probe.TableRead f) → (c : Class) × (m c f ≡ true))
         → (Right → StopsUndamaged (stops.Values fault)) → IsSearchUntold h m Right fault
-    untold-in (probe.NoTable c) lacks right = lacks c refl
-    untold-in (probe.TableRead f) lacks right = tt
-    untold-in (probe.PageDamaged c n) lacks right = right
-search_stopped h m Right stops.TooManyStudies lacks right = inl refl
-search_stopped h m Right stops.WriteDevice lacks right = inl refl
+    untold-in (probe.NoTable c) lacks fails right = lacks c refl
+    untold-in (probe.TableRead f) lacks fails right = fails f refl
+    untold-in (probe.PageDamaged c n) lacks fails right = right
+search_stopped h m Right stops.TooManyStudies lacks fails right = inl refl
+search_stopped h m Right stops.WriteDevice lacks fails right = inl refl
 
 module _ {V : Type 0} (held : V → Class → Bool) (gives : V → Position → ProbeAnswer → Type 0) (may_fail : V → Class → SourceFault → Type 0)
     (asked_of failed_of : V → ℕ) (is_honest : V → Type 0) where

@@ -105,7 +105,7 @@ module _ (h k : Class → Option (Result (List ℕ) StoreFault)) (m n : Class �
 
   search_untold_alike : (Right Sound : Type 0) → (Sound → Right) → (fault : ProbeFault) → IsSearchUntold h m Right fault → IsSearchUntold k n Sound fault
   search_untold_alike Right Sound g (probe.NoTable c) is = subst (λ (o : Option (Result (List ℕ) StoreFault)). IsHeldAs o false) (same c) is
-  search_untold_alike Right Sound g (probe.TableRead f) is = is
+  search_untold_alike Right Sound g (probe.TableRead f) (c, is) = (c, sym (alike c f) ∙ is)
   search_untold_alike Right Sound g (probe.PageDamaged c i) is = λ k. is (g k)
 
   pub search_alike : (Right Sound : Type 0) → (Sound → Right) → (d : Denial) → IsOfSearch h m Right d → IsOfSearch k n Sound d

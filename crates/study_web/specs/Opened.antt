@@ -72,7 +72,7 @@ module _ (headers : Class → Option (Result (List ℕ) StoreFault)) (faults : C
   -- damaged, which never happens with right files.
   abbrev pub IsSearchUntold : Type 0 → ProbeFault → Type 0
   IsSearchUntold Right (probe.NoTable c) = IsHeldAs (headers c) false
-  IsSearchUntold Right (probe.TableRead f) = Unit {0}
+  IsSearchUntold Right (probe.TableRead f) = (c : Class) × (faults c f ≡ true)
   IsSearchUntold Right (probe.PageDamaged c n) = Right → ⊥
 
   abbrev pub IsOfSearch : Type 0 → Denial → Type 0

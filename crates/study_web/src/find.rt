@@ -1,6 +1,7 @@
 //! The positions of a class that have a theme, piece by piece.
 ghost use Rattle.std.specs.Prelude.{◌≡◌, ◌≤◌, true, false, IfSome, IfOk, IfErr, IsErrOf};
 ghost use Rattle.study_material.specs.declared.class.Class.{Class as AClass};
+ghost use Rattle.study_values.specs.declared.fault.SourceFault.{SourceFault as ASourceFault};
 ghost use Rattle.study_listing.specs.Pieces.{IsPiece};
 ghost use Rattle.study_listing.specs.Stops.{StopsUndamaged};
 ghost use Rattle.study_web.specs.Answers.{MayEnd, IsNoMemory};
@@ -35,6 +36,7 @@ fn piece_text<'a, V: Values, A: Allocator>(
 ) -> Result<Vec<u8, &'a A>, Stop>
     ensures text { V.is_honest values.old → IfOk result (λ text. IsPiece piece.now text.items) }
     ensures no_table { (c : AClass) → IsErrOf result (Stop.Values (ProbeFault.NoTable c)) → V.held values.old c ≡ false }
+    ensures failed_so { (f : ASourceFault) → IsErrOf result (Stop.Values (ProbeFault.TableRead f)) → (c : AClass) × V.may_fail values.old c f }
     ensures no_damage { V.is_honest values.old → IfErr result StopsUndamaged }
 {
     let mut text = Vec::new(alloc);

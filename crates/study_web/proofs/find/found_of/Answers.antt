@@ -16,4 +16,5 @@ returns-in-Err-piece_text-clause-none g c =
     subst (λ (d : Denial). IsOfSearch headers faults Right d) (sym c.of_stop.ensures)
     (search_stopped headers faults Right c.in-Err-piece_text.stop
     (λ d e. subst (IsHeldAs (headers d)) (c.in-Err-piece_text.ensures.no_table d (ap Err e)) (c.in-Ok.ensures.held d))
+    (λ f e. let r = c.in-Err-piece_text.ensures.failed_so f (ap Err e) in (r.0, c.in-Ok.ensures.fails r.0 f r.1))
     (λ right. c.in-Err-piece_text.ensures.no_damage (c.in-Ok.ensures.right right)))
