@@ -1,5 +1,5 @@
 -- Small examples of the definitions, which compute.
-use Rattle.std.proofs.Common.{◌≡◌, true, false, [], ◌∷◌, ◌++◌, Some, None, Ok, Err, refl}
+use Rattle.std.proofs.Common.{◌≡◌, true, false, [], ◌∷◌, ◌++◌, Some, Ok, Err, refl}
 use Rattle.std.specs.Prelude.{codes}
 use Rattle.study_games.specs.declared.token.TokenFault.TheVariants.{OpenComment, OpenString, Byte}
 use Rattle.study_games.specs.declared.symbols.Said.TheVariants.{Number, Result, NullMove, Aside, Move}

@@ -1,10 +1,9 @@
 -- Readings that are counted down, one step.
-use Rattle.std.proofs.Common.{◌≡◌, ℕ, zero, suc, ◌-◌, ◌<◌, Bool, true, List, ◌++◌, length, Option, Some, refl, sym, ap, ◌∙◌, append_assoc, arith}
+use Rattle.std.proofs.Common.{◌≡◌, ℕ, zero, suc, ◌-◌, ◌<◌, Bool, true, List, ◌++◌, length, Some, refl, sym, ap, ◌∙◌, append_assoc, arith}
 use Rattle.std.specs.Prelude.{◌==◌, if◌then◌else◌}
-use Rattle.study_games.specs.declared.header.HeaderFault.{HeaderFault}
 use Rattle.study_games.specs.Words.{first_word}
 use Rattle.study_games.specs.Tokens.{begins_feed}
-use Rattle.study_games.specs.Header.{Pair, step_at, with_tags, tags_in, with_fault, fault_in}
+use Rattle.study_games.specs.Header.{step_at, with_tags, tags_in, with_fault, fault_in}
 use Rattle.study_games.specs.Characters.{character_at, is_utf8_behind, begins_utf8, read_at}
 use Rattle.study_games.specs.Ascii.{behind_or, word_at, ascii_of, spelled_behind, spelled_in}
 
@@ -30,8 +29,9 @@ pub spelled_more : (n : ℕ) (utf8 : Bool) (text : List ℕ) → 0 < n → spell
 spelled_more zero utf8 text h = absurd (omega (arith, h))
 spelled_more (suc m) utf8 text h = let e : suc m - 1 ≡ m = omega arith in rw e refl
 
--- a character is spelled, and the rest is read
-pub spelled_on : (n : ℕ) (utf8 : Bool) (text behind : List ℕ) (c : ℕ) (out new : List ℕ) → 0 < n → Some (c, behind) ≡ read_at utf8 text → new ≡ out ++ ascii_of c
+-- a character is spelled, and the rest is read on
+pub spelled_on : (n : ℕ) (utf8 : Bool) (text behind : List ℕ) (c : ℕ) (out new : List ℕ) → 0 < n → Some (c, behind) ≡ read_at utf8 text
+    → new ≡ out ++ ascii_of c
     → new ++ spelled_in (n - 1) utf8 behind ≡ out ++ spelled_in n utf8 text
 spelled_on n utf8 text behind c out new some read added =
     ap (λ (t : List ℕ). t ++ spelled_in (n - 1) utf8 behind) added

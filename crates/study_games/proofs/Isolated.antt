@@ -1,10 +1,10 @@
--- A game is independent of every other.
-use Rattle.std.proofs.Common.{◌≡◌, ℕ, Bool, true, false, List, [], ◌∷◌, ◌++◌, Option, Some, None, refl, sym, ap, ◌∙◌, append_assoc, arith, inl, inr}
+-- A game depends on no other.
+use Rattle.std.proofs.Common.{◌≡◌, ℕ, true, List, [], ◌∷◌, ◌++◌, Option, Some, None, refl, sym, ap, ◌∙◌, append_assoc, inl, inr}
 use Rattle.std.specs.Prelude.{◌==◌, if◌then◌else◌}
 use Rattle.std.proofs.lemmas.Bool.{cases_Bool}
 use Rattle.study_games.specs.declared.games.LineKind.{LineKind}
 use Rattle.study_games.specs.declared.games.LineKind.TheVariants.{Silent, Tag, EventTag, Moves}
-use Rattle.study_games.specs.Games.{Game, Begun, kind_of, longer, lines_behind, one_more, unmarked, begins_game, seen_then, first_line, taken_to, ends_before, game_at_hand, games_from, games_of}
+use Rattle.study_games.specs.Games.{Game, Begun, kind_of, longer, lines_behind, one_more, unmarked, first_line, taken_to, ends_before, game_at_hand, games_from, games_of}
 use Rattle.study_games.specs.Laws.{number_behind, EndsWithMoves, IsTag, BeginsWithTag, lines_of, IsIsolated}
 
 -- ---- lines

@@ -115,8 +115,8 @@ module _ (b : ℕ) (f : IsFirst b) where
 
   no_sign : is_sign b ≡ false
   no_sign =
-      or_from _ (b == 58) (or_from _ (b == 95) (or_from _ (b == 94) (or_from _ (b == 126) (or_from _ (b == 35) (or_from _ (b == 47) (or_from _ (b == 61) (or_from (b == 43) (b == 45)
-      (low 43 (omega arith)) (low 45 (omega arith))) (middle 61 (omega arith) (omega arith))) (low 47 (omega arith))) (low 35 (omega arith)))
+      or_from _ (b == 58) (or_from _ (b == 95) (or_from _ (b == 94) (or_from _ (b == 126) (or_from _ (b == 35) (or_from _ (b == 47)
+      (or_from _ (b == 61) (or_from (b == 43) (b == 45) (low 43 (omega arith)) (low 45 (omega arith))) (middle 61 (omega arith) (omega arith))) (low 47 (omega arith))) (low 35 (omega arith)))
       (top 126 (omega arith) (omega arith))) (upper 94 (omega arith) (omega arith))) (upper 95 (omega arith) (omega arith)))
       (middle 58 (omega arith) (omega arith))
 

@@ -21,11 +21,16 @@ word_at (suc n) table = word_at n (behind_or (first_word table))
 
 -- Latin 1, from U+00A1 to U+00FF; the soft hyphen, U+00AD, has no word
 unfoldable pub latin_1 : List ℕ
-latin_1 = codes "? ? ? ? ? ? ? ? ? ? ? ? ? ? ? ? ? ? ? ? ? ? ? ? ? ? ? 1/4 1/2 3/4 ? A A A A A A AE C E E E E I I I I D N O O O O O x O U U U U Y Th ss a a a a a a ae c e e e e i i i i d n o o o o o / o u u u u y th y"
+latin_1 =
+    codes "? ? ? ? ? ? ? ? ? ? ? ? ? ? ? ? ? ? ? ? ? ? ? ? ? ? ? 1/4 1/2 3/4 ? A A A A A A AE C E E E E I I I I D N O O O O O x O "
+    ++ codes "U U U U Y Th ss a a a a a a ae c e e e e i i i i d n o o o o o / o u u u u y th y"
 
 -- Latin Extended A, from U+0100 to U+017F
 unfoldable pub latin_a : List ℕ
-latin_a = codes "A a A a A a C c C c C c C c D d D d E e E e E e E e E e G g G g G g G g H h H h I i I i I i I i I i IJ ij J j K k k L l L l L l L l L l N n N n N n n N n O o O o O o OE oe R r R r R r S s S s S s S s T t T t T t U u U u U u U u U u U u W w Y y Y Z z Z z Z z s"
+latin_a =
+    codes "A a A a A a C c C c C c C c D d D d E e E e E e E e E e G g G g G g G g H h H h I i I i I i I i I i IJ ij J j K k k L "
+    ++ codes "l L l L l L l L l N n N n N n n N n O o O o O o OE oe R r R r R r S s S s S s S s T t T t T t U u U u U u U u U u U u "
+    ++ codes "W w Y y Y Z z Z z Z z s"
 
 -- Romanian, from U+0218 to U+021B
 unfoldable pub romanian : List ℕ
@@ -33,7 +38,9 @@ romanian = codes "S s T t"
 
 -- Cyrillic, from U+0401 to U+045E
 unfoldable pub cyrillic : List ℕ
-cyrillic = codes "Yo ? ? Ye ? I Yi ? ? ? ? ? ? U ? A B V G D E Zh Z I J K L M N O P R S T U F Kh C Ch Sh Shch ' Y ' E Yu Ya a b v g d e zh z i j k l m n o p r s t u f kh c ch sh shch ' y ' e yu ya ? yo ? ? ye ? i yi ? ? ? ? ? ? u"
+cyrillic =
+    codes "Yo ? ? Ye ? I Yi ? ? ? ? ? ? U ? A B V G D E Zh Z I J K L M N O P R S T U F Kh C Ch Sh Shch ' Y ' E Yu Ya a b v g d e "
+    ++ codes "zh z i j k l m n o p r s t u f kh c ch sh shch ' y ' e yu ya ? yo ? ? ye ? i yi ? ? ? ? ? ? u"
 
 -- Ukrainian, U+0490 and U+0491
 unfoldable pub ukrainian : List ℕ

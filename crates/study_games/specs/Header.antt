@@ -1,13 +1,13 @@
 -- The header of a game: its tags.
-use Rattle.std.specs.Prelude.{ℕ, zero, suc, Bool, true, false, ◌&&◌, ◌||◌, ◌==◌, List, [], ◌∷◌, length, Option, Some, None, Result, Ok, Err, if◌then◌else◌}
+use Rattle.std.specs.Prelude.{ℕ, zero, suc, Bool, true, ◌&&◌, ◌||◌, ◌==◌, List, [], ◌∷◌, length, Option, Some, None, Ok, Err, if◌then◌else◌}
 use Rattle.std.specs.Option.{option_map}
 use Rattle.std.specs.Str.{bytes_eq}
 use Rattle.study_games.specs.declared.token.TokenFault.{TokenFault}
-use Rattle.study_games.specs.declared.token.TokenFault.TheVariants.{OpenComment, TagForm, OpenString, Byte}
+use Rattle.study_games.specs.declared.token.TokenFault.TheVariants.{TagForm, OpenString}
 use Rattle.study_games.specs.declared.header.HeaderFault.{HeaderFault}
 use Rattle.study_games.specs.declared.header.HeaderStep.{HeaderStep as StepRead}
 use Rattle.study_games.specs.declared.header.HeaderStep.TheVariants as read
-use Rattle.study_games.specs.Tokens.{Token, Lexed, lexed, begins_feed, blank, aside, opening, closing, star, tag, comment, rest, sign, symbol}
+use Rattle.study_games.specs.Tokens.{Lexed, lexed, begins_feed, blank, tag, comment, rest}
 
 -- a tag: its name, and its value with its backslashes
 abbrev pub Pair : Type 0
@@ -79,10 +79,11 @@ step_seen read.End = ended
 abbrev pub is_escaped : ℕ → ℕ → Bool
 is_escaped b c = b == 92 && (c == 34 || c == 92)
 
--- such a byte at the beginning of the text, and the rest
-abbrev pub escaped_at : List ℕ → Option (ℕ × List ℕ)
-escaped_at (b ∷ c ∷ bs) = if is_escaped b c then Some (c, bs) else None
-escaped_at _ = None
+-- the first byte that the text stands for, and what follows its spelling
+abbrev pub unescaped_at : List ℕ → Option (ℕ × List ℕ)
+unescaped_at (b ∷ c ∷ bs) = if is_escaped b c then Some (c, bs) else Some (b, c ∷ bs)
+unescaped_at (b ∷ []) = Some (b, [])
+unescaped_at [] = None
 
 abbrev pub unescaped : List ℕ → List ℕ
 unescaped (b ∷ c ∷ bs) = if is_escaped b c then c ∷ unescaped bs else b ∷ unescaped (c ∷ bs)

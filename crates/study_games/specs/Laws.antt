@@ -1,8 +1,8 @@
--- A game is independent of every other.
-use Rattle.std.specs.Prelude.{◌≡◌, ℕ, List, [], ◌∷◌, ◌++◌, Option, Some, None}
+-- A game depends on no other.
+use Rattle.std.specs.Prelude.{◌≡◌, ℕ, List, [], ◌∷◌, ◌++◌, None}
 use Rattle.study_games.specs.declared.games.LineKind.{LineKind}
-use Rattle.study_games.specs.declared.games.LineKind.TheVariants.{Silent, Tag, EventTag, Moves}
-use Rattle.study_games.specs.Games.{Game, kind_of, lines_behind, one_more, unmarked, games_from, games_of}
+use Rattle.study_games.specs.declared.games.LineKind.TheVariants.{Tag, EventTag, Moves}
+use Rattle.study_games.specs.Games.{kind_of, lines_behind, one_more, unmarked, games_from, games_of}
 
 -- the number of the line after so many lines, the first of which has number n
 abbrev pub number_behind : ℕ → List (List ℕ) → ℕ

@@ -2,6 +2,7 @@ pub mod Bytes
 pub mod Tokens
 pub mod Symbols
 pub mod Words
+pub mod Runs
 pub mod Games
 pub mod Header
 pub mod Characters

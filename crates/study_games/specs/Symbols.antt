@@ -1,9 +1,8 @@
--- The meaning of a symbol, and the SAN of a symbol for a move.
-use Rattle.std.specs.Prelude.{ℕ, ◌-◌, Bool, true, false, not, ◌&&◌, ◌||◌, ◌==◌, nat_le, List, [], ◌∷◌, length, take, slice_index, codes, Option, Some, None, if◌then◌else◌}
+-- What a symbol says, and the SAN of one that stands for a move.
+use Rattle.std.specs.Prelude.{ℕ, ◌-◌, Bool, false, not, ◌&&◌, ◌||◌, ◌==◌, nat_le, List, [], ◌∷◌, length, take, slice_index, codes, Option, Some, None, if◌then◌else◌}
 use Rattle.std.specs.List.{list_all, flat_map}
 use Rattle.std.specs.Str.{bytes_eq}
 use Rattle.study_games.specs.Bytes.{is_digit, is_sign, is_high}
-use Rattle.study_games.specs.declared.symbols.Outcome.{Outcome}
 use Rattle.study_games.specs.declared.symbols.Outcome.TheVariants.{WhiteWins, BlackWins, Drawn}
 use Rattle.study_games.specs.declared.symbols.Said.{Said}
 use Rattle.study_games.specs.declared.symbols.Said.TheVariants.{Number, Result, NullMove, Aside, Move}
@@ -19,6 +18,11 @@ figurine_kind c = if nat_le 154 c then c - 154 else c - 148
 abbrev pub kind_letter : ℕ → ℕ
 kind_letter k = if k == 0 then 75 else (if k == 1 then 81 else (if k == 2 then 82 else (if k == 3 then 66 else (if k == 4 then 78 else 80))))
 
+-- a figurine stands in front
+abbrev pub begins_figurine : List ℕ → Bool
+begins_figurine (a ∷ b ∷ c ∷ bs) = is_figurine a b c
+begins_figurine _ = false
+
 abbrev pub has_figurine : List ℕ → Bool
 has_figurine (a ∷ b ∷ c ∷ bs) = is_figurine a b c || has_figurine (b ∷ c ∷ bs)
 has_figurine _ = false
@@ -28,22 +32,37 @@ abbrev pub lettered : List ℕ → List ℕ
 lettered (a ∷ b ∷ c ∷ bs) = if is_figurine a b c then kind_letter (figurine_kind c) ∷ lettered bs else a ∷ lettered (b ∷ c ∷ bs)
 lettered bs = bs
 
--- the letter of a figurine at the front, and the rest
-abbrev pub figurine_at : List ℕ → Option (ℕ × List ℕ)
-figurine_at (a ∷ b ∷ c ∷ bs) = if is_figurine a b c then Some (kind_letter (figurine_kind c), bs) else None
-figurine_at _ = None
+-- the first byte, or the letter of a figurine that stands in front, and what follows it
+abbrev pub letter_at : List ℕ → Option (ℕ × List ℕ)
+letter_at (a ∷ b ∷ c ∷ bs) = if is_figurine a b c then Some (kind_letter (figurine_kind c), bs) else Some (a, b ∷ c ∷ bs)
+letter_at (a ∷ bs) = Some (a, bs)
+letter_at [] = None
 
 -- ---- the meaning
+
+abbrev pub is_drawn : List ℕ → Bool
+is_drawn symbol = bytes_eq symbol (codes "1/2-1/2") || bytes_eq symbol (codes "1/2")
+
+abbrev pub is_null_move : List ℕ → Bool
+is_null_move symbol = bytes_eq symbol (codes "Z0") || (bytes_eq symbol (codes "null") || bytes_eq symbol (codes "pass"))
+
+-- `e.p.`, without its dots
+abbrev pub is_passing : List ℕ → Bool
+is_passing symbol = bytes_eq symbol (codes "e") || (bytes_eq symbol (codes "p") || bytes_eq symbol (codes "ep"))
+
+-- a sign of judgement
+abbrev pub is_judgement : List ℕ → Bool
+is_judgement symbol = list_all is_high symbol && not (has_figurine symbol)
 
 unfoldable pub said_of : List ℕ → Said
 said_of symbol =
     if list_all is_digit symbol then Number
     else (if bytes_eq symbol (codes "1-0") then Result WhiteWins
     else (if bytes_eq symbol (codes "0-1") then Result BlackWins
-    else (if bytes_eq symbol (codes "1/2-1/2") || bytes_eq symbol (codes "1/2") then Result Drawn
-    else (if bytes_eq symbol (codes "Z0") || (bytes_eq symbol (codes "null") || bytes_eq symbol (codes "pass")) then NullMove
-    else (if bytes_eq symbol (codes "e") || (bytes_eq symbol (codes "p") || bytes_eq symbol (codes "ep")) then Aside
-    else (if list_all is_high symbol && not (has_figurine symbol) then Aside
+    else (if is_drawn symbol then Result Drawn
+    else (if is_null_move symbol then NullMove
+    else (if is_passing symbol then Aside
+    else (if is_judgement symbol then Aside
     else Move))))))
 
 -- ---- the SAN

@@ -1,8 +1,7 @@
 -- The tokens of a PGN text.
-use Rattle.std.specs.Prelude.{ℕ, ◌+◌, Bool, true, false, not, ◌&&◌, ◌||◌, ◌==◌, List, [], ◌∷◌, take, drop, length}
+use Rattle.std.specs.Prelude.{ℕ, ◌+◌, Bool, false, not, ◌&&◌, ◌||◌, ◌==◌, List, [], ◌∷◌, take, drop}
 use Rattle.std.specs.Prelude.{Option, Some, None, Result, Ok, Err, if◌then◌else◌}
 use Rattle.std.specs.List.{prefix_len}
-use Rattle.std.specs.Option.{option_map}
 use Rattle.study_games.specs.declared.token.TokenFault.{TokenFault}
 use Rattle.study_games.specs.declared.token.TokenFault.TheVariants.{OpenComment, TagForm, OpenString, Byte}
 use Rattle.study_games.specs.declared.token.Cut.{Cut}

@@ -1,6 +1,5 @@
 -- Words between blanks, and texts without the spaces at their ends.
-use Rattle.std.specs.Prelude.{ℕ, Bool, not, ◌==◌, List, [], ◌∷◌, drop, Option, Some, None}
-use Rattle.std.specs.List.{prefix_len}
+use Rattle.std.specs.Prelude.{ℕ, Bool, not, ◌==◌, List, [], ◌∷◌, Option, Some, None}
 use Rattle.study_games.specs.Bytes.{is_blank}
 use Rattle.study_games.specs.Tokens.{front, behind}
 use Rattle.study_games.specs.Symbols.{without_end}

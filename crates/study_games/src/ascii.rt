@@ -1,5 +1,5 @@
 //! The text of a tag's value in printable ASCII.
-ghost use Rattle.std.specs.Prelude.{◌≡◌, ◌++◌, ◌∷◌, [], ◌≤◌, length, take, OnOk, IfOk};
+ghost use Rattle.std.specs.Prelude.{◌≡◌, ◌++◌, OnOk, IfOk};
 ghost use Rattle.study_games.specs.Ascii.{first_or, behind_or, word_at, latin_1, latin_a, romanian, cyrillic, ukrainian, marks, letters_of, ascii_of, spelled_out, short_text};
 ghost use Rattle.study_games.specs.Words.{first_word};
 
@@ -16,7 +16,8 @@ pub const LONGEST_TAG: usize = 60;
 fn latin_1() -> &'static [u8]
     ensures { result.now ≡ latin_1 }
 {
-    b"? ? ? ? ? ? ? ? ? ? ? ? ? ? ? ? ? ? ? ? ? ? ? ? ? ? ? 1/4 1/2 3/4 ? A A A A A A AE C E E E E I I I I D N O O O O O x O U U U U Y Th ss a a a a a a ae c e e e e i i i i d n o o o o o / o u u u u y th y"
+    b"? ? ? ? ? ? ? ? ? ? ? ? ? ? ? ? ? ? ? ? ? ? ? ? ? ? ? 1/4 1/2 3/4 ? A A A A A A AE C E E E E I I I I D N O O O \
+      O O x O U U U U Y Th ss a a a a a a ae c e e e e i i i i d n o o o o o / o u u u u y th y"
 }
 
 /// Latin Extended A, from U+0100 on.
@@ -24,7 +25,9 @@ fn latin_1() -> &'static [u8]
 fn latin_a() -> &'static [u8]
     ensures { result.now ≡ latin_a }
 {
-    b"A a A a A a C c C c C c C c D d D d E e E e E e E e E e G g G g G g G g H h H h I i I i I i I i I i IJ ij J j K k k L l L l L l L l L l N n N n N n n N n O o O o O o OE oe R r R r R r S s S s S s S s T t T t T t U u U u U u U u U u U u W w Y y Y Z z Z z Z z s"
+    b"A a A a A a C c C c C c C c D d D d E e E e E e E e E e G g G g G g G g H h H h I i I i I i I i I i IJ ij J j \
+      K k k L l L l L l L l L l N n N n N n n N n O o O o O o OE oe R r R r R r S s S s S s S s T t T t T t U u U u \
+      U u U u U u U u W w Y y Y Z z Z z Z z s"
 }
 
 /// Romanian, from U+0218 on.
@@ -40,7 +43,8 @@ fn romanian() -> &'static [u8]
 fn cyrillic() -> &'static [u8]
     ensures { result.now ≡ cyrillic }
 {
-    b"Yo ? ? Ye ? I Yi ? ? ? ? ? ? U ? A B V G D E Zh Z I J K L M N O P R S T U F Kh C Ch Sh Shch ' Y ' E Yu Ya a b v g d e zh z i j k l m n o p r s t u f kh c ch sh shch ' y ' e yu ya ? yo ? ? ye ? i yi ? ? ? ? ? ? u"
+    b"Yo ? ? Ye ? I Yi ? ? ? ? ? ? U ? A B V G D E Zh Z I J K L M N O P R S T U F Kh C Ch Sh Shch ' Y ' E Yu Ya a b \
+      v g d e zh z i j k l m n o p r s t u f kh c ch sh shch ' y ' e yu ya ? yo ? ? ye ? i yi ? ? ? ? ? ? u"
 }
 
 /// Ukrainian, from U+0490 on.

@@ -1,5 +1,5 @@
 //! The characters of a text, in UTF-8 or in Latin 1.
-ghost use Rattle.std.specs.Prelude.{◌≡◌, ◌≤◌, ◌-◌, true, length, Some, None, if◌then◌else◌};
+ghost use Rattle.std.specs.Prelude.{◌≡◌, ◌≤◌, ◌-◌, true, Some, None, if◌then◌else◌};
 ghost use Rattle.std.specs.Option.{option_map};
 ghost use Rattle.study_games.specs.Characters.{is_next, code_of_two, code_of_three, code_of_four, is_two, is_three, is_four, one_byte, two_bytes, three_bytes, four_bytes, character_at, is_utf8, latin_at, read_at};
 

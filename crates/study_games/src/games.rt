@@ -1,12 +1,12 @@
 //! The games of a PGN text, cut at lines.
-ghost use Rattle.std.specs.Prelude.{◌≡◌, ◌++◌, ◌≤◌, ◌∷◌, [], true, false, nat_le, length, OnOk};
+ghost use Rattle.std.specs.Prelude.{◌≡◌, true, false};
 ghost use Rattle.std.specs.List.{list_all};
 ghost use Rattle.std.specs.Option.{option_map};
 ghost use Rattle.study_games.specs.Bytes.{is_blank};
-ghost use Rattle.study_games.specs.Games.{without_mark, unmarked, begins_value, name_of, bracketed, tag_name, is_remark, kind_named, kind_of, begins_game, seen_then};
+ghost use Rattle.study_games.specs.Games.{without_mark, unmarked, begins_value, name_of, bracketed, tag_name, is_remark, kind_of, begins_game, seen_then};
 
 use crate::bytes::{is_blank, is_letter};
-use crate::token::{gap_len, name_len};
+use crate::runs::{Run, cut_run};
 
 /// The kind of a line, by its beginning.
 #[derive(Clone, Copy, Debug, PartialEq, Eq)]
@@ -57,8 +57,8 @@ fn name_of(text: &[u8]) -> Option<&[u8]>
 {
     match text {
         [first, ..] if is_letter(*first) => {
-            let (name, rest) = text.split_at(name_len(text));
-            let (_, behind) = rest.split_at(gap_len(rest));
+            let (name, rest) = cut_run(Run::Name, text);
+            let (_, behind) = cut_run(Run::Gap, rest);
             if begins_value(behind) {
                 Some(name)
             } else {
@@ -74,7 +74,7 @@ fn bracketed(text: &[u8]) -> Option<&[u8]>
 {
     match text {
         [b'[', rest @ ..] => {
-            let (_, behind) = rest.split_at(gap_len(rest));
+            let (_, behind) = cut_run(Run::Gap, rest);
             name_of(behind)
         }
         _ => None,
@@ -86,7 +86,7 @@ fn bracketed(text: &[u8]) -> Option<&[u8]>
 fn tag_name(line: &[u8]) -> Option<&[u8]>
     ensures { option_map (λ name. name.now) result ≡ tag_name line.now }
 {
-    let (_, behind) = line.split_at(gap_len(line));
+    let (_, behind) = cut_run(Run::Gap, line);
     bracketed(behind)
 }
 

@@ -1,5 +1,5 @@
 //! A game that comes in line by line.
-ghost use Rattle.std.specs.Prelude.{◌≡◌, Some, None, OnOk, MatchOption, IfSome, length, ◌≤◌};
+ghost use Rattle.std.specs.Prelude.{◌≡◌, Some, None, OnOk, IfSome};
 ghost use Rattle.std.specs.Option.{option_map};
 ghost use Rattle.study_games.specs.Games.{with_next, ends_before, game_seen, one_more, no_line, with_text, with_line};
 

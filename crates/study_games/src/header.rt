@@ -1,7 +1,7 @@
 //! The header of a game: its tags.
-ghost use Rattle.std.specs.Prelude.{◌≡◌, ◌++◌, ◌∷◌, [], Some, None, Ok, Err, length, IfOk};
+ghost use Rattle.std.specs.Prelude.{◌≡◌, Some, None, Ok, Err, length, IfOk};
 ghost use Rattle.std.specs.Option.{option_map};
-ghost use Rattle.study_games.specs.Header.{step_seen, step_at, tags_of, header_fault, value_of, escaped_at, unescaped};
+ghost use Rattle.study_games.specs.Header.{step_seen, step_at, tags_of, header_fault, value_of, unescaped_at, unescaped};
 
 use crate::token::{Token, TokenFault, begins_feed, read_token};
 use std::alloc::{AllocError, Allocator};
@@ -113,13 +113,14 @@ pub fn tag_value<'t>(game: &'t [u8], name: &[u8]) -> Option<&'t [u8]>
     None
 }
 
-/// The byte at the front that a backslash escapes, and the rest.
-fn read_escaped(text: &[u8]) -> Option<(u8, &[u8])>
-    ensures { option_map (λ found. (found.0, found.1.now)) result ≡ escaped_at text.now }
+/// The first byte that the text stands for, and what follows its spelling.
+fn read_unescaped(text: &[u8]) -> Option<(u8, &[u8])>
+    ensures { option_map (λ found. (found.0, found.1.now)) result ≡ unescaped_at text.now }
 {
     match text {
         [b'\\', c, rest @ ..] if *c == b'"' || *c == b'\\' => Some((*c, rest)),
-        _ => None,
+        [b, rest @ ..] => Some((*b, rest)),
+        [] => None,
     }
 }
 
@@ -129,17 +130,9 @@ pub fn unescape<'a, A: Allocator>(alloc: &'a A, value: &[u8]) -> Result<Text<'a,
 {
     let mut out = Text::new(alloc);
     let mut rest = value;
-    while let [first, more @ ..] = rest {
-        match read_escaped(rest) {
-            Some((byte, behind)) => {
-                out.add(&[byte])?;
-                rest = behind;
-            }
-            None => {
-                out.add(&[*first])?;
-                rest = more;
-            }
-        }
+    while let Some((byte, behind)) = read_unescaped(rest) {
+        out.add(&[byte])?;
+        rest = behind;
     }
     Ok(out)
 }

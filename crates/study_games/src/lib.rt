@@ -1,8 +1,9 @@
 //! The text of PGN: its games, their tags and tokens, and the meaning of symbols.
 //!
-//! `Gathering` cuts a text into games, line by line; `count_tags`, `header_fault` and `tag_value` read the header of a game; `read_token` reads the
-//! tokens of its moves one by one, `say` reads a symbol, and `san_in` the SAN of a symbol for a move. `unescape`, `spell_out` and `short_text` turn
-//! the value of a tag into text that a script can hold.
+//! `Gathering` cuts a text into games, line by line; `count_tags`, `header_fault` and `tag_value` read the header of one; `read_token`
+//! gives the tokens of its moves one by one, `say` reads a symbol, and `san_in` the SAN of one that stands for a move. `cut_run` cuts a text
+//! behind its first bytes of one kind.
+//! `unescape`, `spell_out` and `short_text` bring the value of a tag to the text that a script can hold.
 #![tactic(auto)]
 
 mod ascii;
@@ -12,6 +13,7 @@ mod games;
 mod gathering;
 mod header;
 mod laws;
+mod runs;
 mod spelling;
 mod symbols;
 mod token;
@@ -23,6 +25,7 @@ pub use games::{LineKind, Seen, begins_game, kind_of, seen_then, unmarked};
 pub use gathering::{Game, Gathering, LARGEST_GAME, LONGEST_LINE};
 pub use header::{HeaderFault, count_tags, header_fault, tag_value, unescape};
 pub use laws::games_are_isolated;
+pub use runs::{Run, cut_run};
 pub use spelling::{LONGEST_SYMBOL, san_in};
 pub use symbols::{Outcome, Said, is_figurine, say};
 pub use token::{Cut, Token, TokenFault, begins_feed, read_token};

@@ -1,6 +1,7 @@
-//! The SAN of a symbol for a move.
-ghost use Rattle.std.specs.Prelude.{◌≡◌, ◌≤◌, length, take, Some, None, MatchOption};
-ghost use Rattle.study_games.specs.Symbols.{figurine_kind, kind_letter, figurine_at, lettered, is_tail, without_tail, without_passing, without_pawn};
+//! The SAN of a symbol that stands for a move.
+ghost use Rattle.std.specs.Prelude.{◌≡◌, ◌≤◌, length, take};
+ghost use Rattle.std.specs.Option.{option_map};
+ghost use Rattle.study_games.specs.Symbols.{figurine_kind, kind_letter, letter_at, lettered, is_tail, without_tail, without_passing, without_pawn};
 ghost use Rattle.study_games.specs.Symbols.{begins_castling, plain_byte, spelled, san_in};
 
 use crate::bytes::{is_high, is_sign};
@@ -31,13 +32,14 @@ fn kind_letter(c: u8) -> u8
     }
 }
 
-/// The letter of a figurine at the front, and the rest.
-fn read_figurine(text: &[u8]) -> Option<(u8, &[u8])>
-    ensures { MatchOption result (figurine_at text.now ≡ None) (λ found. figurine_at text.now ≡ Some (found.0, found.1.now)) }
+/// The first byte, or the letter of a figurine that stands in front, and what follows it.
+fn read_letter(text: &[u8]) -> Option<(u8, &[u8])>
+    ensures { option_map (λ found. (found.0, found.1.now)) result ≡ letter_at text.now }
 {
     match text {
         [a, b, c, rest @ ..] if is_figurine(*a, *b, *c) => Some((kind_letter(*c), rest)),
-        _ => None,
+        [b, rest @ ..] => Some((*b, rest)),
+        [] => None,
     }
 }
 
@@ -48,17 +50,9 @@ fn lettered(symbol: &[u8]) -> ArrayVec<u8, 32>
 {
     let mut out = ArrayVec::new();
     let mut rest = symbol;
-    while let [first, more @ ..] = rest {
-        match read_figurine(rest) {
-            Some((letter, behind)) => {
-                out.push(letter);
-                rest = behind;
-            }
-            None => {
-                out.push(*first);
-                rest = more;
-            }
-        }
+    while let Some((letter, behind)) = read_letter(rest) {
+        out.push(letter);
+        rest = behind;
     }
     out
 }

@@ -1,8 +1,8 @@
-//! The meaning of a symbol.
-ghost use Rattle.std.specs.Prelude.{◌≡◌, length};
+//! What a symbol says.
+ghost use Rattle.std.specs.Prelude.{◌≡◌};
 ghost use Rattle.std.specs.List.{list_all};
 ghost use Rattle.study_games.specs.Bytes.{is_digit, is_high};
-ghost use Rattle.study_games.specs.Symbols.{is_figurine, has_figurine, said_of};
+ghost use Rattle.study_games.specs.Symbols.{is_figurine, begins_figurine, has_figurine, is_drawn, is_null_move, is_passing, is_judgement, said_of};
 
 use crate::bytes;
 
@@ -45,20 +45,56 @@ pub fn is_figurine(a: u8, b: u8, c: u8) -> bool
     a == 0xe2 && b == 0x99 && 0x94 <= c && c <= 0x9f
 }
 
+/// Whether a figurine stands in front.
+fn begins_figurine(text: &[u8]) -> bool
+    ensures { result ≡ begins_figurine text.now }
+{
+    match text {
+        [a, b, c, ..] => is_figurine(*a, *b, *c),
+        _ => false,
+    }
+}
+
 fn has_figurine(text: &[u8]) -> bool
     ensures { result ≡ has_figurine text.now }
 {
     let mut rest = text;
-    while let [a, b, c, ..] = rest {
-        if is_figurine(*a, *b, *c) {
+    while let [_, more @ ..] = rest {
+        if begins_figurine(rest) {
             return true;
         }
-        rest = &rest[1..];
+        rest = more;
     }
     false
 }
 
-/// The meaning of the symbol.
+fn is_drawn(symbol: &[u8]) -> bool
+    ensures { result ≡ is_drawn symbol.now }
+{
+    symbol == b"1/2-1/2".as_slice() || symbol == b"1/2".as_slice()
+}
+
+fn is_null_move(symbol: &[u8]) -> bool
+    ensures { result ≡ is_null_move symbol.now }
+{
+    symbol == b"Z0".as_slice() || symbol == b"null".as_slice() || symbol == b"pass".as_slice()
+}
+
+/// `e.p.`, without its dots.
+fn is_passing(symbol: &[u8]) -> bool
+    ensures { result ≡ is_passing symbol.now }
+{
+    symbol == b"e".as_slice() || symbol == b"p".as_slice() || symbol == b"ep".as_slice()
+}
+
+/// A sign of judgement.
+fn is_judgement(symbol: &[u8]) -> bool
+    ensures { result ≡ is_judgement symbol.now }
+{
+    are_high(symbol) && !has_figurine(symbol)
+}
+
+/// What the symbol says.
 #[tactic(auto, unfolding(crate::specs::Symbols::said_of))]
 pub fn say(symbol: &[u8]) -> Said
     ensures { result ≡ said_of symbol.now }
@@ -69,16 +105,11 @@ pub fn say(symbol: &[u8]) -> Said
         Said::Result(Outcome::WhiteWins)
     } else if symbol == b"0-1".as_slice() {
         Said::Result(Outcome::BlackWins)
-    } else if symbol == b"1/2-1/2".as_slice() || symbol == b"1/2".as_slice() {
+    } else if is_drawn(symbol) {
         Said::Result(Outcome::Drawn)
-    } else if symbol == b"Z0".as_slice()
-        || symbol == b"null".as_slice()
-        || symbol == b"pass".as_slice()
-    {
+    } else if is_null_move(symbol) {
         Said::NullMove
-    } else if symbol == b"e".as_slice() || symbol == b"p".as_slice() || symbol == b"ep".as_slice() {
-        Said::Aside
-    } else if are_high(symbol) && !has_figurine(symbol) {
+    } else if is_passing(symbol) || is_judgement(symbol) {
         Said::Aside
     } else {
         Said::Move

@@ -2,14 +2,12 @@
 ghost use Rattle.std.specs.Prelude.{◌≡◌, ◌≤◌, ◌∷◌, Some, Ok, false, length, drop, IfSome};
 ghost use Rattle.std.specs.Option.{option_map};
 ghost use Rattle.std.specs.List.{prefix_len};
-ghost use Rattle.study_games.specs.Bytes.{is_gap, is_digit, is_name_byte, is_sign, is_symbol_byte, is_glyph};
-ghost use Rattle.study_games.specs.Tokens.{is_inside, is_in_line, ends_tag, value_end, behind_value, comment_at, tag_at, lexed, token_seen, lexed_seen};
+ghost use Rattle.study_games.specs.Bytes.{is_digit, is_sign, is_symbol_byte, is_glyph};
+ghost use Rattle.study_games.specs.Tokens.{is_in_line, ends_tag, value_end, behind_value, comment_at, tag_at, lexed, token_seen, lexed_seen};
 ghost use Rattle.study_games.specs.Tokens.{valued, quoted, named, run_of, token_at, begins_feed, aside, sign, symbol, rest};
 
-use crate::bytes::{
-    begins_symbol, is_blank, is_digit, is_gap, is_glyph, is_letter, is_name_byte, is_sign,
-    is_symbol_byte,
-};
+use crate::bytes::{begins_symbol, is_blank, is_glyph, is_letter, is_sign};
+use crate::runs::{Run, cut_run};
 use thiserror::Error;
 
 /// A token of a PGN text. Texts are parts of it.
@@ -57,70 +55,12 @@ fn found<'t>(token: Token<'t>, rest: &'t [u8]) -> Result<Cut<'t>, TokenFault>
     Ok(Cut { token, rest })
 }
 
-pub fn gap_len(text: &[u8]) -> usize
-    ensures value { result ≡ prefix_len is_gap text.now }
-    ensures within { result ≤ length text.now }
-{
-    text.iter().take_while(|b| is_gap(**b)).count()
-}
-
-pub fn name_len(text: &[u8]) -> usize
-    ensures value { result ≡ prefix_len is_name_byte text.now }
-    ensures within { result ≤ length text.now }
-{
-    text.iter().take_while(|b| is_name_byte(**b)).count()
-}
-
-fn digits_len(text: &[u8]) -> usize
-    ensures value { result ≡ prefix_len is_digit text.now }
-    ensures within { result ≤ length text.now }
-{
-    text.iter().take_while(|b| is_digit(**b)).count()
-}
-
-fn glyphs_len(text: &[u8]) -> usize
-    ensures value { result ≡ prefix_len is_glyph text.now }
-    ensures within { result ≤ length text.now }
-{
-    text.iter().take_while(|b| is_glyph(**b)).count()
-}
-
-fn signs_len(text: &[u8]) -> usize
-    ensures value { result ≡ prefix_len is_sign text.now }
-    ensures within { result ≤ length text.now }
-{
-    text.iter().take_while(|b| is_sign(**b)).count()
-}
-
-fn symbol_len(text: &[u8]) -> usize
-    ensures value { result ≡ prefix_len is_symbol_byte text.now }
-    ensures within { result ≤ length text.now }
-{
-    text.iter().take_while(|b| is_symbol_byte(**b)).count()
-}
-
-/// The length of the first line of the text.
-fn line_len(text: &[u8]) -> usize
-    ensures value { result ≡ prefix_len is_in_line text.now }
-    ensures within { result ≤ length text.now }
-{
-    text.iter().take_while(|b| **b != b'\n').count()
-}
-
-/// The length of the text's comment in braces.
-fn comment_len(text: &[u8]) -> usize
-    ensures value { result ≡ prefix_len is_inside text.now }
-    ensures within { result ≤ length text.now }
-{
-    text.iter().take_while(|b| **b != b'}').count()
-}
-
 /// Whether `]` follows, after spaces and tabs.
 #[tactic(auto, unfolding(crate::specs::Tokens::ends_tag))]
 fn ends_tag(text: &[u8]) -> bool
     ensures { result ≡ ends_tag text.now }
 {
-    let (_, behind) = text.split_at(gap_len(text));
+    let (_, behind) = cut_run(Run::Gap, text);
     matches!(behind, [b']', ..])
 }
 
@@ -156,8 +96,8 @@ fn behind_value(text: &[u8]) -> &[u8]
     ensures { result.now ≡ behind_value text.now }
 {
     let (_, behind) = match text {
-        [_, rest @ ..] => rest.split_at(gap_len(rest)),
-        [] => text.split_at(0),
+        [_, rest @ ..] => cut_run(Run::Gap, rest),
+        [] => (text, text),
     };
     match behind {
         [_, rest @ ..] => rest,
@@ -193,8 +133,8 @@ fn read_named(text: &[u8]) -> Result<Cut<'_>, TokenFault>
 {
     match text {
         [first, ..] if is_letter(*first) => {
-            let (name, behind) = text.split_at(name_len(text));
-            let (_, behind) = behind.split_at(gap_len(behind));
+            let (name, behind) = cut_run(Run::Name, text);
+            let (_, behind) = cut_run(Run::Gap, behind);
             read_quoted(name, behind)
         }
         _ => Err(TokenFault::TagForm),
@@ -206,7 +146,7 @@ fn read_named(text: &[u8]) -> Result<Cut<'_>, TokenFault>
 fn read_tag(text: &[u8]) -> Result<Cut<'_>, TokenFault>
     ensures { lexed_seen result ≡ tag_at text.now }
 {
-    let (_, behind) = text.split_at(gap_len(text));
+    let (_, behind) = cut_run(Run::Gap, text);
     read_named(behind)
 }
 
@@ -215,7 +155,7 @@ fn read_tag(text: &[u8]) -> Result<Cut<'_>, TokenFault>
 fn read_comment(text: &[u8]) -> Result<Cut<'_>, TokenFault>
     ensures { lexed_seen result ≡ comment_at text.now }
 {
-    let (inside, behind) = text.split_at(comment_len(text));
+    let (inside, behind) = cut_run(Run::Comment, text);
     match behind {
         [_, rest @ ..] => found(Token::Comment(inside), rest),
         [] => Err(TokenFault::OpenComment),
@@ -225,42 +165,42 @@ fn read_comment(text: &[u8]) -> Result<Cut<'_>, TokenFault>
 fn without_line(text: &[u8]) -> &[u8]
     ensures { result.now ≡ drop (prefix_len is_in_line text.now) text.now }
 {
-    let (_, behind) = text.split_at(line_len(text));
+    let (_, behind) = cut_run(Run::Line, text);
     behind
 }
 
 fn read_rest(text: &[u8]) -> Result<Cut<'_>, TokenFault>
     ensures { lexed_seen result ≡ run_of rest is_in_line text.now }
 {
-    let (line, behind) = text.split_at(line_len(text));
+    let (line, behind) = cut_run(Run::Line, text);
     found(Token::Rest(line), behind)
 }
 
 fn read_sign(text: &[u8]) -> Result<Cut<'_>, TokenFault>
     ensures { lexed_seen result ≡ run_of sign is_sign text.now }
 {
-    let (signs, behind) = text.split_at(signs_len(text));
+    let (signs, behind) = cut_run(Run::Signs, text);
     found(Token::Sign(signs), behind)
 }
 
 fn read_symbol(text: &[u8]) -> Result<Cut<'_>, TokenFault>
     ensures { lexed_seen result ≡ run_of symbol is_symbol_byte text.now }
 {
-    let (bytes, behind) = text.split_at(symbol_len(text));
+    let (bytes, behind) = cut_run(Run::Symbol, text);
     found(Token::Symbol(bytes), behind)
 }
 
 fn read_nag(text: &[u8]) -> Result<Cut<'_>, TokenFault>
     ensures { lexed_seen result ≡ Ok (aside, drop (prefix_len is_digit text.now) text.now) }
 {
-    let (_, behind) = text.split_at(digits_len(text));
+    let (_, behind) = cut_run(Run::Digits, text);
     found(Token::Aside, behind)
 }
 
 fn read_glyphs(text: &[u8]) -> Result<Cut<'_>, TokenFault>
     ensures { lexed_seen result ≡ Ok (aside, drop (prefix_len is_glyph text.now) text.now) }
 {
-    let (_, behind) = text.split_at(glyphs_len(text));
+    let (_, behind) = cut_run(Run::Glyphs, text);
     found(Token::Aside, behind)
 }
 

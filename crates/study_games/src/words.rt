@@ -1,26 +1,10 @@
 //! Words between blanks, and texts without the spaces at their ends.
-ghost use Rattle.std.specs.Prelude.{◌≡◌, ◌≤◌, ◌&&◌, ◌==◌, ◌-◌, nat_le, length, take, slice_index, Some, None};
-ghost use Rattle.std.specs.List.{prefix_len};
+ghost use Rattle.std.specs.Prelude.{◌≡◌, ◌≤◌, ◌&&◌, ◌==◌, ◌-◌, length, take, Some, None};
 ghost use Rattle.std.specs.Option.{option_map};
-ghost use Rattle.study_games.specs.Bytes.{is_blank};
 ghost use Rattle.study_games.specs.Symbols.{without_end};
-ghost use Rattle.study_games.specs.Words.{is_space, is_inked, first_word, without_spaces, begun_word};
+ghost use Rattle.study_games.specs.Words.{is_space, first_word, without_spaces, begun_word};
 
-use crate::bytes::is_blank;
-
-fn blanks_len(text: &[u8]) -> usize
-    ensures value { result ≡ prefix_len is_blank text.now }
-    ensures within { result ≤ length text.now }
-{
-    text.iter().take_while(|b| is_blank(**b)).count()
-}
-
-fn word_len(text: &[u8]) -> usize
-    ensures value { result ≡ prefix_len is_inked text.now }
-    ensures within { result ≤ length text.now }
-{
-    text.iter().take_while(|b| !is_blank(**b)).count()
-}
+use crate::runs::{Run, cut_run};
 
 /// The word that the text begins with, and the rest.
 fn cut_word(text: &[u8]) -> Option<(&[u8], &[u8])>
@@ -29,7 +13,7 @@ fn cut_word(text: &[u8]) -> Option<(&[u8], &[u8])>
     if text.is_empty() {
         return None;
     }
-    Some(text.split_at(word_len(text)))
+    Some(cut_run(Run::Word, text))
 }
 
 /// The first word of a text, and the rest. Words are separated by blanks.
@@ -37,18 +21,11 @@ fn cut_word(text: &[u8]) -> Option<(&[u8], &[u8])>
 pub fn next_word(text: &[u8]) -> Option<(&[u8], &[u8])>
     ensures { option_map (λ found. (found.0.now, found.1.now)) result ≡ first_word text.now }
 {
-    let (_, begun) = text.split_at(blanks_len(text));
+    let (_, begun) = cut_run(Run::Blanks, text);
     cut_word(begun)
 }
 
-fn spaces_len(text: &[u8]) -> usize
-    ensures value { result ≡ prefix_len is_space text.now }
-    ensures within { result ≤ length text.now }
-{
-    text.iter().take_while(|b| **b == b' ').count()
-}
-
-/// The length of a text without the spaces at its end.
+/// How much of a text stands before the spaces at its end.
 fn len_without_end_spaces(text: &[u8]) -> usize
     ensures value { take result text.now ≡ without_end is_space text.now }
     ensures within { result ≤ length text.now }
@@ -72,7 +49,7 @@ pub fn trim_end(text: &[u8]) -> &[u8]
 pub fn trim_start(text: &[u8]) -> &[u8]
     ensures { result.now ≡ without_spaces text.now }
 {
-    let (_, begun) = text.split_at(spaces_len(text));
+    let (_, begun) = cut_run(Run::Spaces, text);
     begun
 }
 

@@ -1,5 +1,5 @@
-use Rattle.std.proofs.Common.{◌≡◌, ◌+◌, ◌≤◌, true, length}
-use Rattle.study_games.specs.Header.{tags_in, fault_in, value_of}
+use Rattle.std.proofs.Common.{◌≡◌, true, length}
+use Rattle.study_games.specs.Header.{tags_in, value_of}
 use Rattle.study_games.proofs.header.tag_value.Given as goal
 
 abbrev pub invariant-loop-fuel : goal.invariant-loop-fuel
