@@ -47,6 +47,45 @@ bit-none : (b : Bool) → (b ≡ true → ⊥) → bit b ≡ 0
 bit-none false h = refl
 bit-none true h = absurd (h refl)
 
+sum_le : (a b c d : ℕ) → a ≤ c → b + c ≤ d → a + b ≤ d
+sum_le a b c d h i = omega arith
+
+none_le : (a b d : ℕ) → a ≡ 0 → b ≤ d → a + b ≤ d
+none_le a b d h i = omega arith
+
+zero_le : (a b : ℕ) → a ≡ 0 → a ≤ b
+zero_le a b h = omega arith
+
+within : (a b c d : ℕ) → a + b ≤ c → c ≤ d → a ≤ d
+within a b c d h i = omega arith
+
+-- ---- of moves that pass, whichever they are
+
+module _ (q : Move → Bool) where
+  abbrev one : ℕ → ℕ → Option Kind → ℕ
+  one a x k = bit (q (record { origin = a; target = x; promoted = k }))
+
+  between_le : (a x b c d e f m : ℕ) → one a x None ≤ b → one a x (Some Queen) ≤ c → one a x (Some Rook) ≤ d → one a x (Some Bishop) ≤ e
+      → one a x (Some Knight) ≤ f → b + (c + (d + (e + f))) ≤ m → passing q (moves_between a x) ≤ m
+  between_le a x b c d e f m h i j k l n = omega arith
+
+  between_none : (a x : ℕ) → ((k : Option Kind) → one a x k ≡ 0) → passing q (moves_between a x) ≡ 0
+  between_none a x h = omega (arith, h None, h (Some Queen), h (Some Rook), h (Some Bishop), h (Some Knight))
+
+  row_le : (a : ℕ) (f : ℕ → ℕ) → ((x : ℕ) → passing q (moves_between a x) + f x ≤ f (x + 1)) → (x n : ℕ)
+      → passing q (flat_map (moves_between a) (range_with_len x n)) + f x ≤ f (x + n)
+  row_le a f h x zero = rw (add-zero x) (omega arith)
+  row_le a f h x (suc n) =
+      let up : x + suc n ≡ x + 1 + n = omega arith in
+      rw up
+      (omega (arith, passing-append q (moves_between a x) (flat_map (moves_between a) (range_with_len (x + 1) n)), h x, row_le a f h (x + 1) n))
+
+  row_none : (a : ℕ) → ((x : ℕ) → passing q (moves_between a x) ≡ 0) → (x n : ℕ)
+      → passing q (flat_map (moves_between a) (range_with_len x n)) ≡ 0
+  row_none a h x zero = refl
+  row_none a h x (suc n) =
+      omega (arith, passing-append q (moves_between a x) (flat_map (moves_between a) (range_with_len (x + 1) n)), h x, row_none a h (x + 1) n)
+
 module _ (p : Position) (man : Man) (here : man_at p.men man.at ≡ Some man) where
   abbrev made : ℕ → Option Kind → Move
   made x q = record { origin = man.at; target = x; promoted = q }
@@ -57,11 +96,11 @@ module _ (p : Position) (man : Man) (here : man_at p.men man.at ≡ Some man) wh
   chosen : (x : ℕ) (q : Option Kind) → bit (is_legal p (made x q)) ≤ bit (is_promotion_choice (reaches_last_rank man x) q)
   chosen x q = bit-le (is_legal p (made x q)) (is_promotion_choice (reaches_last_rank man x) q) (λ e. (legal_is x q e).choice)
 
-  unreached : (x : ℕ) (q : Option Kind) → reaches_target p.men p.passed man x ≡ false → bit (is_legal p (made x q)) ≡ 0
-  unreached x q none = bit-none (is_legal p (made x q)) (λ e. false≢true (sym none ∙ (legal_is x q e).going))
+  unreached : (x : ℕ) → reaches_target p.men p.passed man x ≡ false → (q : Option Kind) → bit (is_legal p (made x q)) ≡ 0
+  unreached x none q = bit-none (is_legal p (made x q)) (λ e. false≢true (sym none ∙ (legal_is x q e).going))
 
-  not_mine : (x : ℕ) (q : Option Kind) → same_side man.side p.to_move ≡ false → bit (is_legal p (made x q)) ≡ 0
-  not_mine x q none = bit-none (is_legal p (made x q)) (λ e. false≢true (sym none ∙ (legal_is x q e).mine))
+  not_mine : (x : ℕ) → same_side man.side p.to_move ≡ false → (q : Option Kind) → bit (is_legal p (made x q)) ≡ 0
+  not_mine x none q = bit-none (is_legal p (made x q)) (λ e. false≢true (sym none ∙ (legal_is x q e).mine))
 
   by_choice : (last : Bool) → bit (is_promotion_choice last None) + (bit (is_promotion_choice last (Some Queen)) + (bit (is_promotion_choice last (Some Rook))
       + (bit (is_promotion_choice last (Some Bishop)) + bit (is_promotion_choice last (Some Knight))))) ≤ cond last 4 1
@@ -70,37 +109,21 @@ module _ (p : Position) (man : Man) (here : man_at p.men man.at ≡ Some man) wh
 
   square_few : (x : ℕ) → passing (is_legal p) (moves_between man.at x) ≤ cond (reaches_last_rank man x) 4 1
   square_few x =
-      omega (arith, chosen x None, chosen x (Some Queen), chosen x (Some Rook), chosen x (Some Bishop), chosen x (Some Knight), by_choice (reaches_last_rank man x))
-
-  square_none : (x : ℕ) → reaches_target p.men p.passed man x ≡ false → passing (is_legal p) (moves_between man.at x) ≡ 0
-  square_none x e =
-      omega (arith, unreached x None e, unreached x (Some Queen) e, unreached x (Some Rook) e, unreached x (Some Bishop) e, unreached x (Some Knight) e)
-
-  square_other : (x : ℕ) → same_side man.side p.to_move ≡ false → passing (is_legal p) (moves_between man.at x) ≡ 0
-  square_other x e =
-      omega (arith, not_mine x None e, not_mine x (Some Queen) e, not_mine x (Some Rook) e, not_mine x (Some Bishop) e, not_mine x (Some Knight) e)
+      between_le (is_legal p) man.at x _ _ _ _ _ _ (chosen x None) (chosen x (Some Queen)) (chosen x (Some Rook)) (chosen x (Some Bishop)) (chosen x (Some Knight))
+      (by_choice (reaches_last_rank man x))
 
   square_more : (x : ℕ) → passing (is_legal p) (moves_between man.at x) + moves_below man.side man.kind man.at x ≤ moves_below man.side man.kind man.at (x + 1)
   square_more x = elim (cases_Bool (reaches_target p.men p.passed man x)) [
-    | inl going ↦ omega (arith, square_few x, moves_below-next p.men p.passed man x x (omega arith) going)
-    | inr none ↦ omega (arith, square_none x none, moves_below-more man.side man.kind man.at x (x + 1) (omega arith))
+    | inl going ↦ sum_le _ _ _ _ (square_few x) (moves_below-next p.men p.passed man x x (omega arith) going)
+    | inr none ↦ none_le _ _ _ (between_none (is_legal p) man.at x (unreached x none)) (moves_below-more man.side man.kind man.at x (x + 1) (omega arith))
   ]
 
-  squares_few : (x n : ℕ) → passing (is_legal p) (flat_map (moves_between man.at) (range_with_len x n)) + moves_below man.side man.kind man.at x
-      ≤ moves_below man.side man.kind man.at (x + n)
-  squares_few x zero = rw (add-zero x) (omega arith)
-  squares_few x (suc n) =
-      let up : x + suc n ≡ x + 1 + n = omega arith in
-      rw up
-      (omega (arith, passing-append (is_legal p) (moves_between man.at x) (flat_map (moves_between man.at) (range_with_len (x + 1) n)), square_more x, squares_few (x + 1) n))
-
   man_few : man.at < 64 → passing (is_legal p) (moves_from man.at) ≤ most_moves man.kind
-  man_few on = omega (arith, squares_few 0 64, moves_below-most man.side man.kind man.at on)
+  man_few on =
+      within _ _ _ _ (row_le (is_legal p) man.at (moves_below man.side man.kind man.at) square_more 0 64) (moves_below-most man.side man.kind man.at on)
 
-  man_other : same_side man.side p.to_move ≡ false → (x n : ℕ) → passing (is_legal p) (flat_map (moves_between man.at) (range_with_len x n)) ≡ 0
-  man_other e x zero = refl
-  man_other e x (suc n) =
-      omega (arith, passing-append (is_legal p) (moves_between man.at x) (flat_map (moves_between man.at) (range_with_len (x + 1) n)), square_other x e, man_other e (x + 1) n)
+  man_other : same_side man.side p.to_move ≡ false → passing (is_legal p) (moves_from man.at) ≡ 0
+  man_other e = row_none (is_legal p) man.at (λ x. between_none (is_legal p) man.at x (not_mine x e)) 0 64
 
 -- ---- all squares
 
@@ -143,6 +166,11 @@ weights-le : (side : Side) (men : List Man) (a n : ℕ) → weights side men a n
 weights-le side [] a n = omega (arith, weights-none side a n)
 weights-le side (m ∷ men) a n = omega (arith, weights-cons side m men a n, weights-le side men a n)
 
+module _ (q : Move → Bool) (side : Side) (men : List Man) (few : (a : ℕ) → passing q (moves_from a) ≤ weight side men a) where
+  squares_le : (a n : ℕ) → passing q (flat_map moves_from (range_with_len a n)) ≤ weights side men a n
+  squares_le a zero = omega arith
+  squares_le a (suc n) = omega (arith, passing-append q (moves_from a) (flat_map moves_from (range_with_len (a + 1) n)), few a, squares_le (a + 1) n)
+
 any_man : Man
 any_man = record { side = White; kind = King; at = 0 }
 
@@ -175,19 +203,8 @@ module _ (p : Position) (valid : IsValid p) where
       (λ e. let h = HasMover-from_is_legal p (record { origin = a; target = x; promoted = q }) e in
       let both : None ≡ Some h.man = sym none ∙ h.here in absurd cc)
 
-  none_from : (a : ℕ) → man_at p.men a ≡ None → (x n : ℕ) → passing (is_legal p) (flat_map (moves_between a) (range_with_len x n)) ≡ 0
-  none_from a e x zero = refl
-  none_from a e x (suc n) =
-      omega (
-        arith,
-        passing-append (is_legal p) (moves_between a x) (flat_map (moves_between a) (range_with_len (x + 1) n)),
-        no_man a x None e,
-        no_man a x (Some Queen) e,
-        no_man a x (Some Rook) e,
-        no_man a x (Some Bishop) e,
-        no_man a x (Some Knight) e,
-        none_from a e (x + 1) n,
-      )
+  none_from : (a : ℕ) → man_at p.men a ≡ None → passing (is_legal p) (moves_from a) ≡ 0
+  none_from a e = row_none (is_legal p) a (λ x. between_none (is_legal p) a x (λ q. no_man a x q e)) 0 64
 
   some_from : (a : ℕ) (man : Man) → man_at p.men a ≡ Some man → passing (is_legal p) (moves_from a) ≤ mass p.to_move man
   some_from a man e =
@@ -197,17 +214,15 @@ module _ (p : Position) (valid : IsValid p) where
       subst (λ (x : ℕ). passing (is_legal p) (moves_from x) ≤ mass p.to_move man) f.1
       (elim (cases_Bool (same_side man.side p.to_move)) [
         | inl mine ↦ rw mine (man_few p man here on)
-        | inr other ↦ rw other (omega (arith, man_other p man here other 0 64))
+        | inr other ↦ zero_le _ _ (man_other p man here other)
       ])
 
   square_from : (a : ℕ) (o : Option Man) → man_at p.men a ≡ o → passing (is_legal p) (moves_from a) ≤ option_map_or (mass p.to_move) o 0
-  square_from a None e = omega (arith, none_from a e 0 64)
+  square_from a None e = zero_le _ _ (none_from a e)
   square_from a (Some man) e = some_from a man e
 
   all_from : (a n : ℕ) → passing (is_legal p) (flat_map moves_from (range_with_len a n)) ≤ weights p.to_move p.men a n
-  all_from a zero = omega arith
-  all_from a (suc n) =
-      omega (arith, passing-append (is_legal p) (moves_from a) (flat_map moves_from (range_with_len (a + 1) n)), square_from a (man_at p.men a) refl, all_from (a + 1) n)
+  all_from = squares_le (is_legal p) p.to_move p.men (λ a. square_from a (man_at p.men a) refl)
 
   all_few : passing (is_legal p) all_moves ≤ weights p.to_move p.men 0 64
   unfolding all_moves

@@ -43,6 +43,7 @@ use Rattle.study_import.specs.declared.aims.Aim.{Aim}
 use Rattle.study_import.specs.declared.aims.AimSource.TheVariants.{Comment, StipulationTag, ResultTag, Result as EndResult, Given}
 use Rattle.study_import.specs.declared.notes.Notes.{Notes}
 use Rattle.study_import.specs.declared.block.Told.{Told as ToldRead}
+use Rattle.study_import.specs.declared.counts.Count.{Count}
 use Rattle.study_import.specs.declared.importer.Choice.{Choice}
 use Rattle.study_import.specs.declared.places.Place.{Place}
 use Rattle.study_import.specs.declared.places.Entry.{Entry as EntryRead}
@@ -142,9 +143,16 @@ no_study text = record { text = text; is_study = false }
 
 -- ---- counts
 
--- ` NAME N`, after a comma if it is not the first
+abbrev pub separator : Bool → List ℕ
+separator first = if first then codes " " else codes ", "
+
+-- ` NAME N`, behind a comma if it is not the first
 abbrev pub count_words : Bool → List ℕ → ℕ → List ℕ
-count_words first name n = if n == 0 then [] else (if first then codes " " else codes ", ") ++ (name ++ (codes " " ++ decimal n))
+count_words first name n = if n == 0 then [] else separator first ++ (name ++ (codes " " ++ decimal n))
+
+-- what a contract sees of a count
+abbrev pub count_seen : Count → List ℕ × ℕ
+count_seen c = (c.name.now, c.number)
 
 abbrev pub counts_words : Bool → List (List ℕ × ℕ) → List ℕ
 counts_words first [] = []

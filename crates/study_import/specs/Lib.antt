@@ -7,6 +7,8 @@ pub mod Notes
 pub mod Movetext
 pub mod MovesRead
 pub mod Tails
+pub mod Masks
+pub mod Pieces
 pub mod Blocks
 pub mod BlocksRead
 pub mod Imported

@@ -1,9 +1,9 @@
-//! The stipulation that a game states.
-ghost use Rattle.std.specs.Prelude.{◌≡◌, ◌≤◌, length};
+//! What a game says it is to come to.
+ghost use Rattle.std.specs.Prelude.{◌≡◌};
 ghost use Rattle.std.specs.Option.{option_map};
-ghost use Rattle.study_games.specs.Words.{first_word, trimmed};
+ghost use Rattle.study_games.specs.Words.{first_word};
 ghost use Rattle.study_command.specs.Parser.{mate_moves_of};
-ghost use Rattle.study_import.specs.Aims.{ends_with_colon, last_of_phrase, hero_of, goal_named, moves_named, moves_in, moves_behind_in, mate_goal, goal_in, goal_behind_to, aim_in};
+ghost use Rattle.study_import.specs.Aims.{ends_with_colon, last_of_phrase, hero_of, goal_named, moves_in, moves_behind_in, mate_goal, goal_in, goal_behind_to, aim_in};
 ghost use Rattle.study_import.specs.Aims.{mate_tag, says_win, says_draw, aim_of_text, aim_of_tag, aim_of_outcome, outcome_of_text, outcome_of_tag, source_words};
 
 use study_board::Side;
@@ -11,8 +11,8 @@ use study_command::read_place;
 use study_games::{Outcome, next_word, trim_end, trim_start};
 use study_marks::{Goal, MateMoves, Stipulation};
 
-/// The source of a stipulation.
-#[derive(Clone, Copy, Debug, PartialEq, Eq)]
+/// Where a stipulation comes from.
+#[derive(Clone, Copy)]
 pub enum AimSource {
     /// The first comment, before the first move.
     Comment,
@@ -24,8 +24,8 @@ pub enum AimSource {
     Given,
 }
 
-/// A stipulation, and its source.
-#[derive(Clone, Copy, Debug, PartialEq, Eq)]
+/// A stipulation, and where it comes from.
+#[derive(Clone, Copy)]
 pub struct Aim {
     pub stipulation: Stipulation,
     pub source: AimSource,

@@ -1,36 +1,40 @@
-//! The text written for a game.
-ghost use Rattle.std.specs.Prelude.{◌≡◌, ◌≤◌, ◌++◌, ◌-◌, true, length, map, codes, count_by, OnOk, IfOk, IsErr};
-ghost use Rattle.std.specs.List.{list_all, prefix_len};
+//! What is written of a game.
+ghost use Rattle.std.specs.Prelude.{◌≡◌, ◌≤◌, ◌++◌, ◌-◌, true, codes, count_by, OnOk, IfOk, IsErr};
+ghost use Rattle.std.specs.List.{list_all};
 ghost use Rattle.std.specs.Option.{option_map};
 ghost use Rattle.study_notation.specs.Fen.{start_of};
 ghost use Rattle.study_marks.specs.Edits.{is_printable};
 ghost use Rattle.study_marks.specs.Study.{plain_study};
 ghost use Rattle.study_marks.specs.BenchState.{marked};
-ghost use Rattle.study_games.specs.Bytes.{is_blank, is_letter};
+ghost use Rattle.study_games.specs.Bytes.{is_letter};
 ghost use Rattle.study_games.specs.Words.{first_word};
 ghost use Rattle.study_games.specs.Games.{game_seen};
 ghost use Rattle.study_games.specs.Header.{tags_of, header_fault, value_of};
 ghost use Rattle.study_import.specs.Notes.{game_of};
 ghost use Rattle.study_import.specs.Aims.{source_words, from_source, or_aim, aim_of_result};
-ghost use Rattle.study_import.specs.Blocks.{entry_seen, repeated_moves, behind_line, side_text, goal_text, stipulation_line, head_line, position_line, remark_lines, study_lines, block_lines};
-ghost use Rattle.study_import.specs.Blocks.{tag_aim, result_of, aim_of_game, told_seen, aimed_block, stopped_block, read_block, no_moves, game_read, at_most, men_in, no_study, left_out, fen_words, start_block, printed, fen_in, fen_block, header_block, block_of};
+ghost use Rattle.study_import.specs.Blocks.{entry_seen, repeated_moves, place_words, behind_line, side_text, goal_text, stipulation_line, head_line, position_line, counts_line, counted_words, other_tags, remark_lines, study_lines, block_lines};
+ghost use Rattle.study_import.specs.Blocks.{tag_aim, result_of, aim_of_game, told_seen, aimed_block, stopped_block, read_block, no_moves, game_read, at_most, men_in, no_study, left_out, fen_words, start_block, fen_in, fen_block, header_block, block_of};
 ghost use Rattle.study_import.specs.BlocksRead.{is_of_memory, Adds};
 
 use crate::aims::{Aim, AimSource, aim_of_outcome, aim_of_tag, outcome_of_tag, source_words};
 use crate::counts::{add_counted, add_counts_line, other_tags};
-use crate::faults::{add_fault, add_game_words, add_left_out, add_stop, is_of_memory, token_name};
+use crate::faults::{add_fault, add_left_out, add_stop, is_of_memory, token_name};
 use crate::lines::Lines;
+use crate::masks::{Mask, add_masked};
 use crate::movetext::{GameReading, MovesFault};
 use crate::notes::Notes;
-use crate::places::{Entry, Place, add_place, at_most, place_in};
+use crate::pieces::{Piece, add_pieces};
+use crate::places::{Entry, Place, at_most, place_in};
 use crate::reading::Reading;
 use crate::tags::{add_tag_lines, add_was_lines};
 use crate::values::NoValues;
 use std::alloc::{AllocError, Allocator};
 use study_board::Side;
 use study_command::as_text;
-use study_games::bytes::{is_blank, is_letter};
-use study_games::{Game, Outcome, count_tags, header_fault, next_word, tag_value, unescape};
+use study_games::bytes::is_letter;
+use study_games::{
+    Game, Outcome, Run, count_tags, cut_run, header_fault, next_word, tag_value, unescape,
+};
 use study_marks::{Bench, Goal, Stipulation};
 use study_notation::{FenFault, Start, read_fen, write_fen};
 use study_reply::Refusal;
@@ -51,11 +55,14 @@ fn add_goal<A: Allocator>(out: &mut Text<'_, A>, goal: Goal) -> Result<(), Alloc
     match goal {
         Goal::Win => out.add(b"win\n"),
         Goal::Draw => out.add(b"draw\n"),
-        Goal::MateIn(moves) => {
-            out.add(b"mate ")?;
-            out.add_number(moves.count() as u32)?;
-            out.add(b"\n")
-        }
+        Goal::MateIn(moves) => add_pieces(
+            out,
+            &[
+                Piece::Bytes(b"mate "),
+                Piece::Number(moves.count() as u32),
+                Piece::Bytes(b"\n"),
+            ],
+        ),
     }
 }
 
@@ -66,8 +73,8 @@ fn add_stipulation<A: Allocator>(
 ) -> Result<(), AllocError>
     ensures { OnOk result (out.new ≡ out.old ++ stipulation_line stipulation.now) }
 {
-    out.add(b"stipulate ")?;
-    out.add(side_text(stipulation.hero))?;
+    let side = side_text(stipulation.hero);
+    add_pieces(out, &[Piece::Bytes(b"stipulate "), Piece::Bytes(side)])?;
     add_goal(out, stipulation.goal)
 }
 
@@ -79,34 +86,50 @@ fn add_head<A: Allocator>(
 ) -> Result<(), AllocError>
     ensures { OnOk result (out.new ≡ out.old ++ head_line (entry_seen entry.now) aim.now) }
 {
-    add_game_words(out, entry.number)?;
-    out.add(b", line ")?;
-    out.add_number(entry.line)?;
-    out.add(b": stipulated by ")?;
-    add_source(out, aim.source)
-}
-
-fn add_source<A: Allocator>(out: &mut Text<'_, A>, source: AimSource) -> Result<(), AllocError>
-    ensures { OnOk result (out.new ≡ out.old ++ (source_words source ++ codes "\n")) }
-{
-    out.add(source_words(source))?;
-    out.add(b"\n")
+    add_pieces(
+        out,
+        &[
+            Piece::Bytes(b"# game "),
+            Piece::Number(entry.number),
+            Piece::Bytes(b", line "),
+            Piece::Number(entry.line),
+            Piece::Bytes(b": stipulated by "),
+            Piece::Bytes(source_words(aim.source)),
+            Piece::Bytes(b"\n"),
+        ],
+    )
 }
 
 #[tactic(auto, unfolding(crate::specs::Blocks::position_line))]
 fn add_position<A: Allocator>(out: &mut Text<'_, A>, start: &Start) -> Result<(), AllocError>
     ensures { OnOk result (out.new ≡ out.old ++ position_line start.now) }
 {
-    out.add(b"position ")?;
-    out.add(write_fen(start).as_str().as_bytes())?;
-    out.add(b"\n")
+    let fen = write_fen(start);
+    add_pieces(
+        out,
+        &[
+            Piece::Bytes(b"position "),
+            Piece::Bytes(fen.as_str().as_bytes()),
+            Piece::Bytes(b"\n"),
+        ],
+    )
 }
 
-fn blanks_len(text: &[u8]) -> usize
-    ensures value { result ≡ prefix_len is_blank text.now }
-    ensures within { result ≤ length text.now }
+/// Adds the line that tells the place of what follows the result.
+#[tactic(auto, unfolding(crate::specs::Blocks::place_words))]
+fn add_unread<A: Allocator>(out: &mut Text<'_, A>, place: Place) -> Result<(), AllocError>
+    ensures { OnOk result (out.new ≡ out.old ++ (codes "# behind the result: " ++ (place_words place ++ codes "\n"))) }
 {
-    text.iter().take_while(|b| is_blank(**b)).count()
+    add_pieces(
+        out,
+        &[
+            Piece::Bytes(b"# behind the result: line "),
+            Piece::Number(place.line),
+            Piece::Bytes(b", column "),
+            Piece::Number(place.column),
+            Piece::Bytes(b"\n"),
+        ],
+    )
 }
 
 /// Adds the place of the text after the result, if there is any.
@@ -118,13 +141,11 @@ fn add_behind<A: Allocator>(
 ) -> Result<(), AllocError>
     ensures { OnOk result (out.new ≡ out.old ++ behind_line (entry_seen entry.now) behind.now) }
 {
-    let (_, unread) = behind.split_at(blanks_len(behind));
+    let (_, unread) = cut_run(Run::Blanks, behind);
     if unread.is_empty() {
         return Ok(());
     }
-    out.add(b"# behind the result: ")?;
-    add_place(out, place_in(entry, unread.len()))?;
-    out.add(b"\n")
+    add_unread(out, place_in(entry, unread.len()))
 }
 
 /// What was read of a game, except its start.
@@ -154,6 +175,20 @@ fn new_nodes(size: usize) -> u32
     if size == 0 { 0 } else { size as u32 - 1 }
 }
 
+/// Adds the line of what is not taken over, where there is anything.
+fn add_counts<'a, A: Allocator>(
+    alloc: &'a A,
+    out: &mut Text<'_, A>,
+    game: &[u8],
+    told: &Told<'_>,
+) -> Result<(), AllocError>
+    ensures { OnOk result (out.new ≡ out.old ++ counts_line (counted_words told.now.notes (other_tags (tags_of game.now)) told.now.repeated)) }
+{
+    let mut words = Text::new(alloc);
+    add_counted(&mut words, &told.notes, other_tags(game), told.repeated)?;
+    add_counts_line(out, words.as_slice())
+}
+
 #[tactic(auto, unfolding(crate::specs::Blocks::remark_lines))]
 fn add_remarks<'a, A: Allocator>(
     alloc: &'a A,
@@ -163,14 +198,7 @@ fn add_remarks<'a, A: Allocator>(
 ) -> Result<(), AllocError>
     ensures { OnOk result (out.new ≡ out.old ++ remark_lines (entry_seen entry.now) (told_seen told.now)) }
 {
-    let mut words = Text::new(alloc);
-    add_counted(
-        &mut words,
-        &told.notes,
-        other_tags(entry.text),
-        told.repeated,
-    )?;
-    add_counts_line(out, words.as_slice())?;
+    add_counts(alloc, out, entry.text, told)?;
     add_behind(out, entry, told.behind)?;
     add_was_lines(alloc, out, entry.text)
 }
@@ -189,8 +217,7 @@ fn add_study<'a, A: Allocator>(
     add_position(out, start)?;
     add_stipulation(out, stipulation)?;
     add_tag_lines(alloc, out, entry.text)?;
-    out.add(inserts)?;
-    out.add(b"pgn\n\n")
+    add_pieces(out, &[Piece::Bytes(inserts), Piece::Bytes(b"pgn\n\n")])
 }
 
 /// The stipulation of a tag Stipulation.
@@ -292,8 +319,8 @@ fn add_block<'a, A: Allocator>(
     add_study(alloc, out, entry, start, &aim.stipulation, told.inserts)
 }
 
-/// What the caller of the block knows of a game before its moves are read.
-#[derive(Clone, Copy, Debug)]
+/// What the caller knows of a game before its moves are read.
+#[derive(Clone, Copy)]
 pub struct Setting<'t> {
     /// The stipulation of a game that states none.
     pub given: Option<Stipulation>,
@@ -318,10 +345,7 @@ fn add_aimed<'a, A: Allocator>(
             add_block(alloc, out, entry, start, &aim, told)?;
             Ok(true)
         }
-        None => {
-            add_left_out(out, entry, b"NoStipulation")?;
-            Ok(false)
-        }
+        None => add_left_out(out, entry, b"NoStipulation"),
     }
 }
 
@@ -390,8 +414,7 @@ fn add_stopped<'a, A: Allocator>(
     if is_of_memory(fault.why) {
         return Err(AllocError);
     }
-    add_stop(alloc, out, &setting.entry, fault)?;
-    Ok(false)
+    add_stop(alloc, out, &setting.entry, fault)
 }
 
 /// The number of men that the first field of a FEN places.
@@ -430,8 +453,7 @@ fn add_fen_fault<'a, A: Allocator>(
 {
     let mut words = Text::new(alloc);
     add_fen_words(&mut words, fen, fault)?;
-    add_left_out(out, entry, words.as_slice())?;
-    Ok(false)
+    add_left_out(out, entry, words.as_slice())
 }
 
 fn add_fen_words<A: Allocator>(
@@ -444,9 +466,14 @@ fn add_fen_words<A: Allocator>(
     if fault != FenFault::TooManyMen {
         return out.add(Refusal::Fen(fault).name());
     }
-    out.add(b"left out: ")?;
-    out.add_number(men_in(fen))?;
-    out.add(b" men")
+    add_pieces(
+        out,
+        &[
+            Piece::Bytes(b"left out: "),
+            Piece::Number(men_in(fen)),
+            Piece::Bytes(b" men"),
+        ],
+    )
 }
 
 /// Adds the block of a game with this FEN, or why there is none.
@@ -465,29 +492,6 @@ pub fn add_start<'a, A: Allocator>(
     }
 }
 
-/// A printable byte, or `?`.
-fn printed(byte: u8) -> u8
-    ensures { result ≡ printed byte }
-{
-    if 32 <= byte && byte <= 126 {
-        byte
-    } else {
-        b'?'
-    }
-}
-
-/// Adds bytes, with `?` for each unprintable one.
-fn add_printed<A: Allocator>(out: &mut Text<'_, A>, bytes: &[u8]) -> Result<(), AllocError>
-    ensures { OnOk result (out.new ≡ out.old ++ map printed bytes.now) }
-{
-    let mut rest = bytes;
-    while let [first, more @ ..] = rest {
-        out.add(&[printed(*first)])?;
-        rest = more;
-    }
-    Ok(())
-}
-
 /// The FEN that a tag's value spells.
 #[tactic(auto, using(crate::proofs::Printed::all_printed))]
 pub fn fen_in<'a, A: Allocator>(alloc: &'a A, raw: &[u8]) -> Result<Text<'a, A>, AllocError>
@@ -496,7 +500,7 @@ pub fn fen_in<'a, A: Allocator>(alloc: &'a A, raw: &[u8]) -> Result<Text<'a, A>,
 {
     let value = unescape(alloc, raw)?;
     let mut out = Text::new(alloc);
-    add_printed(&mut out, value.as_slice())?;
+    add_masked(&mut out, Mask::Printed, value.as_slice())?;
     Ok(out)
 }
 
@@ -510,10 +514,7 @@ fn add_tagged<'a, A: Allocator>(
         (value_of (codes "FEN") (tags_of setting.now.entry.text.now))) }
 {
     match tag_value(setting.entry.text, b"FEN") {
-        None => {
-            add_left_out(out, &setting.entry, b"left out: no FEN, so 32 men")?;
-            Ok(false)
-        }
+        None => add_left_out(out, &setting.entry, b"left out: no FEN, so 32 men"),
         Some(raw) => {
             let fen = fen_in(alloc, raw)?;
             add_start(alloc, out, setting, fen.as_slice())
@@ -532,12 +533,10 @@ fn add_entry<'a, A: Allocator>(
     let entry = &setting.entry;
     if let Some(fault) = header_fault(entry.text) {
         let place = place_in(entry, fault.left);
-        add_fault(out, entry.number, place, token_name(fault.why), b"")?;
-        return Ok(false);
+        return add_fault(out, entry.number, place, token_name(fault.why), b"");
     }
     if count_tags(entry.text) == 0 {
-        add_left_out(out, entry, b"left out: no tags")?;
-        return Ok(false);
+        return add_left_out(out, entry, b"left out: no tags");
     }
     add_tagged(alloc, out, setting)
 }
@@ -557,8 +556,7 @@ pub fn add_game<'a, A: Allocator>(
     match game.text {
         None => {
             let place = Place { line, column: 1 };
-            add_fault(out, number, place, b"GameTooLarge", b"")?;
-            Ok(false)
+            add_fault(out, number, place, b"GameTooLarge", b"")
         }
         Some(text) => {
             let entry = Entry { number, line, text };

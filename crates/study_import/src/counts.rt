@@ -1,9 +1,10 @@
-//! Counts of what the script omits.
-ghost use Rattle.std.specs.Prelude.{◌≡◌, ◌++◌, ◌∷◌, [], ◌&&◌, ◌==◌, ◌≤◌, codes, OnOk};
+//! What is not taken over of a game.
+ghost use Rattle.std.specs.Prelude.{◌≡◌, ◌++◌, ◌≤◌, true, map, OnOk};
 ghost use Rattle.study_games.specs.Header.{tags_of, value_of};
-ghost use Rattle.study_import.specs.Blocks.{count_words, counts_words, move_counts, counted_words, counts_line, found_count, known_count, known_names, other_tags};
+ghost use Rattle.study_import.specs.Blocks.{separator, count_words, counts_words, count_seen, counted_words, counts_line, found_count, known_count, known_names, other_tags};
 
 use crate::notes::Notes;
+use crate::pieces::{Piece, add_pieces};
 use crate::places::at_most;
 use std::alloc::{AllocError, Allocator};
 use study_games::{count_tags, tag_value};
@@ -42,32 +43,57 @@ pub fn other_tags(game: &[u8]) -> u32
     at_most(count_tags(game).saturating_sub(known_count(game)))
 }
 
-/// Adds ` NAME N`, after a comma if it is not the first.
+/// How many of a kind.
+#[derive(Clone, Copy)]
+pub struct Count<'t> {
+    pub name: &'t [u8],
+    pub number: u32,
+}
+
+fn separator(first: bool) -> &'static [u8]
+    ensures { result.now ≡ separator first }
+{
+    if first { b" " } else { b", " }
+}
+
+/// Adds ` NAME N`, behind a comma if it is not the first.
 fn add_count<A: Allocator>(
     out: &mut Text<'_, A>,
     first: bool,
-    name: &[u8],
-    n: u32,
+    count: Count<'_>,
 ) -> Result<(), AllocError>
-    ensures { OnOk result (out.new ≡ out.old ++ count_words first name.now n) }
+    ensures { OnOk result (out.new ≡ out.old ++ count_words first count.entry.name.now count.entry.number) }
 {
-    if n == 0 {
+    if count.number == 0 {
         return Ok(());
     }
-    out.add(if first { b" " } else { b", " })?;
-    out.add(name)?;
-    out.add(b" ")?;
-    out.add_number(n)
-}
-
-/// Whether the next count is the first to be printed.
-fn is_first(before: bool, n: u32) -> bool
-    ensures { result ≡ (before && n == 0) }
-{
-    before && n == 0
+    add_pieces(
+        out,
+        &[
+            Piece::Bytes(separator(first)),
+            Piece::Bytes(count.name),
+            Piece::Bytes(b" "),
+            Piece::Number(count.number),
+        ],
+    )
 }
 
 /// Adds the counts that are not 0.
+fn add_counts<A: Allocator>(out: &mut Text<'_, A>, counts: &[Count<'_>]) -> Result<(), AllocError>
+    ensures { OnOk result (out.new ≡ out.old ++ counts_words true (map count_seen counts.now)) }
+{
+    let mut first = true;
+    let mut rest = counts;
+    while let [count, more @ ..] = rest {
+        add_count(out, first, *count)?;
+        first = first && count.number == 0;
+        rest = more;
+    }
+    Ok(())
+}
+
+/// Adds the counts of a game that are not 0.
+#[tactic(auto, unfolding(crate::specs::Blocks::counted_words))]
 pub fn add_counted<A: Allocator>(
     out: &mut Text<'_, A>,
     notes: &Notes,
@@ -76,71 +102,35 @@ pub fn add_counted<A: Allocator>(
 ) -> Result<(), AllocError>
     ensures { OnOk result (out.new ≡ out.old ++ counted_words notes.now tags repeated) }
 {
-    add_count(out, true, b"comments", notes.comments)?;
-    add_asides(out, is_first(true, notes.comments), notes, tags, repeated)
-}
-
-fn add_asides<A: Allocator>(
-    out: &mut Text<'_, A>,
-    first: bool,
-    notes: &Notes,
-    tags: u32,
-    repeated: u32,
-) -> Result<(), AllocError>
-    ensures { OnOk result (out.new ≡ out.old
-        ++ counts_words first ((codes "NAGs", notes.now.asides) ∷ (codes "tags", tags) ∷ move_counts notes.now repeated)) }
-{
-    add_count(out, first, b"NAGs", notes.asides)?;
-    add_tags(out, is_first(first, notes.asides), notes, tags, repeated)
-}
-
-fn add_tags<A: Allocator>(
-    out: &mut Text<'_, A>,
-    first: bool,
-    notes: &Notes,
-    tags: u32,
-    repeated: u32,
-) -> Result<(), AllocError>
-    ensures { OnOk result (out.new ≡ out.old ++ counts_words first ((codes "tags", tags) ∷ move_counts notes.now repeated)) }
-{
-    add_count(out, first, b"tags", tags)?;
-    add_repeated(out, is_first(first, tags), notes, repeated)
-}
-
-fn add_repeated<A: Allocator>(
-    out: &mut Text<'_, A>,
-    first: bool,
-    notes: &Notes,
-    repeated: u32,
-) -> Result<(), AllocError>
-    ensures { OnOk result (out.new ≡ out.old ++ counts_words first (move_counts notes.now repeated)) }
-{
-    add_count(out, first, b"repeated", repeated)?;
-    add_null_moves(out, is_first(first, repeated), notes)
-}
-
-fn add_null_moves<A: Allocator>(
-    out: &mut Text<'_, A>,
-    first: bool,
-    notes: &Notes,
-) -> Result<(), AllocError>
-    ensures { OnOk result (out.new ≡ out.old
-        ++ counts_words first ((codes "null moves", notes.now.null_moves) ∷ (codes "moves behind", notes.now.moves_behind) ∷ [])) }
-{
-    add_count(out, first, b"null moves", notes.null_moves)?;
-    let first = is_first(first, notes.null_moves);
-    add_last_count(out, first, b"moves behind", notes.moves_behind)
-}
-
-fn add_last_count<A: Allocator>(
-    out: &mut Text<'_, A>,
-    first: bool,
-    name: &[u8],
-    n: u32,
-) -> Result<(), AllocError>
-    ensures { OnOk result (out.new ≡ out.old ++ counts_words first ((name.now, n) ∷ [])) }
-{
-    add_count(out, first, name, n)
+    add_counts(
+        out,
+        &[
+            Count {
+                name: b"comments",
+                number: notes.comments,
+            },
+            Count {
+                name: b"NAGs",
+                number: notes.asides,
+            },
+            Count {
+                name: b"tags",
+                number: tags,
+            },
+            Count {
+                name: b"repeated",
+                number: repeated,
+            },
+            Count {
+                name: b"null moves",
+                number: notes.null_moves,
+            },
+            Count {
+                name: b"moves behind",
+                number: notes.moves_behind,
+            },
+        ],
+    )
 }
 
 /// Adds the line of the counts, if there are any.
@@ -150,7 +140,12 @@ pub fn add_counts_line<A: Allocator>(out: &mut Text<'_, A>, words: &[u8]) -> Res
     if words.is_empty() {
         return Ok(());
     }
-    out.add(b"# not taken over:")?;
-    out.add(words)?;
-    out.add(b"\n")
+    add_pieces(
+        out,
+        &[
+            Piece::Bytes(b"# not taken over:"),
+            Piece::Bytes(words),
+            Piece::Bytes(b"\n"),
+        ],
+    )
 }

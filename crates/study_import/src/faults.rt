@@ -1,18 +1,16 @@
-//! The names of faults, and the lines that report them.
-ghost use Rattle.std.specs.Prelude.{◌≡◌, ◌≤◌, ◌++◌, codes, length, take, OnOk};
-ghost use Rattle.std.specs.List.{prefix_len};
-ghost use Rattle.study_games.specs.Bytes.{is_symbol_byte};
-ghost use Rattle.study_import.specs.Blocks.{token_name, move_name, line_name, reason_name, stop_name, symbol_words, game_words, left_out, fault_words, place_in, text_at, entry_seen, stopped_block};
-ghost use Rattle.study_import.specs.BlocksRead.{is_of_memory};
+//! The names of faults, and the lines that tell them.
+ghost use Rattle.std.specs.Prelude.{◌≡◌, ◌++◌, OnOk};
+ghost use Rattle.study_import.specs.Blocks.{token_name, move_name, line_name, stop_name, symbol_words, left_out, no_study, fault_words, place_in, text_at, entry_seen, stopped_block};
+ghost use Rattle.study_import.specs.BlocksRead.{is_of_memory, Adds};
 
 use crate::lines::LineFault;
 use crate::moves::MoveFault;
 use crate::movetext::{MovesFault, Stop};
-use crate::places::{Entry, Place, add_place, place_in, text_at};
+use crate::pieces::{Piece, add_pieces};
+use crate::places::{Entry, Place, place_in, text_at};
 use crate::taking::Reason;
 use std::alloc::{AllocError, Allocator};
-use study_games::bytes::is_symbol_byte;
-use study_games::{TokenFault, shortened};
+use study_games::{Run, TokenFault, cut_run, shortened};
 use study_reply::Refusal;
 use study_text::Text;
 
@@ -76,70 +74,71 @@ pub fn is_of_memory(why: Stop) -> bool
     }
 }
 
-fn symbol_len(text: &[u8]) -> usize
-    ensures value { result ≡ prefix_len is_symbol_byte text.now }
-    ensures within { result ≤ length text.now }
-{
-    text.iter().take_while(|b| is_symbol_byte(**b)).count()
-}
-
-/// Adds ` at SYMBOL`, if the fault is a move that cannot be read.
+/// Adds ` at SYMBOL`, where the fault is a move that is not read.
 fn add_symbol<A: Allocator>(out: &mut Text<'_, A>, why: Stop, text: &[u8]) -> Result<(), AllocError>
     ensures { OnOk result (out.new ≡ out.old ++ symbol_words why text.now) }
 {
     match why {
         Stop::Taking(Reason::Move(MoveFault::San(_))) => {
-            let (symbol, _) = text.split_at(symbol_len(text));
-            out.add(b" at ")?;
-            out.add(shortened(symbol, LONGEST_TOLD))
+            let (symbol, _) = cut_run(Run::Symbol, text);
+            let told = shortened(symbol, LONGEST_TOLD);
+            add_pieces(out, &[Piece::Bytes(b" at "), Piece::Bytes(told)])
         }
         _ => Ok(()),
     }
 }
 
-/// Adds `# game N`.
-pub fn add_game_words<A: Allocator>(out: &mut Text<'_, A>, number: u32) -> Result<(), AllocError>
-    ensures { OnOk result (out.new ≡ out.old ++ game_words number) }
-{
-    out.add(b"# game ")?;
-    out.add_number(number)
-}
-
-/// Adds the line with the reason why the whole game is left out.
+/// Adds the line that tells why the whole game is left out, which is no study.
 #[tactic(auto, unfolding(crate::specs::Blocks::left_out))]
 pub fn add_left_out<A: Allocator>(
     out: &mut Text<'_, A>,
     entry: &Entry<'_>,
     words: &[u8],
-) -> Result<(), AllocError>
-    ensures { OnOk result (out.new ≡ out.old ++ left_out (entry_seen entry.now) words.now) }
+) -> Result<bool, AllocError>
+    ensures { Adds result out.old out.new (no_study (left_out (entry_seen entry.now) words.now)) }
 {
-    add_game_words(out, entry.number)?;
-    out.add(b", line ")?;
-    out.add_number(entry.line)?;
-    out.add(b": ")?;
-    out.add(words)?;
-    out.add(b"\n\n")
+    add_pieces(
+        out,
+        &[
+            Piece::Bytes(b"# game "),
+            Piece::Number(entry.number),
+            Piece::Bytes(b", line "),
+            Piece::Number(entry.line),
+            Piece::Bytes(b": "),
+            Piece::Bytes(words),
+            Piece::Bytes(b"\n\n"),
+        ],
+    )?;
+    Ok(false)
 }
 
-/// Adds the line that reports a fault at a place.
-#[tactic(auto, unfolding(crate::specs::Blocks::fault_words))]
-pub fn add_fault<A: Allocator>(
+/// Adds the line that tells a fault at a place, which is no study.
+#[tactic(auto, unfolding(crate::specs::Blocks::fault_words, crate::specs::Blocks::place_words))]
+pub fn add_fault<'t, A: Allocator>(
     out: &mut Text<'_, A>,
     number: u32,
     place: Place,
-    name: &[u8],
-    symbol: &[u8],
-) -> Result<(), AllocError>
-    ensures { OnOk result (out.new ≡ out.old ++ fault_words number place name.now symbol.now) }
+    name: &'t [u8],
+    symbol: &'t [u8],
+) -> Result<bool, AllocError>
+    ensures { Adds result out.old out.new (no_study (fault_words number place name.now symbol.now)) }
 {
-    add_game_words(out, number)?;
-    out.add(b", ")?;
-    add_place(out, place)?;
-    out.add(b": ")?;
-    out.add(name)?;
-    out.add(symbol)?;
-    out.add(b"\n\n")
+    add_pieces(
+        out,
+        &[
+            Piece::Bytes(b"# game "),
+            Piece::Number(number),
+            Piece::Bytes(b", line "),
+            Piece::Number(place.line),
+            Piece::Bytes(b", column "),
+            Piece::Number(place.column),
+            Piece::Bytes(b": "),
+            Piece::Bytes(name),
+            Piece::Bytes(symbol),
+            Piece::Bytes(b"\n\n"),
+        ],
+    )?;
+    Ok(false)
 }
 
 /// Adds the line that reports the first fault of a game's moves.
@@ -148,8 +147,8 @@ pub fn add_stop<'a, A: Allocator>(
     out: &mut Text<'_, A>,
     entry: &Entry<'_>,
     fault: &MovesFault,
-) -> Result<(), AllocError>
-    ensures { OnOk result (out.new ≡ out.old ++ (stopped_block (entry_seen entry.now) fault.now).text) }
+) -> Result<bool, AllocError>
+    ensures { Adds result out.old out.new (stopped_block (entry_seen entry.now) fault.now) }
 {
     let mut symbol = Text::new(alloc);
     add_symbol(&mut symbol, fault.why, text_at(entry, fault.left))?;

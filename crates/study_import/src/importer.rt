@@ -1,10 +1,11 @@
-//! A file of games, read byte by byte.
-ghost use Rattle.std.specs.Prelude.{◌≡◌, ◌++◌, ◌∷◌, [], ◌==◌, length, OnOk, IfOk};
+//! A file of games, as it comes in.
+ghost use Rattle.std.specs.Prelude.{◌≡◌, ◌++◌, [], ◌==◌, length, OnOk, IfOk};
 ghost use Rattle.study_games.specs.Games.{unmarked, kind_of, longer, with_next, game_seen};
 ghost use Rattle.study_import.specs.Blocks.{tallied, told_text, last_line};
 ghost use Rattle.study_import.specs.Imported.{script_of, all_games, nothing_held, still_written, still_tallied, written_of, tally_ahead, put_away, text_at_hand, TakesByte, KeepsTally, EndsLine, EndsLineTallied};
 ghost use Rattle.study_import.specs.ImportedSeen.{tally_seen};
 
+use crate::pieces::{Piece, add_pieces};
 use crate::tail_block::add_chosen;
 use std::alloc::{AllocError, Allocator};
 use std::marker::Model;
@@ -202,11 +203,16 @@ fn tell_game<'a, A: Allocator>(
 fn add_last_line<A: Allocator>(out: &mut Text<'_, A>, tally: &Imported) -> Result<(), AllocError>
     ensures { OnOk result (out.new ≡ out.old ++ last_line tally.now.told tally.now.studies) }
 {
-    out.add(b"# games ")?;
-    out.add_number(tally.told)?;
-    out.add(b", studies ")?;
-    out.add_number(tally.studies)?;
-    out.add(b"\n")
+    add_pieces(
+        out,
+        &[
+            Piece::Bytes(b"# games "),
+            Piece::Number(tally.told),
+            Piece::Bytes(b", studies "),
+            Piece::Number(tally.studies),
+            Piece::Bytes(b"\n"),
+        ],
+    )
 }
 
 /// The script of a file of PGN.

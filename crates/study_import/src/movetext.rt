@@ -13,16 +13,16 @@ use crate::taking::Reason;
 use std::alloc::Allocator;
 use study_games::{Token, TokenFault, begins_feed, read_token};
 
-/// Why the moves of a game cannot be read to the end.
-#[derive(Clone, Copy, Debug, PartialEq, Eq)]
+/// Why the moves of a game are not read to their end.
+#[derive(Clone, Copy)]
 pub enum Stop {
     Token(TokenFault),
     Taking(Reason),
     OpenVariation,
 }
 
-/// The first fault of the moves, and the number of bytes from its place on.
-#[derive(Clone, Copy, Debug, PartialEq, Eq)]
+/// The first fault of the moves, and how many bytes of the text stand from its place on.
+#[derive(Clone, Copy)]
 pub struct MovesFault {
     pub why: Stop,
     pub left: usize,
@@ -48,10 +48,11 @@ impl<'a, A: Allocator> GameReading<'a, A> {
     /// Takes a token. Returns whether the game ends there.
     #[tactic(auto, using(crate::proofs::TokenByToken::noted_takes))]
     fn take(&mut self, token: Token<'_>) -> Result<bool, Reason>
-        ensures { TakesIn result (game_taken (game_of (plain_study (marked self.old.reading.bench)) self.old.reading.lines.path.items self.old.reading.lines.begun
-            self.old.reading.lines.waiting.items self.old.reading.lines.cut self.old.reading.inserts self.old.notes)
-            (token_seen token.entry)) (game_of (plain_study (marked self.new.reading.bench)) self.new.reading.lines.path.items self.new.reading.lines.begun
-            self.new.reading.lines.waiting.items self.new.reading.lines.cut self.new.reading.inserts self.new.notes) }
+        ensures { let before = game_of (plain_study (marked self.old.reading.bench)) self.old.reading.lines.path.items self.old.reading.lines.begun
+            self.old.reading.lines.waiting.items self.old.reading.lines.cut self.old.reading.inserts self.old.notes in
+            let after = game_of (plain_study (marked self.new.reading.bench)) self.new.reading.lines.path.items self.new.reading.lines.begun
+            self.new.reading.lines.waiting.items self.new.reading.lines.cut self.new.reading.inserts self.new.notes in
+            TakesIn result (game_taken before (token_seen token.entry)) after }
     {
         if is_header_tag(&self.notes, token) {
             return Ok(false);
@@ -64,10 +65,9 @@ impl<'a, A: Allocator> GameReading<'a, A> {
 
     fn end_text<'t>(&self, text: &'t [u8]) -> Result<&'t [u8], MovesFault>
         requires { text.now ≡ [] }
-        ensures { Ends (λ t. t.now) result (at_end (game_of (plain_study (marked self.now.reading.bench)) self.now.reading.lines.path.items self.now.reading.lines.begun
-            self.now.reading.lines.waiting.items self.now.reading.lines.cut self.now.reading.inserts self.now.notes))
-            (game_of (plain_study (marked self.now.reading.bench)) self.now.reading.lines.path.items self.now.reading.lines.begun
-            self.now.reading.lines.waiting.items self.now.reading.lines.cut self.now.reading.inserts self.now.notes) }
+        ensures { let game = game_of (plain_study (marked self.now.reading.bench)) self.now.reading.lines.path.items self.now.reading.lines.begun
+            self.now.reading.lines.waiting.items self.now.reading.lines.cut self.now.reading.inserts self.now.notes in
+            Ends (λ t. t.now) result (at_end game) game }
     {
         if self.reading.lines.waiting.is_empty() {
             Ok(text)
@@ -81,10 +81,11 @@ impl<'a, A: Allocator> GameReading<'a, A> {
 
     /// Reads a game from its first line up to its result or the end of the text, and returns the rest of the text.
     pub fn read<'t>(&mut self, text: &'t [u8], fresh: bool) -> Result<&'t [u8], MovesFault>
-        ensures { Ends (λ t. t.now) result (read_moves (length text.now) fresh text.now (game_of (plain_study (marked self.old.reading.bench)) self.old.reading.lines.path.items self.old.reading.lines.begun
-            self.old.reading.lines.waiting.items self.old.reading.lines.cut self.old.reading.inserts self.old.notes))
-            (game_of (plain_study (marked self.new.reading.bench)) self.new.reading.lines.path.items self.new.reading.lines.begun
-            self.new.reading.lines.waiting.items self.new.reading.lines.cut self.new.reading.inserts self.new.notes) }
+        ensures { let before = game_of (plain_study (marked self.old.reading.bench)) self.old.reading.lines.path.items self.old.reading.lines.begun
+            self.old.reading.lines.waiting.items self.old.reading.lines.cut self.old.reading.inserts self.old.notes in
+            let after = game_of (plain_study (marked self.new.reading.bench)) self.new.reading.lines.path.items self.new.reading.lines.begun
+            self.new.reading.lines.waiting.items self.new.reading.lines.cut self.new.reading.inserts self.new.notes in
+            Ends (λ t. t.now) result (read_moves (length text.now) fresh text.now before) after }
     {
         let mut rest = text;
         let mut fresh = fresh;

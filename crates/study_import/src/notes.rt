@@ -10,8 +10,8 @@ use crate::aims::aim_in;
 use study_games::{Outcome, Said, Token, say};
 use study_marks::Stipulation;
 
-/// Counts of what the script omits, and the stipulation that the game states. Counts saturate.
-#[derive(Clone, Copy, Debug)]
+/// What is not taken over of a game, and what it says of its stipulation. Counts stay at the last value of their type.
+#[derive(Clone, Copy)]
 pub struct Notes {
     pub comments: u32,
     /// NAGs and glyphs.

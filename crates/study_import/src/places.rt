@@ -1,20 +1,16 @@
 //! Places in a file.
-ghost use Rattle.std.specs.Prelude.{◌≡◌, ◌++◌, ◌-◌, ◌^◌, min, length, drop, codes, OnOk};
-ghost use Rattle.study_games.specs.Games.{one_more};
+ghost use Rattle.std.specs.Prelude.{◌≡◌, ◌++◌, ◌-◌, OnOk};
 ghost use Rattle.study_import.specs.Blocks.{moved_on, place_behind, entry_seen, place_in, text_at, place_words, at_most};
 
-use std::alloc::{AllocError, Allocator};
-use study_text::Text;
-
-/// A line and a column in bytes, each counted from 1. Both saturate.
-#[derive(Clone, Copy, Debug, PartialEq, Eq)]
+/// A line, counted from 1, and a column in bytes, counted from 1. Both stay at the last value of their type.
+#[derive(Clone, Copy)]
 pub struct Place {
     pub line: u32,
     pub column: u32,
 }
 
 /// A game of a file: its number, the number of its first line, and its bytes.
-#[derive(Clone, Copy, Debug)]
+#[derive(Clone, Copy)]
 pub struct Entry<'t> {
     pub number: u32,
     pub line: u32,
@@ -72,18 +68,7 @@ pub fn text_at<'t>(entry: &Entry<'t>, left: usize) -> &'t [u8]
     behind
 }
 
-/// Adds `line L, column C`.
-#[tactic(auto, unfolding(crate::specs::Blocks::place_words))]
-pub fn add_place<A: Allocator>(out: &mut Text<'_, A>, place: Place) -> Result<(), AllocError>
-    ensures { OnOk result (out.new ≡ out.old ++ place_words place) }
-{
-    out.add(b"line ")?;
-    out.add_number(place.line)?;
-    out.add(b", column ")?;
-    out.add_number(place.column)
-}
-
-/// A count as a u32; it saturates.
+/// A count as a u32 can hold it.
 pub fn at_most(n: usize) -> u32
     ensures { result ≡ at_most n }
 {

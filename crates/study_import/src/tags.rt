@@ -1,10 +1,12 @@
 //! The six tags of a study.
-ghost use Rattle.std.specs.Prelude.{◌≡◌, ◌++◌, map, OnOk};
+ghost use Rattle.std.specs.Prelude.{◌≡◌, ◌++◌, OnOk};
 ghost use Rattle.std.specs.List.{flat_map};
 ghost use Rattle.std.specs.Option.{option_map};
 ghost use Rattle.study_games.specs.Header.{tags_of};
-ghost use Rattle.study_import.specs.Blocks.{shown, was_words, was_line, six_names, unknown_text, text_or_unknown, tag_value_text, tag_line};
+ghost use Rattle.study_import.specs.Blocks.{was_words, was_line, six_names, unknown_text, text_or_unknown, tag_value_text, tag_line};
 
+use crate::masks::{Mask, add_masked};
+use crate::pieces::{Piece, add_pieces};
 use std::alloc::{AllocError, Allocator};
 use study_games::{short_text, shortened, spell_out, tag_value, trim_end, trim_start, unescape};
 use study_marks::{TagName, tag_name};
@@ -13,29 +15,7 @@ use study_text::Text;
 /// The number of bytes of an original in a remark.
 const LONGEST_ORIGINAL: usize = 255;
 
-fn shown(byte: u8) -> u8
-    ensures { result ≡ shown byte }
-{
-    if byte <= 31 || byte == 127 {
-        b' '
-    } else {
-        byte
-    }
-}
-
-/// Adds bytes, with a space for each control byte.
-fn add_shown<A: Allocator>(out: &mut Text<'_, A>, bytes: &[u8]) -> Result<(), AllocError>
-    ensures { OnOk result (out.new ≡ out.old ++ map shown bytes.now) }
-{
-    let mut rest = bytes;
-    while let [first, more @ ..] = rest {
-        out.add(&[shown(*first)])?;
-        rest = more;
-    }
-    Ok(())
-}
-
-/// Adds the original of a tag, if the text differs.
+/// Adds the original of a tag, where the text is another.
 fn add_was<A: Allocator>(
     out: &mut Text<'_, A>,
     name: TagName,
@@ -47,10 +27,15 @@ fn add_was<A: Allocator>(
     if text == trim_end(trim_start(value)) {
         return Ok(());
     }
-    out.add(b"# ")?;
-    out.add(tag_name(name))?;
-    out.add(b" was: ")?;
-    add_shown(out, shortened(value, LONGEST_ORIGINAL))?;
+    add_pieces(
+        out,
+        &[
+            Piece::Bytes(b"# "),
+            Piece::Bytes(tag_name(name)),
+            Piece::Bytes(b" was: "),
+        ],
+    )?;
+    add_masked(out, Mask::Shown, shortened(value, LONGEST_ORIGINAL))?;
     out.add(b"\n")
 }
 
@@ -73,7 +58,20 @@ fn add_was_line<'a, A: Allocator>(
     }
 }
 
-/// Adds the originals of the six tags whose texts differ.
+fn six_names() -> [TagName; 6]
+    ensures { result ≡ six_names }
+{
+    [
+        TagName::Event,
+        TagName::Site,
+        TagName::Date,
+        TagName::Round,
+        TagName::White,
+        TagName::Black,
+    ]
+}
+
+/// Adds the originals of the six tags, where their texts are others.
 pub fn add_was_lines<'a, A: Allocator>(
     alloc: &'a A,
     out: &mut Text<'_, A>,
@@ -81,12 +79,13 @@ pub fn add_was_lines<'a, A: Allocator>(
 ) -> Result<(), AllocError>
     ensures { OnOk result (out.new ≡ out.old ++ flat_map (was_line (tags_of game.now)) six_names) }
 {
-    add_was_line(alloc, out, game, TagName::Event)?;
-    add_was_line(alloc, out, game, TagName::Site)?;
-    add_was_line(alloc, out, game, TagName::Date)?;
-    add_was_line(alloc, out, game, TagName::Round)?;
-    add_was_line(alloc, out, game, TagName::White)?;
-    add_was_line(alloc, out, game, TagName::Black)
+    let names = six_names();
+    let mut rest = names.as_slice();
+    while let [name, more @ ..] = rest {
+        add_was_line(alloc, out, game, *name)?;
+        rest = more;
+    }
+    Ok(())
 }
 
 /// The text for an unknown tag.
@@ -140,9 +139,14 @@ fn add_tag_line<'a, A: Allocator>(
 ) -> Result<(), AllocError>
     ensures { OnOk result (out.new ≡ out.old ++ tag_line (tags_of game.now) name) }
 {
-    out.add(b"tag ")?;
-    out.add(tag_name(name))?;
-    out.add(b" ")?;
+    add_pieces(
+        out,
+        &[
+            Piece::Bytes(b"tag "),
+            Piece::Bytes(tag_name(name)),
+            Piece::Bytes(b" "),
+        ],
+    )?;
     add_tag_value(alloc, out, name, tag_value(game, tag_name(name)))?;
     out.add(b"\n")
 }
@@ -155,10 +159,11 @@ pub fn add_tag_lines<'a, A: Allocator>(
 ) -> Result<(), AllocError>
     ensures { OnOk result (out.new ≡ out.old ++ flat_map (tag_line (tags_of game.now)) six_names) }
 {
-    add_tag_line(alloc, out, game, TagName::Event)?;
-    add_tag_line(alloc, out, game, TagName::Site)?;
-    add_tag_line(alloc, out, game, TagName::Date)?;
-    add_tag_line(alloc, out, game, TagName::Round)?;
-    add_tag_line(alloc, out, game, TagName::White)?;
-    add_tag_line(alloc, out, game, TagName::Black)
+    let names = six_names();
+    let mut rest = names.as_slice();
+    while let [name, more @ ..] = rest {
+        add_tag_line(alloc, out, game, *name)?;
+        rest = more;
+    }
+    Ok(())
 }

@@ -1,15 +1,14 @@
-//! The text written for a game by choice: its block, or that of its tail.
-ghost use Rattle.std.specs.Prelude.{◌≡◌, ◌++◌, [], codes, OnOk, IfOk};
+//! What is written of a game by choice: its block, or that of its tail.
+ghost use Rattle.std.specs.Prelude.{◌≡◌, ◌++◌, [], OnOk, IfOk};
 ghost use Rattle.std.specs.Option.{option_map};
-ghost use Rattle.study_notation.specs.Fen.{start_of};
 ghost use Rattle.study_games.specs.Games.{game_seen};
-ghost use Rattle.study_games.specs.Header.{tags_of, value_of};
 ghost use Rattle.study_import.specs.Tails.{position_text, tail_in, named_seen};
-ghost use Rattle.study_import.specs.Blocks.{has_more_men, tail_of_game, tail_of, tail_line, under_remark, tail_block, block_or_tail, block_by, start_block};
+ghost use Rattle.study_import.specs.Blocks.{has_more_men, tail_of_game, tail_of, tail_line, tail_block, block_by};
 ghost use Rattle.study_import.specs.BlocksRead.{Adds};
 
 use crate::block::{Setting, add_game, add_start, fen_in};
 use crate::importer::Choice;
+use crate::pieces::{Piece, add_pieces};
 use crate::places::Entry;
 use crate::tails::{Named, add_tail, position_text};
 use std::alloc::{AllocError, Allocator};
@@ -71,9 +70,14 @@ fn add_tail_of<'t, 'a, A: Allocator>(
 fn add_tail_line<A: Allocator>(out: &mut Text<'_, A>, skipped: u32) -> Result<(), AllocError>
     ensures { OnOk result (out.new ≡ out.old ++ tail_line skipped) }
 {
-    out.add(b"# a tail: moves before ")?;
-    out.add_number(skipped)?;
-    out.add(b"; its position is another program's word\n")
+    add_pieces(
+        out,
+        &[
+            Piece::Bytes(b"# a tail: moves before "),
+            Piece::Number(skipped),
+            Piece::Bytes(b"; its position is another program's word\n"),
+        ],
+    )
 }
 
 /// Adds the block of a tail.

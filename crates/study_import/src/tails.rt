@@ -1,16 +1,14 @@
-//! A tail of a game: the game from a position that a comment of its main line states.
-ghost use Rattle.std.specs.Prelude.{◌≡◌, ◌++◌, ◌-◌, true, false, length, take, map, codes, OnOk, IfOk};
+//! A tail of a game: the game from a position on that a comment of its main line names.
+ghost use Rattle.std.specs.Prelude.{◌≡◌, ◌++◌, ◌-◌, true, false, length, take, OnOk, IfOk};
 ghost use Rattle.std.specs.List.{list_all};
-ghost use Rattle.std.specs.Str.{bytes_eq};
-ghost use Rattle.std.specs.Option.{option_map};
 ghost use Rattle.study_notation.specs.Fen.{start_of};
 ghost use Rattle.study_marks.specs.Edits.{is_printable};
-ghost use Rattle.study_games.specs.Symbols.{said_of};
 ghost use Rattle.study_games.specs.Tokens.{token_seen};
-ghost use Rattle.study_import.specs.Tails.{spaced, position_text, is_start, says_mate, is_mate_tag, part_said, part_of, act_before, act_among, act_behind, act_of};
-ghost use Rattle.study_import.specs.Tails.{blank_for, bytes_then, search_then, comment_text, position_then, tail_from, not_begun, named_seen, EndsNamed};
+ghost use Rattle.study_import.specs.Tails.{position_text, is_start, says_mate, is_mate_tag, part_said, part_of, act_before, act_among, act_behind, act_of};
+ghost use Rattle.study_import.specs.Tails.{bytes_then, search_then, position_then, tail_from, not_begun, named_seen, EndsNamed};
 
 use crate::aims::{aim_in, aim_of_tag};
+use crate::masks::{Mask, add_masked};
 use std::alloc::{AllocError, Allocator};
 use study_board::Side;
 use study_command::as_text;
@@ -19,8 +17,8 @@ use study_marks::{Goal, Stipulation};
 use study_notation::read_fen;
 use study_text::Text;
 
-/// The kind of a token in the search for a tail.
-#[derive(Clone, Copy, Debug, PartialEq, Eq)]
+/// What a token is to the search for a tail.
+#[derive(Clone, Copy)]
 pub enum Part {
     /// Not a move, and without effect.
     Quiet,
@@ -35,8 +33,8 @@ pub enum Part {
     Comment(bool, bool),
 }
 
-/// The action for a token.
-#[derive(Clone, Copy, Debug, PartialEq, Eq)]
+/// What becomes of a token.
+#[derive(Clone, Copy)]
 pub enum Act {
     Keep,
     /// Replace it by blanks.
@@ -55,8 +53,8 @@ pub enum Act {
     Stop,
 }
 
-/// The state of a search.
-#[derive(Clone, Copy, Debug)]
+/// Where a search stands.
+#[derive(Clone, Copy)]
 pub struct Search {
     /// The number of moves skipped.
     pub skipped: u32,
@@ -66,32 +64,11 @@ pub struct Search {
     pub named: bool,
 }
 
-/// The comment that states the position of a tail, and the number of skipped moves.
-#[derive(Clone, Copy, Debug)]
+/// The comment that names the position of a tail, and how many moves are skipped.
+#[derive(Clone, Copy)]
 pub struct Named<'t> {
     pub position: &'t [u8],
     pub skipped: u32,
-}
-
-fn spaced(byte: u8) -> u8
-    ensures { result ≡ spaced byte }
-{
-    if 32 <= byte && byte <= 126 {
-        byte
-    } else {
-        b' '
-    }
-}
-
-fn add_spaced<A: Allocator>(out: &mut Text<'_, A>, bytes: &[u8]) -> Result<(), AllocError>
-    ensures { OnOk result (out.new ≡ out.old ++ map spaced bytes.now) }
-{
-    let mut rest = bytes;
-    while let [first, more @ ..] = rest {
-        out.add(&[spaced(*first)])?;
-        rest = more;
-    }
-    Ok(())
 }
 
 /// A comment as a FEN.
@@ -104,7 +81,7 @@ pub fn position_text<'a, A: Allocator>(
     ensures prints { IfOk result (λ fen. list_all is_printable fen ≡ true) }
 {
     let mut out = Text::new(alloc);
-    add_spaced(&mut out, comment)?;
+    add_masked(&mut out, Mask::Spaced, comment)?;
     Ok(out)
 }
 
@@ -214,29 +191,12 @@ fn act_behind(part: Part) -> Act
     }
 }
 
-fn blank_for(byte: u8) -> u8
-    ensures { result ≡ blank_for byte }
-{
-    if byte == b'\n' { b'\n' } else { b' ' }
-}
-
-fn add_blanks<A: Allocator>(out: &mut Text<'_, A>, bytes: &[u8]) -> Result<(), AllocError>
-    ensures { OnOk result (out.new ≡ out.old ++ map blank_for bytes.now) }
-{
-    let mut rest = bytes;
-    while let [first, more @ ..] = rest {
-        out.add(&[blank_for(*first)])?;
-        rest = more;
-    }
-    Ok(())
-}
-
 fn add_bytes<A: Allocator>(out: &mut Text<'_, A>, act: Act, bytes: &[u8]) -> Result<(), AllocError>
     ensures { OnOk result (out.new ≡ out.old ++ bytes_then act bytes.now) }
 {
     match act {
         Act::Keep => out.add(bytes),
-        _ => add_blanks(out, bytes),
+        _ => add_masked(out, Mask::Blank, bytes),
     }
 }
 

@@ -1,5 +1,5 @@
-//! The effect of a token.
-ghost use Rattle.std.specs.Prelude.{◌≡◌, codes};
+//! What a token makes of what has been read.
+ghost use Rattle.std.specs.Prelude.{codes};
 ghost use Rattle.std.specs.Str.{bytes_eq};
 ghost use Rattle.study_marks.specs.Study.{plain_study};
 ghost use Rattle.study_marks.specs.BenchState.{marked};
@@ -14,26 +14,23 @@ use crate::moves::MoveFault;
 use crate::reading::Reading;
 use std::alloc::Allocator;
 use study_games::{Said, Token, say};
-use thiserror::Error;
 
-/// Why reading the moves of a game stops.
-#[derive(Clone, Copy, Debug, PartialEq, Eq, Error)]
+/// Why the moves of a game are not read on.
+#[derive(Clone, Copy)]
 pub enum Reason {
-    #[error("{0}")]
     Move(MoveFault),
-    #[error("{0}")]
     Line(LineFault),
-    #[error("a tag stands among the moves")]
+    /// A tag stands among the moves.
     TagInMoves,
 }
 
 impl<'a, A: Allocator> Reading<'a, A> {
     fn take_begin(&mut self) -> Result<bool, Reason>
-        ensures { Takes result (on_line (reading_of (plain_study (marked self.old.bench)) self.old.lines.path.items self.old.lines.begun self.old.lines.waiting.items
-            self.old.lines.cut self.old.inserts) (begin_line ((reading_of (plain_study (marked self.old.bench)) self.old.lines.path.items self.old.lines.begun self.old.lines.waiting.items
-            self.old.lines.cut self.old.inserts)).lines))
-            (reading_of (plain_study (marked self.new.bench)) self.new.lines.path.items self.new.lines.begun self.new.lines.waiting.items
-            self.new.lines.cut self.new.inserts) }
+        ensures { let before = reading_of (plain_study (marked self.old.bench)) self.old.lines.path.items self.old.lines.begun
+            self.old.lines.waiting.items self.old.lines.cut self.old.inserts in
+            let after = reading_of (plain_study (marked self.new.bench)) self.new.lines.path.items self.new.lines.begun
+            self.new.lines.waiting.items self.new.lines.cut self.new.inserts in
+            Takes result (on_line before (begin_line before.lines)) after }
     {
         match self.lines.begin() {
             Ok(()) => Ok(false),
@@ -42,11 +39,11 @@ impl<'a, A: Allocator> Reading<'a, A> {
     }
 
     fn take_end(&mut self) -> Result<bool, Reason>
-        ensures { Takes result (on_line (reading_of (plain_study (marked self.old.bench)) self.old.lines.path.items self.old.lines.begun self.old.lines.waiting.items
-            self.old.lines.cut self.old.inserts) (end_line ((reading_of (plain_study (marked self.old.bench)) self.old.lines.path.items self.old.lines.begun self.old.lines.waiting.items
-            self.old.lines.cut self.old.inserts)).lines))
-            (reading_of (plain_study (marked self.new.bench)) self.new.lines.path.items self.new.lines.begun self.new.lines.waiting.items
-            self.new.lines.cut self.new.inserts) }
+        ensures { let before = reading_of (plain_study (marked self.old.bench)) self.old.lines.path.items self.old.lines.begun
+            self.old.lines.waiting.items self.old.lines.cut self.old.inserts in
+            let after = reading_of (plain_study (marked self.new.bench)) self.new.lines.path.items self.new.lines.begun
+            self.new.lines.waiting.items self.new.lines.cut self.new.inserts in
+            Takes result (on_line before (end_line before.lines)) after }
     {
         match self.lines.end() {
             Ok(()) => Ok(false),
@@ -55,19 +52,21 @@ impl<'a, A: Allocator> Reading<'a, A> {
     }
 
     fn take_result(&mut self) -> Result<bool, Reason>
-        ensures { Takes result (at_result (reading_of (plain_study (marked self.old.bench)) self.old.lines.path.items self.old.lines.begun self.old.lines.waiting.items
-            self.old.lines.cut self.old.inserts))
-            (reading_of (plain_study (marked self.new.bench)) self.new.lines.path.items self.new.lines.begun self.new.lines.waiting.items
-            self.new.lines.cut self.new.inserts) }
+        ensures { let before = reading_of (plain_study (marked self.old.bench)) self.old.lines.path.items self.old.lines.begun
+            self.old.lines.waiting.items self.old.lines.cut self.old.inserts in
+            let after = reading_of (plain_study (marked self.new.bench)) self.new.lines.path.items self.new.lines.begun
+            self.new.lines.waiting.items self.new.lines.cut self.new.inserts in
+            Takes result (at_result before) after }
     {
         Ok(self.lines.waiting.is_empty())
     }
 
     fn take_null_move(&mut self) -> Result<bool, Reason>
-        ensures { Takes result (at_null_move (reading_of (plain_study (marked self.old.bench)) self.old.lines.path.items self.old.lines.begun self.old.lines.waiting.items
-            self.old.lines.cut self.old.inserts))
-            (reading_of (plain_study (marked self.new.bench)) self.new.lines.path.items self.new.lines.begun self.new.lines.waiting.items
-            self.new.lines.cut self.new.inserts) }
+        ensures { let before = reading_of (plain_study (marked self.old.bench)) self.old.lines.path.items self.old.lines.begun
+            self.old.lines.waiting.items self.old.lines.cut self.old.inserts in
+            let after = reading_of (plain_study (marked self.new.bench)) self.new.lines.path.items self.new.lines.begun
+            self.new.lines.waiting.items self.new.lines.cut self.new.inserts in
+            Takes result (at_null_move before) after }
     {
         if self.lines.cut < 1 {
             self.lines.cut = 1;
@@ -76,10 +75,11 @@ impl<'a, A: Allocator> Reading<'a, A> {
     }
 
     fn take_move(&mut self, symbol: &[u8]) -> Result<bool, Reason>
-        ensures { Takes result (on_move (symbol_played (reading_of (plain_study (marked self.old.bench)) self.old.lines.path.items self.old.lines.begun self.old.lines.waiting.items
-            self.old.lines.cut self.old.inserts) symbol.now))
-            (reading_of (plain_study (marked self.new.bench)) self.new.lines.path.items self.new.lines.begun self.new.lines.waiting.items
-            self.new.lines.cut self.new.inserts) }
+        ensures { let before = reading_of (plain_study (marked self.old.bench)) self.old.lines.path.items self.old.lines.begun
+            self.old.lines.waiting.items self.old.lines.cut self.old.inserts in
+            let after = reading_of (plain_study (marked self.new.bench)) self.new.lines.path.items self.new.lines.begun
+            self.new.lines.waiting.items self.new.lines.cut self.new.inserts in
+            Takes result (on_move (symbol_played before symbol.now)) after }
     {
         match self.play_symbol(symbol) {
             Ok(()) => Ok(false),
@@ -88,10 +88,11 @@ impl<'a, A: Allocator> Reading<'a, A> {
     }
 
     fn take_symbol(&mut self, symbol: &[u8]) -> Result<bool, Reason>
-        ensures { Takes result (taken_symbol (reading_of (plain_study (marked self.old.bench)) self.old.lines.path.items self.old.lines.begun self.old.lines.waiting.items
-            self.old.lines.cut self.old.inserts) symbol.now (said_of symbol.now))
-            (reading_of (plain_study (marked self.new.bench)) self.new.lines.path.items self.new.lines.begun self.new.lines.waiting.items
-            self.new.lines.cut self.new.inserts) }
+        ensures { let before = reading_of (plain_study (marked self.old.bench)) self.old.lines.path.items self.old.lines.begun
+            self.old.lines.waiting.items self.old.lines.cut self.old.inserts in
+            let after = reading_of (plain_study (marked self.new.bench)) self.new.lines.path.items self.new.lines.begun
+            self.new.lines.waiting.items self.new.lines.cut self.new.inserts in
+            Takes result (taken_symbol before symbol.now (said_of symbol.now)) after }
     {
         match say(symbol) {
             Said::Number => Ok(false),
@@ -103,10 +104,11 @@ impl<'a, A: Allocator> Reading<'a, A> {
     }
 
     fn take_sign(&mut self, text: &[u8]) -> Result<bool, Reason>
-        ensures { Takes result (taken_sign (reading_of (plain_study (marked self.old.bench)) self.old.lines.path.items self.old.lines.begun self.old.lines.waiting.items
-            self.old.lines.cut self.old.inserts) (bytes_eq text.now (codes "--")))
-            (reading_of (plain_study (marked self.new.bench)) self.new.lines.path.items self.new.lines.begun self.new.lines.waiting.items
-            self.new.lines.cut self.new.inserts) }
+        ensures { let before = reading_of (plain_study (marked self.old.bench)) self.old.lines.path.items self.old.lines.begun
+            self.old.lines.waiting.items self.old.lines.cut self.old.inserts in
+            let after = reading_of (plain_study (marked self.new.bench)) self.new.lines.path.items self.new.lines.begun
+            self.new.lines.waiting.items self.new.lines.cut self.new.inserts in
+            Takes result (taken_sign before (bytes_eq text.now (codes "--"))) after }
     {
         if text == b"--".as_slice() {
             self.take_null_move()
@@ -117,10 +119,11 @@ impl<'a, A: Allocator> Reading<'a, A> {
 
     /// Takes a token. Returns whether the game ends there.
     pub fn take(&mut self, token: Token<'_>) -> Result<bool, Reason>
-        ensures { Takes result (taken (reading_of (plain_study (marked self.old.bench)) self.old.lines.path.items self.old.lines.begun self.old.lines.waiting.items
-            self.old.lines.cut self.old.inserts) (token_seen token.entry))
-            (reading_of (plain_study (marked self.new.bench)) self.new.lines.path.items self.new.lines.begun self.new.lines.waiting.items
-            self.new.lines.cut self.new.inserts) }
+        ensures { let before = reading_of (plain_study (marked self.old.bench)) self.old.lines.path.items self.old.lines.begun
+            self.old.lines.waiting.items self.old.lines.cut self.old.inserts in
+            let after = reading_of (plain_study (marked self.new.bench)) self.new.lines.path.items self.new.lines.begun
+            self.new.lines.waiting.items self.new.lines.cut self.new.inserts in
+            Takes result (taken before (token_seen token.entry)) after }
     {
         match token {
             Token::Blank | Token::Aside | Token::Comment(_) | Token::Rest(_) => Ok(false),

@@ -1,0 +1,51 @@
+//! Bytes with others in their place.
+ghost use Rattle.std.specs.Prelude.{◌≡◌, ◌++◌, map, OnOk};
+ghost use Rattle.study_import.specs.Masks.{masked};
+
+use std::alloc::{AllocError, Allocator};
+use study_text::Text;
+
+/// Which bytes others stand for.
+#[derive(Clone, Copy)]
+pub enum Mask {
+    /// `?` stands for each byte that does not print.
+    Printed,
+    /// A space stands for each byte that does not print.
+    Spaced,
+    /// A space stands for each control byte.
+    Shown,
+    /// A space stands for each byte but a line feed.
+    Blank,
+}
+
+fn masked(mask: Mask, byte: u8) -> u8
+    ensures { result ≡ masked mask byte }
+{
+    let prints = 32 <= byte && byte <= 126;
+    match mask {
+        Mask::Printed => if prints { byte } else { b'?' },
+        Mask::Spaced => if prints { byte } else { b' ' },
+        Mask::Shown => if byte <= 31 || byte == 127 {
+            b' '
+        } else {
+            byte
+        },
+        Mask::Blank => if byte == b'\n' { b'\n' } else { b' ' },
+    }
+}
+
+/// Adds bytes with others in their place.
+pub fn add_masked<A: Allocator>(
+    out: &mut Text<'_, A>,
+    mask: Mask,
+    bytes: &[u8],
+) -> Result<(), AllocError>
+    ensures { OnOk result (out.new ≡ out.old ++ map (masked mask) bytes.now) }
+{
+    let mut rest = bytes;
+    while let [first, more @ ..] = rest {
+        out.add(&[masked(mask, *first)])?;
+        rest = more;
+    }
+    Ok(())
+}
