@@ -14,7 +14,7 @@ pub front_has : (text : List ℕ) → 1 ≤ length text → true ≡ begins_figu
 front_has [] some e = absurd (omega (arith, some))
 front_has (b ∷ bs) some e = rw (one_more b bs, ← e) refl
 
--- where none stands in front, one stands behind the first byte or nowhere
+-- if the text does not begin with a figurine, one follows the first byte or there is none
 pub behind_has : (text : List ℕ) → 1 ≤ length text → false ≡ begins_figurine text → has_figurine (take (length text - 1) (drop 1 text)) ≡ has_figurine text
 behind_has [] some e = absurd (omega (arith, some))
 behind_has (b ∷ bs) some e = ap has_figurine (take_all (length (b ∷ bs) - 1) bs (omega arith)) ∙ sym (rw (one_more b bs, ← e) refl)

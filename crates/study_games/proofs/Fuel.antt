@@ -29,7 +29,7 @@ pub spelled_more : (n : ℕ) (utf8 : Bool) (text : List ℕ) → 0 < n → spell
 spelled_more zero utf8 text h = absurd (omega (arith, h))
 spelled_more (suc m) utf8 text h = let e : suc m - 1 ≡ m = omega arith in rw e refl
 
--- a character is spelled, and the rest is read on
+-- a character is spelled, and the rest is read
 pub spelled_on : (n : ℕ) (utf8 : Bool) (text behind : List ℕ) (c : ℕ) (out new : List ℕ) → 0 < n → Some (c, behind) ≡ read_at utf8 text
     → new ≡ out ++ ascii_of c
     → new ++ spelled_in (n - 1) utf8 behind ≡ out ++ spelled_in n utf8 text

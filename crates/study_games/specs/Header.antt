@@ -79,7 +79,7 @@ step_seen read.End = ended
 abbrev pub is_escaped : ℕ → ℕ → Bool
 is_escaped b c = b == 92 && (c == 34 || c == 92)
 
--- the first byte that the text stands for, and what follows its spelling
+-- the first byte of the text, after a backslash if one escapes it, and the rest
 abbrev pub unescaped_at : List ℕ → Option (ℕ × List ℕ)
 unescaped_at (b ∷ c ∷ bs) = if is_escaped b c then Some (c, bs) else Some (b, c ∷ bs)
 unescaped_at (b ∷ []) = Some (b, [])

@@ -1,4 +1,4 @@
--- A game depends on no other.
+-- A game is independent of every other.
 use Rattle.std.specs.Prelude.{◌≡◌, ℕ, List, [], ◌∷◌, ◌++◌, None}
 use Rattle.study_games.specs.declared.games.LineKind.{LineKind}
 use Rattle.study_games.specs.declared.games.LineKind.TheVariants.{Tag, EventTag, Moves}

@@ -1,4 +1,4 @@
--- What a symbol says, and the SAN of one that stands for a move.
+-- The meaning of a symbol, and the SAN of a symbol for a move.
 use Rattle.std.specs.Prelude.{ℕ, ◌-◌, Bool, false, not, ◌&&◌, ◌||◌, ◌==◌, nat_le, List, [], ◌∷◌, length, take, slice_index, codes, Option, Some, None, if◌then◌else◌}
 use Rattle.std.specs.List.{list_all, flat_map}
 use Rattle.std.specs.Str.{bytes_eq}
@@ -18,7 +18,7 @@ figurine_kind c = if nat_le 154 c then c - 154 else c - 148
 abbrev pub kind_letter : ℕ → ℕ
 kind_letter k = if k == 0 then 75 else (if k == 1 then 81 else (if k == 2 then 82 else (if k == 3 then 66 else (if k == 4 then 78 else 80))))
 
--- a figurine stands in front
+-- whether the text begins with a figurine
 abbrev pub begins_figurine : List ℕ → Bool
 begins_figurine (a ∷ b ∷ c ∷ bs) = is_figurine a b c
 begins_figurine _ = false
@@ -32,7 +32,7 @@ abbrev pub lettered : List ℕ → List ℕ
 lettered (a ∷ b ∷ c ∷ bs) = if is_figurine a b c then kind_letter (figurine_kind c) ∷ lettered bs else a ∷ lettered (b ∷ c ∷ bs)
 lettered bs = bs
 
--- the first byte, or the letter of a figurine that stands in front, and what follows it
+-- the first byte, or the letter of a figurine at the front, and the rest
 abbrev pub letter_at : List ℕ → Option (ℕ × List ℕ)
 letter_at (a ∷ b ∷ c ∷ bs) = if is_figurine a b c then Some (kind_letter (figurine_kind c), bs) else Some (a, b ∷ c ∷ bs)
 letter_at (a ∷ bs) = Some (a, bs)

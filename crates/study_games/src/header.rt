@@ -113,7 +113,7 @@ pub fn tag_value<'t>(game: &'t [u8], name: &[u8]) -> Option<&'t [u8]>
     None
 }
 
-/// The first byte that the text stands for, and what follows its spelling.
+/// The first byte of the text, after a backslash if one escapes it, and the rest.
 fn read_unescaped(text: &[u8]) -> Option<(u8, &[u8])>
     ensures { option_map (λ found. (found.0, found.1.now)) result ≡ unescaped_at text.now }
 {

@@ -1,9 +1,8 @@
 //! The text of PGN: its games, their tags and tokens, and the meaning of symbols.
 //!
-//! `Gathering` cuts a text into games, line by line; `count_tags`, `header_fault` and `tag_value` read the header of one; `read_token`
-//! gives the tokens of its moves one by one, `say` reads a symbol, and `san_in` the SAN of one that stands for a move. `cut_run` cuts a text
-//! behind its first bytes of one kind.
-//! `unescape`, `spell_out` and `short_text` bring the value of a tag to the text that a script can hold.
+//! `Gathering` cuts a text into games, line by line; `count_tags`, `header_fault` and `tag_value` read the header of a game; `read_token` reads the
+//! tokens of its moves one by one, `say` reads a symbol, and `san_in` the SAN of a symbol for a move. `cut_run` cuts a text after its first bytes of
+//! one kind. `unescape`, `spell_out` and `short_text` turn the value of a tag into text that a script can hold.
 #![tactic(auto)]
 
 mod ascii;

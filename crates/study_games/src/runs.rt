@@ -6,11 +6,11 @@ ghost use Rattle.study_games.specs.Runs.{is_in};
 
 use crate::bytes::{is_blank, is_digit, is_gap, is_glyph, is_name_byte, is_sign, is_symbol_byte};
 
-/// Of which bytes a run is.
+/// The bytes of a run.
 #[derive(Clone, Copy)]
 pub enum Run {
     Blanks,
-    /// No blanks.
+    /// Bytes that are not blank.
     Word,
     Spaces,
     /// Spaces and tabs.
@@ -22,7 +22,7 @@ pub enum Run {
     Symbol,
     /// A line without its line feed.
     Line,
-    /// What stands before `}`.
+    /// Bytes before `}`.
     Comment,
 }
 
@@ -51,7 +51,7 @@ fn run_len(run: Run, text: &[u8]) -> usize
     text.iter().take_while(|b| is_in(run, **b)).count()
 }
 
-/// The run with which the text begins, and what follows it.
+/// The run at the front of the text, and the rest.
 pub fn cut_run(run: Run, text: &[u8]) -> (&[u8], &[u8])
     ensures front { result.0.now ≡ front (is_in run) text.now }
     ensures behind { result.1.now ≡ behind (is_in run) text.now }

@@ -1,4 +1,4 @@
-//! The SAN of a symbol that stands for a move.
+//! The SAN of a symbol for a move.
 ghost use Rattle.std.specs.Prelude.{◌≡◌, ◌≤◌, length, take};
 ghost use Rattle.std.specs.Option.{option_map};
 ghost use Rattle.study_games.specs.Symbols.{figurine_kind, kind_letter, letter_at, lettered, is_tail, without_tail, without_passing, without_pawn};
@@ -32,7 +32,7 @@ fn kind_letter(c: u8) -> u8
     }
 }
 
-/// The first byte, or the letter of a figurine that stands in front, and what follows it.
+/// The first byte, or the letter of a figurine at the front, and the rest.
 fn read_letter(text: &[u8]) -> Option<(u8, &[u8])>
     ensures { option_map (λ found. (found.0, found.1.now)) result ≡ letter_at text.now }
 {

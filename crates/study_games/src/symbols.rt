@@ -1,4 +1,4 @@
-//! What a symbol says.
+//! The meaning of a symbol.
 ghost use Rattle.std.specs.Prelude.{◌≡◌};
 ghost use Rattle.std.specs.List.{list_all};
 ghost use Rattle.study_games.specs.Bytes.{is_digit, is_high};
@@ -45,7 +45,7 @@ pub fn is_figurine(a: u8, b: u8, c: u8) -> bool
     a == 0xe2 && b == 0x99 && 0x94 <= c && c <= 0x9f
 }
 
-/// Whether a figurine stands in front.
+/// Whether the text begins with a figurine.
 fn begins_figurine(text: &[u8]) -> bool
     ensures { result ≡ begins_figurine text.now }
 {
@@ -94,7 +94,7 @@ fn is_judgement(symbol: &[u8]) -> bool
     are_high(symbol) && !has_figurine(symbol)
 }
 
-/// What the symbol says.
+/// The meaning of the symbol.
 #[tactic(auto, unfolding(crate::specs::Symbols::said_of))]
 pub fn say(symbol: &[u8]) -> Said
     ensures { result ≡ said_of symbol.now }

@@ -25,7 +25,7 @@ pub fn next_word(text: &[u8]) -> Option<(&[u8], &[u8])>
     cut_word(begun)
 }
 
-/// How much of a text stands before the spaces at its end.
+/// The length of a text without the spaces at its end.
 fn len_without_end_spaces(text: &[u8]) -> usize
     ensures value { take result text.now ≡ without_end is_space text.now }
     ensures within { result ≤ length text.now }

@@ -59,7 +59,7 @@ zero_le a b h = omega arith
 within : (a b c d : ℕ) → a + b ≤ c → c ≤ d → a ≤ d
 within a b c d h i = omega arith
 
--- ---- of moves that pass, whichever they are
+-- ---- moves that pass a test
 
 module _ (q : Move → Bool) where
   abbrev one : ℕ → ℕ → Option Kind → ℕ

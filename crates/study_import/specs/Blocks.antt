@@ -146,11 +146,11 @@ no_study text = record { text = text; is_study = false }
 abbrev pub separator : Bool → List ℕ
 separator first = if first then codes " " else codes ", "
 
--- ` NAME N`, behind a comma if it is not the first
+-- ` NAME N`, after a comma if it is not the first
 abbrev pub count_words : Bool → List ℕ → ℕ → List ℕ
 count_words first name n = if n == 0 then [] else separator first ++ (name ++ (codes " " ++ decimal n))
 
--- what a contract sees of a count
+-- a count as contracts see it
 abbrev pub count_seen : Count → List ℕ × ℕ
 count_seen c = (c.name.now, c.number)
 

@@ -1,4 +1,4 @@
--- Bytes with others in their place.
+-- Bytes written with substitutes.
 use Rattle.std.specs.Prelude.{ℕ}
 use Rattle.study_import.specs.declared.masks.Mask.{Mask}
 use Rattle.study_import.specs.declared.masks.Mask.TheVariants.{Printed, Spaced, Shown, Blank}

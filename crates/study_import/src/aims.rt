@@ -1,4 +1,4 @@
-//! What a game says it is to come to.
+//! The stipulation that a game states.
 ghost use Rattle.std.specs.Prelude.{◌≡◌};
 ghost use Rattle.std.specs.Option.{option_map};
 ghost use Rattle.study_games.specs.Words.{first_word};
@@ -11,7 +11,7 @@ use study_command::read_place;
 use study_games::{Outcome, next_word, trim_end, trim_start};
 use study_marks::{Goal, MateMoves, Stipulation};
 
-/// Where a stipulation comes from.
+/// The source of a stipulation.
 #[derive(Clone, Copy)]
 pub enum AimSource {
     /// The first comment, before the first move.
@@ -24,7 +24,7 @@ pub enum AimSource {
     Given,
 }
 
-/// A stipulation, and where it comes from.
+/// A stipulation, and its source.
 #[derive(Clone, Copy)]
 pub struct Aim {
     pub stipulation: Stipulation,

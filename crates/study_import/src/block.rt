@@ -1,4 +1,4 @@
-//! What is written of a game.
+//! The text written for a game.
 ghost use Rattle.std.specs.Prelude.{◌≡◌, ◌≤◌, ◌++◌, ◌-◌, true, codes, count_by, OnOk, IfOk, IsErr};
 ghost use Rattle.std.specs.List.{list_all};
 ghost use Rattle.std.specs.Option.{option_map};
@@ -115,7 +115,7 @@ fn add_position<A: Allocator>(out: &mut Text<'_, A>, start: &Start) -> Result<()
     )
 }
 
-/// Adds the line that tells the place of what follows the result.
+/// Adds the line with the place of the text after the result.
 #[tactic(auto, unfolding(crate::specs::Blocks::place_words))]
 fn add_unread<A: Allocator>(out: &mut Text<'_, A>, place: Place) -> Result<(), AllocError>
     ensures { OnOk result (out.new ≡ out.old ++ (codes "# behind the result: " ++ (place_words place ++ codes "\n"))) }
@@ -175,7 +175,7 @@ fn new_nodes(size: usize) -> u32
     if size == 0 { 0 } else { size as u32 - 1 }
 }
 
-/// Adds the line of what is not taken over, where there is anything.
+/// Adds the line with the counts of what the script omits, if there are any.
 fn add_counts<'a, A: Allocator>(
     alloc: &'a A,
     out: &mut Text<'_, A>,
@@ -319,7 +319,7 @@ fn add_block<'a, A: Allocator>(
     add_study(alloc, out, entry, start, &aim.stipulation, told.inserts)
 }
 
-/// What the caller knows of a game before its moves are read.
+/// What the caller of the block knows of a game before its moves are read.
 #[derive(Clone, Copy)]
 pub struct Setting<'t> {
     /// The stipulation of a game that states none.

@@ -1,4 +1,4 @@
-//! What is not taken over of a game.
+//! Counts of what the script omits.
 ghost use Rattle.std.specs.Prelude.{◌≡◌, ◌++◌, ◌≤◌, true, map, OnOk};
 ghost use Rattle.study_games.specs.Header.{tags_of, value_of};
 ghost use Rattle.study_import.specs.Blocks.{separator, count_words, counts_words, count_seen, counted_words, counts_line, found_count, known_count, known_names, other_tags};
@@ -43,7 +43,7 @@ pub fn other_tags(game: &[u8]) -> u32
     at_most(count_tags(game).saturating_sub(known_count(game)))
 }
 
-/// How many of a kind.
+/// A number of things of one kind.
 #[derive(Clone, Copy)]
 pub struct Count<'t> {
     pub name: &'t [u8],
@@ -56,7 +56,7 @@ fn separator(first: bool) -> &'static [u8]
     if first { b" " } else { b", " }
 }
 
-/// Adds ` NAME N`, behind a comma if it is not the first.
+/// Adds ` NAME N`, after a comma if it is not the first.
 fn add_count<A: Allocator>(
     out: &mut Text<'_, A>,
     first: bool,

@@ -1,4 +1,4 @@
-//! The names of faults, and the lines that tell them.
+//! The names of faults, and the lines that report them.
 ghost use Rattle.std.specs.Prelude.{◌≡◌, ◌++◌, OnOk};
 ghost use Rattle.study_import.specs.Blocks.{token_name, move_name, line_name, stop_name, symbol_words, left_out, no_study, fault_words, place_in, text_at, entry_seen, stopped_block};
 ghost use Rattle.study_import.specs.BlocksRead.{is_of_memory, Adds};
@@ -74,7 +74,7 @@ pub fn is_of_memory(why: Stop) -> bool
     }
 }
 
-/// Adds ` at SYMBOL`, where the fault is a move that is not read.
+/// Adds ` at SYMBOL`, if the fault is a move that cannot be read.
 fn add_symbol<A: Allocator>(out: &mut Text<'_, A>, why: Stop, text: &[u8]) -> Result<(), AllocError>
     ensures { OnOk result (out.new ≡ out.old ++ symbol_words why text.now) }
 {
@@ -88,7 +88,7 @@ fn add_symbol<A: Allocator>(out: &mut Text<'_, A>, why: Stop, text: &[u8]) -> Re
     }
 }
 
-/// Adds the line that tells why the whole game is left out, which is no study.
+/// Adds the line with the reason why the whole game is left out.
 #[tactic(auto, unfolding(crate::specs::Blocks::left_out))]
 pub fn add_left_out<A: Allocator>(
     out: &mut Text<'_, A>,
@@ -112,7 +112,7 @@ pub fn add_left_out<A: Allocator>(
     Ok(false)
 }
 
-/// Adds the line that tells a fault at a place, which is no study.
+/// Adds the line that reports a fault at a place.
 #[tactic(auto, unfolding(crate::specs::Blocks::fault_words, crate::specs::Blocks::place_words))]
 pub fn add_fault<'t, A: Allocator>(
     out: &mut Text<'_, A>,

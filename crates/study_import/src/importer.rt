@@ -1,4 +1,4 @@
-//! A file of games, as it comes in.
+//! A file of games, read byte by byte.
 ghost use Rattle.std.specs.Prelude.{◌≡◌, ◌++◌, [], ◌==◌, length, OnOk, IfOk};
 ghost use Rattle.study_games.specs.Games.{unmarked, kind_of, longer, with_next, game_seen};
 ghost use Rattle.study_import.specs.Blocks.{tallied, told_text, last_line};

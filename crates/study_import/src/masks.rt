@@ -1,20 +1,20 @@
-//! Bytes with others in their place.
+//! Bytes written with substitutes.
 ghost use Rattle.std.specs.Prelude.{◌≡◌, ◌++◌, map, OnOk};
 ghost use Rattle.study_import.specs.Masks.{masked};
 
 use std::alloc::{AllocError, Allocator};
 use study_text::Text;
 
-/// Which bytes others stand for.
+/// Which bytes are substituted, and by what.
 #[derive(Clone, Copy)]
 pub enum Mask {
-    /// `?` stands for each byte that does not print.
+    /// `?` for each unprintable byte.
     Printed,
-    /// A space stands for each byte that does not print.
+    /// A space for each unprintable byte.
     Spaced,
-    /// A space stands for each control byte.
+    /// A space for each control byte.
     Shown,
-    /// A space stands for each byte but a line feed.
+    /// A space for each byte other than a line feed.
     Blank,
 }
 
@@ -34,7 +34,7 @@ fn masked(mask: Mask, byte: u8) -> u8
     }
 }
 
-/// Adds bytes with others in their place.
+/// Adds bytes, with substitutes.
 pub fn add_masked<A: Allocator>(
     out: &mut Text<'_, A>,
     mask: Mask,

@@ -13,7 +13,7 @@ use crate::taking::Reason;
 use std::alloc::Allocator;
 use study_games::{Token, TokenFault, begins_feed, read_token};
 
-/// Why the moves of a game are not read to their end.
+/// Why the moves of a game cannot be read to the end.
 #[derive(Clone, Copy)]
 pub enum Stop {
     Token(TokenFault),
@@ -21,7 +21,7 @@ pub enum Stop {
     OpenVariation,
 }
 
-/// The first fault of the moves, and how many bytes of the text stand from its place on.
+/// The first fault of the moves, and the number of bytes from its place on.
 #[derive(Clone, Copy)]
 pub struct MovesFault {
     pub why: Stop,

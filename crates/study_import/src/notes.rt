@@ -10,7 +10,7 @@ use crate::aims::aim_in;
 use study_games::{Outcome, Said, Token, say};
 use study_marks::Stipulation;
 
-/// What is not taken over of a game, and what it says of its stipulation. Counts stay at the last value of their type.
+/// Counts of what the script omits, and the stipulation that the game states. Counts saturate.
 #[derive(Clone, Copy)]
 pub struct Notes {
     pub comments: u32,

@@ -22,7 +22,7 @@ fn add_piece<A: Allocator>(out: &mut Text<'_, A>, piece: Piece<'_>) -> Result<()
     }
 }
 
-/// Adds pieces, one behind the other.
+/// Adds pieces, one after the other.
 pub fn add_pieces<A: Allocator>(
     out: &mut Text<'_, A>,
     pieces: &[Piece<'_>],

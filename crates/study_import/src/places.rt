@@ -2,7 +2,7 @@
 ghost use Rattle.std.specs.Prelude.{◌≡◌, ◌++◌, ◌-◌, OnOk};
 ghost use Rattle.study_import.specs.Blocks.{moved_on, place_behind, entry_seen, place_in, text_at, place_words, at_most};
 
-/// A line, counted from 1, and a column in bytes, counted from 1. Both stay at the last value of their type.
+/// A line and a column in bytes, each counted from 1. Both saturate.
 #[derive(Clone, Copy)]
 pub struct Place {
     pub line: u32,
@@ -68,7 +68,7 @@ pub fn text_at<'t>(entry: &Entry<'t>, left: usize) -> &'t [u8]
     behind
 }
 
-/// A count as a u32 can hold it.
+/// A count as a u32; it saturates.
 pub fn at_most(n: usize) -> u32
     ensures { result ≡ at_most n }
 {

@@ -15,7 +15,7 @@ use study_text::Text;
 /// The number of bytes of an original in a remark.
 const LONGEST_ORIGINAL: usize = 255;
 
-/// Adds the original of a tag, where the text is another.
+/// Adds the original of a tag, if the text differs.
 fn add_was<A: Allocator>(
     out: &mut Text<'_, A>,
     name: TagName,
@@ -71,7 +71,7 @@ fn six_names() -> [TagName; 6]
     ]
 }
 
-/// Adds the originals of the six tags, where their texts are others.
+/// Adds the originals of the six tags whose texts differ.
 pub fn add_was_lines<'a, A: Allocator>(
     alloc: &'a A,
     out: &mut Text<'_, A>,

@@ -1,4 +1,4 @@
-//! What is written of a game by choice: its block, or that of its tail.
+//! The text written for a game by choice: its block, or that of its tail.
 ghost use Rattle.std.specs.Prelude.{◌≡◌, ◌++◌, [], OnOk, IfOk};
 ghost use Rattle.std.specs.Option.{option_map};
 ghost use Rattle.study_games.specs.Games.{game_seen};

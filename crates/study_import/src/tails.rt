@@ -1,4 +1,4 @@
-//! A tail of a game: the game from a position on that a comment of its main line names.
+//! A tail of a game: the game from a position that a comment of its main line states.
 ghost use Rattle.std.specs.Prelude.{◌≡◌, ◌++◌, ◌-◌, true, false, length, take, OnOk, IfOk};
 ghost use Rattle.std.specs.List.{list_all};
 ghost use Rattle.study_notation.specs.Fen.{start_of};
@@ -17,7 +17,7 @@ use study_marks::{Goal, Stipulation};
 use study_notation::read_fen;
 use study_text::Text;
 
-/// What a token is to the search for a tail.
+/// The kind of a token in the search for a tail.
 #[derive(Clone, Copy)]
 pub enum Part {
     /// Not a move, and without effect.
@@ -33,7 +33,7 @@ pub enum Part {
     Comment(bool, bool),
 }
 
-/// What becomes of a token.
+/// The action for a token.
 #[derive(Clone, Copy)]
 pub enum Act {
     Keep,
@@ -53,7 +53,7 @@ pub enum Act {
     Stop,
 }
 
-/// Where a search stands.
+/// The state of a search.
 #[derive(Clone, Copy)]
 pub struct Search {
     /// The number of moves skipped.
@@ -64,7 +64,7 @@ pub struct Search {
     pub named: bool,
 }
 
-/// The comment that names the position of a tail, and how many moves are skipped.
+/// The comment that states the position of a tail, and the number of skipped moves.
 #[derive(Clone, Copy)]
 pub struct Named<'t> {
     pub position: &'t [u8],

@@ -1,4 +1,4 @@
-//! What a token makes of what has been read.
+//! The effect of a token.
 ghost use Rattle.std.specs.Prelude.{codes};
 ghost use Rattle.std.specs.Str.{bytes_eq};
 ghost use Rattle.study_marks.specs.Study.{plain_study};
@@ -15,12 +15,12 @@ use crate::reading::Reading;
 use std::alloc::Allocator;
 use study_games::{Said, Token, say};
 
-/// Why the moves of a game are not read on.
+/// Why reading the moves of a game stops.
 #[derive(Clone, Copy)]
 pub enum Reason {
     Move(MoveFault),
     Line(LineFault),
-    /// A tag stands among the moves.
+    /// There is a tag among the moves.
     TagInMoves,
 }
 
