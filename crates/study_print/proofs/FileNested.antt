@@ -1,8 +1,9 @@
 -- A file of pages is well nested between its opening and its closing.
-use Rattle.std.proofs.Common.{◌≡◌, ℕ, suc, ◌+◌, Bool, true, false, List, [], ◌∷◌, ◌++◌, Option, Some, Result, Ok, Err, inl, inr, sym, ap, ◌∙◌, subst, append_assoc, refl}
+use Rattle.std.proofs.Common.{◌≡◌, ℕ, suc, ◌+◌, Bool, true, false, List, [], ◌∷◌, ◌++◌, Option, Some, None, Result, Ok, Err, inl, inr, sym, ap, ◌∙◌, subst, append_assoc, refl}
 use Rattle.std.specs.Prelude.{◌⊎◌, ◌-◌, IfSome, codes, decimal, if◌then◌else◌}
 use Rattle.std.specs.Io.KnownBytes.{Appends}
 use Rattle.std.proofs.KnownBytes.{Appends-trans}
+use Rattle.std.proofs.lemmas.Bool.{false≢true}
 use Rattle.study_text.specs.Taken.{TakesPrefix}
 use Rattle.study_command.specs.Lines.{script_lines}
 use Rattle.study_command.specs.Parser.{command_of}
@@ -17,7 +18,7 @@ use Rattle.study_report.specs.declared.kind.Kind.TheVariants.{PassedOver, NoClas
 use Rattle.study_report.specs.Told.{kind_in, study_count}
 use Rattle.study_report.specs.Parts.{Part, nothing_part, refused_part, checked_part, parts_text, IsPartAs, AreParts, AreWritten, Fits}
 use Rattle.study_html.specs.declared.element.Element.{Element}
-use Rattle.study_html.specs.declared.element.Element.TheVariants.{Code, Head, Heads, Header, Row, Rows, Strong, Summary, Table, Title, Warning}
+use Rattle.study_html.specs.declared.element.Element.TheVariants.{Code, Head, Heads, Header, Row, Rows, Strong, Table, Title, Warning}
 use Rattle.study_html.specs.declared.element.Element.TheVariants as element
 use Rattle.study_html.specs.Escape.{said}
 use Rattle.study_html.specs.Elements.{inside}
@@ -82,7 +83,7 @@ heads_nested a b c d e =
 list_nested : (rows : List ℕ) → IsWellNested rows → IsWellNested (summary_part rows)
 unfolding summary_part
 list_nested rows h =
-    within Summary _ (both_nested _ _ (within Header _ (within Title _ (word _)))
+    within element.Summary _ (both_nested _ _ (within Header _ (within Title _ (word _)))
     (within Table _ (both_nested _ _ (heads_nested _ _ _ _ _) (within Rows rows h))))
 
 summary_nested : (count : Count) (rows : List ℕ) → IsWellNested rows → IsWellNested (summary_text count rows)
@@ -115,11 +116,11 @@ module _ (old begun ended new : Option (List ℕ)) (count : Count) (rows : List 
 
   cut : (ran answer : Result Summary RunFault) → is_broken ran ≡ true → answer ≡ ran → IsWholeUnlessCut old new answer
   cut (Err WriteDevice) answer broken same = subst (IsWholeUnlessCut old new) (sym same) tt
-  cut (Ok summary) answer broken same = absurd broken
-  cut (Err ReadDevice) answer broken same = absurd broken
-  cut (Err (LineTooLong n)) answer broken same = absurd broken
-  cut (Err TooManyLines) answer broken same = absurd broken
-  cut (Err OutOfMemory) answer broken same = absurd broken
+  cut (Ok summary) answer broken same = absurd (false≢true broken)
+  cut (Err ReadDevice) answer broken same = absurd (false≢true broken)
+  cut (Err (LineTooLong n)) answer broken same = absurd (false≢true broken)
+  cut (Err TooManyLines) answer broken same = absurd (false≢true broken)
+  cut (Err OutOfMemory) answer broken same = absurd (false≢true broken)
 
   ended_if : (broken : Bool) (script : List ℕ) (left : Option (List ℕ)) (ran answer : Result Summary RunFault) → is_broken ran ≡ broken
       → Appends old begun opening → Fits IsEntry refusal_text script left begun ended ran

@@ -29,7 +29,7 @@ returns-clause-whole g c =
     let ran = c.follow_over-ran in
     nested.whole_file (g.W.Write.contents c.args.out.now) (g.W.Write.contents c.write_opening.new.out) (g.W.Write.contents ran.new.out)
     (g.W.Write.contents c.write_ending.new.out) ran.new.report.count ran.new.report.rows
-    (subst IsWellNested c.as_slice.ensures.text c.as_slice.ensures.nested)
+    (subst IsWellNested c.as_slice-rows.ensures.text c.as_slice-rows.ensures.nested)
     (g.R.Read.remaining ran.new.script) (g.R.Read.remaining c.args.script.now) ran.result c.write_ending.result
     (where_ok c.write_opening.result _ (sym c.is_err.ensures.value ∙ c.if-is_err.false) c.write_opening.ensures.ok)
     ran.ensures.fits c.write_ending.ensures

@@ -6,7 +6,7 @@ use Rattle.study_print.proofs.pages.PagesReport.add_study.Goals as goal
 
 pub returns-in_err-rows-clause-device : goal.returns-in_err-rows-clause-device
 returns-in_err-rows-clause-device g c honest right h =
-    told_plain c.args.bench.now c.args.number (g.W.Write.contents c.args.out.now) (g.W.Write.contents c.write_page-rows.new.out) right
+    told_plain c.args.bench.now c.args.number (g.W.Write.contents c.args.out.now) (g.W.Write.contents c.write_page.new.out) right
     (c.in_err-rows.ensures.device honest (search rules))
 
 pub returns-clause-listed : goal.returns-clause-listed
