@@ -1,5 +1,5 @@
 -- What is written to standard error, one after the other.
-use Rattle.std.proofs.Common.{◌≡◌, ℕ, suc, ◌<◌, List, [], ◌∷◌, ◌++◌, length, take, Option, Result, Ok, Err, refl, inl, inr, sym, ap, ◌∙◌, subst}
+use Rattle.std.proofs.Common.{◌≡◌, arith, ℕ, suc, ◌+◌, ◌<◌, List, [], ◌∷◌, ◌++◌, length, take, Option, Result, Ok, Err, refl, inl, inr, sym, ap, ◌∙◌, subst}
 use Rattle.std.specs.Prelude.{OnOk, OnErr, get_or}
 use Rattle.std.specs.Io.KnownBytes.{Appends}
 use Rattle.std.proofs.Math.Seq.{take-suc}
@@ -27,9 +27,10 @@ one_more : (classes : List Class) (c : Class) (old mid new : Option (List ℕ)) 
 one_more [] c old mid new same fault = (new, subst (λ (t : Option (List ℕ)). IsFaultOrNone c t new) same fault, refl)
 one_more (d ∷ more) c old mid new (at, first, rest) fault = (at, first, one_more more c at mid new rest fault)
 
--- the same of the first classes of a list, where the next one follows
-pub next_class : (classes : List Class) (n : ℕ) (c d : Class) (old mid new : Option (List ℕ)) → n < length classes → c ≡ get_or classes n d
-    → AreFaultsOf (take n classes) old mid → IsFaultOrNone c mid new → AreFaultsOf (take (suc n) classes) old new
-next_class classes n c d old mid new low is faults fault =
-    subst (λ (l : List Class). AreFaultsOf l old new) (ap (λ (x : Class). take n classes ++ x ∷ []) is ∙ sym (take-suc classes n d low))
-    (one_more (take n classes) c old mid new faults fault)
+-- the same for the first classes of a list and the next one
+pub next_class : (classes : List Class) (n : ℕ) (d : Class) (old mid new : Option (List ℕ)) → n < length classes
+    → AreFaultsOf (take n classes) old mid → IsFaultOrNone (get_or classes n d) mid new → AreFaultsOf (take (n + 1) classes) old new
+next_class classes n d old mid new low faults fault =
+    let next : suc n ≡ n + 1 = omega arith in
+    subst (λ (l : List Class). AreFaultsOf l old new) (sym (take-suc classes n d low) ∙ ap (λ (k : ℕ). take k classes) next)
+    (one_more (take n classes) (get_or classes n d) old mid new faults fault)

@@ -6,7 +6,8 @@ pub returns : goal.returns
 returns g c = (
   c.report_over_files-answer.result,
   c.if-is_err.answer,
-  (_, c.report_over_files-answer.ensures, c.flush.ensures.bytes),
+  (_, c.report_over_files-answer.ensures.reported, c.flush.ensures.bytes),
   elim c.if-is_err.branch [ then-is_err w ↦ inr w.answer-is | else-is_err w ↦ inl w.answer-is ],
-  c.ended.ensures,
+  c.ended.ensures.status,
+  (λ quiet. (_, c.report_over_files-answer.ensures.faults quiet, c.ended.ensures.stop)),
 )
