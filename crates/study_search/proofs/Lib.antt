@@ -2,6 +2,7 @@ pub mod Faults
 mod LeastMate
 pub mod OnlyMoves
 mod OneMove
+mod Promotions
 mod HalfPoints
 mod SideTold
 mod ThemeImages

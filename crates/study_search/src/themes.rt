@@ -2,7 +2,7 @@
 #![tactic(auto, using(crate::proofs::Faults::can_report, crate::proofs::Faults::if_reported))]
 
 ghost use Rattle.std.specs.Prelude.{◌≡◌, ◌↔◌, true, IfOk, IfErr};
-ghost use Rattle.std.specs.List.{All};
+ghost use Rattle.std.specs.List.{All, list_any};
 ghost use Rattle.study_moves.specs.Game.{IsWon};
 ghost use Rattle.study_moves.specs.Rules.{is_legal};
 ghost use Rattle.study_search.specs.Faults.{CanReport, HasSameTables};
@@ -70,13 +70,25 @@ fn draws_by_underpromotion<V: Values>(p: &Position, values: &mut V) -> Result<bo
     underpromotes(p, Outcome::Draw, values)
 }
 
-/// Whether exactly one move holds, and it promotes to less than a queen.
+/// Whether one of these moves promotes to less than a queen.
+fn some_underpromotes(moves: &[Move]) -> bool
+    ensures { result ≡ list_any (λ m. is_underpromoted m.promoted) moves.now }
+{
+    moves.iter().any(|m| is_underpromotion(*m))
+}
+
+/// Whether just one move holds, and it promotes to less than a queen. Where no legal move does, nothing is evaluated.
 fn holds_by_underpromotion<V: Values>(p: &Position, values: &mut V) -> Result<bool, ProbeFault>
     ensures game { V.is_honest values.old → IfOk result (λ b. (b ≡ true) ↔ HasTheme Theme.Underpromotion p.now) }
     ensures faults { IfErr result (CanReport V.held V.may_fail V.is_honest values.old) }
     ensures honest { V.is_honest values.old → V.is_honest values.new }
     ensures tables { HasSameTables V.held V.may_fail values.old values.new }
 {
+    let moves = legal_moves(p);
+    let some = some_underpromotes(moves.as_slice());
+    if !some {
+        return Ok(false);
+    }
     match underpromotes(p, Outcome::Win, values) {
         Err(fault) => Err(fault),
         Ok(true) => Ok(true),
