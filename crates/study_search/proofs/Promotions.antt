@@ -1,4 +1,4 @@
--- Where no legal move promotes to less than a queen, none that holds does.
+-- If no legal move promotes to less than a queen, no move that holds does.
 use Rattle.std.proofs.Common.{◌≡◌, ℕ, ◌<◌, zero, suc, Bool, true, false, ◌||◌, List, [], ◌∷◌, inl, inr, ◌⊎◌, ◌↔◌, length, arith, refl, sym, ◌∙◌, subst}
 use Rattle.std.specs.List.{list_any}
 use Rattle.std.specs.Prelude.{slice_index_or}

@@ -77,7 +77,7 @@ fn some_underpromotes(moves: &[Move]) -> bool
     moves.iter().any(|m| is_underpromotion(*m))
 }
 
-/// Whether just one move holds, and it promotes to less than a queen. Where no legal move does, nothing is evaluated.
+/// Whether exactly one move holds, and it promotes to less than a queen. If no legal move promotes so, nothing is evaluated.
 fn holds_by_underpromotion<V: Values>(p: &Position, values: &mut V) -> Result<bool, ProbeFault>
     ensures game { V.is_honest values.old → IfOk result (λ b. (b ≡ true) ↔ HasTheme Theme.Underpromotion p.now) }
     ensures faults { IfErr result (CanReport V.held V.may_fail V.is_honest values.old) }
