@@ -94,18 +94,6 @@ export function promoteNode(lines, study, node, toFront = false) {
   return { lines: appended(lines, study, ...[...Array(times).keys()].map(i => `promote ${base}${place - i}`)), path: 'made' };
 }
 /**
- * The line of a study with a stipulation or a tag; of a study that is not judged yet, the last line with these words.
- * @param {string[]} lines
- * @param {Study} study
- * @param {string} place
- */
-function placeOf(lines, study, place) {
-  const known = study.place[place], front = place === 'aim' ? 'stipulate ' : `tag ${place} `;
-  if (known > study.from) return known;
-  const last = lines.slice(study.from + 1, study.end).map(line => (wordsOf(line).join(' ') + ' ').startsWith(front)).lastIndexOf(true);
-  return last < 0 ? known : study.from + 1 + last;
-}
-/**
  * An earlier line of the study is changed in place; else one is added below the position and its stipulation.
  * @param {string[]} lines
  * @param {Study} study
@@ -113,9 +101,9 @@ function placeOf(lines, study, place) {
  * @param {string} line
  */
 function setLine(lines, study, place, line) {
-  const at = placeOf(lines, study, place);
+  const at = study.place[place];
   if (at !== undefined && at > study.from) return spliced(lines, at, 1, ...(line ? [line] : []));
-  const aim = placeOf(lines, study, 'aim') === study.from + 1 ? 1 : 0;
+  const aim = wordsOf(lines[study.from + 1] || '')[0] === 'stipulate' ? 1 : 0;
   return line ? spliced(lines, study.from + 1 + (place === 'aim' ? 0 : aim), 0, line) : lines;
 }
 /**

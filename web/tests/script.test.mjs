@@ -199,12 +199,10 @@ test('stipulation and tags stand in the lines of the study', () => {
   const old = { ...study, tags: { White: 'A', Date: '1921.??.??' }, place: { aim: 1 } };
   assert.deepEqual(edits.setTag(START, old, 'Date', '').lines[2], 'tag Date ????.??.??');
 });
-test('tags of a study that is not judged yet', () => {
-  const lines = ['position 8/8/1KP5/3r4/8/8/8/k7 w - - 0 1', 'stipulate white win', 'tag Event A', 'insert root c7'];
-  const study = { from: 0, end: 4, place: {}, tags: {}, originals: {} };
+test('a tag stands below the first stipulation of a study that has two', () => {
+  const lines = ['position 8/8/1KP5/3r4/8/8/8/k7 w - - 0 1', 'stipulate white win', 'tag Event A', 'insert root c7', 'stipulate white mate 7'];
+  const study = { from: 0, end: 5, place: { aim: 4, Event: 2 }, tags: {}, originals: {} };
   assert.deepEqual(edits.setTag(lines, study, 'Site', 'B').lines.slice(0, 4), [lines[0], lines[1], 'tag Site B', lines[2]]);
-  assert.deepEqual(edits.setTag(lines, study, 'Event', 'B').lines, [lines[0], lines[1], 'tag Event B', lines[3]]);
-  assert.deepEqual(edits.stipulate(lines, study, 'white draw').lines.slice(0, 3), [lines[0], 'stipulate white draw', lines[2]]);
 });
 test('another position', () => {
   assert.deepEqual(edits.withMoves(START, study, 'F', 'white win', ['insert root c7']).lines,
