@@ -1,6 +1,6 @@
 //! Places in a file.
-ghost use Rattle.std.specs.Prelude.{◌≡◌, ◌++◌, ◌-◌, OnOk};
-ghost use Rattle.study_import.specs.Blocks.{moved_on, place_behind, entry_seen, place_in, text_at, place_words, at_most};
+ghost use Rattle.std.specs.Prelude.{◌≡◌, ◌-◌};
+ghost use Rattle.study_import.specs.Blocks.{moved_on, place_behind, entry_seen, place_in, text_at, at_most};
 
 /// A line and a column in bytes, each counted from 1. Both saturate.
 #[derive(Clone, Copy)]

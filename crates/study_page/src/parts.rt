@@ -109,6 +109,7 @@ fn put_dual_parts<'a, A: Allocator>(
 }
 
 /// What the parts have of a dual.
+#[inline(never)]
 fn add_dual<'a, A: Allocator, V: Values>(
     alloc: &'a A,
     parts: &mut Parts<'_, A>,
@@ -174,6 +175,7 @@ fn put_listed_mistake<'a, A: Allocator>(
 }
 
 /// What the parts have of the move to the node at the path: the item of a fault of the solution, and the card of a dual.
+#[inline(never)]
 pub fn add_move<'a, 'b, A: Allocator, B: Allocator, V: Values>(
     alloc: &'a A,
     parts: &mut Parts<'_, A>,
@@ -243,6 +245,7 @@ fn put_try_at<'a, 'b, A: Allocator, B: Allocator>(
 }
 
 /// The row of a try.
+#[inline(never)]
 fn add_try<'a, 'b, A: Allocator, B: Allocator, V: Values>(
     alloc: &'a A,
     html: &mut Html<'_, A>,
@@ -290,6 +293,7 @@ fn put_defences_at<'a, 'b, A: Allocator, B: Allocator>(
 }
 
 /// The row of the defences that are missing.
+#[inline(never)]
 fn add_defences<'a, 'b, A: Allocator, B: Allocator, V: Values>(
     alloc: &'a A,
     html: &mut Html<'_, A>,
@@ -360,6 +364,7 @@ fn put_play_at<'a, A: Allocator>(
 }
 
 /// Best play, or the moves that keep a draw.
+#[inline(never)]
 fn add_continued<'a, A: Allocator, V: Values>(
     alloc: &'a A,
     html: &mut Html<'_, A>,
@@ -399,6 +404,7 @@ fn add_continued<'a, A: Allocator, V: Values>(
 }
 
 /// How it goes on where the tree ends.
+#[inline(never)]
 fn add_end<'a, 'b, A: Allocator, B: Allocator, V: Values>(
     alloc: &'a A,
     html: &mut Html<'_, A>,
@@ -448,6 +454,7 @@ fn put_zugzwang_at<'a, 'b, A: Allocator, B: Allocator>(
 }
 
 /// The row of a mutual zugzwang.
+#[inline(never)]
 fn add_zugzwang<'a, 'b, A: Allocator, B: Allocator, V: Values>(
     alloc: &'a A,
     html: &mut Html<'_, A>,
@@ -470,6 +477,7 @@ fn add_zugzwang<'a, 'b, A: Allocator, B: Allocator, V: Values>(
 }
 
 /// What the parts have of the position of the node at the path.
+#[inline(never)]
 pub fn add_position<'a, 'b, A: Allocator, B: Allocator, V: Values>(
     alloc: &'a A,
     parts: &mut Parts<'_, A>,

@@ -67,6 +67,7 @@ fn is_first_idle<'b, B: Allocator>(bench: &Bench<'b, B>, aim: &Aim, steps: &[u16
 }
 
 /// Whether the move to the node is a try of the hero.
+#[inline(never)]
 pub fn is_try<'b, B: Allocator>(bench: &Bench<'b, B>, steps: &[u16]) -> bool
     ensures { result ≡ is_try (marked bench.now) steps.now }
 {
@@ -76,6 +77,7 @@ pub fn is_try<'b, B: Allocator>(bench: &Bench<'b, B>, steps: &[u16]) -> bool
 }
 
 /// Whether the opponent is to move at the node, which is of the solution and holds.
+#[inline(never)]
 pub fn is_defended<'b, B: Allocator>(bench: &Bench<'b, B>, steps: &[u16]) -> bool
     ensures { result ≡ is_defended (marked bench.now) steps.now }
 {
@@ -95,6 +97,7 @@ fn has_none<'b, B: Allocator>(bench: &Bench<'b, B>, steps: &[u16]) -> bool
 }
 
 /// Whether the tree ends at the node, where the game does not.
+#[inline(never)]
 pub fn is_open_end<'b, B: Allocator>(bench: &Bench<'b, B>, steps: &[u16], p: &Position) -> bool
     requires { p.now ≡ position_at (marked bench.now) steps.now }
     ensures { result ≡ is_open_end (marked bench.now) steps.now }
@@ -103,6 +106,7 @@ pub fn is_open_end<'b, B: Allocator>(bench: &Bench<'b, B>, steps: &[u16], p: &Po
 }
 
 /// Whether the move to the node is the hero's, and of the solution.
+#[inline(never)]
 pub fn is_solution_move<'b, B: Allocator>(bench: &Bench<'b, B>, steps: &[u16]) -> bool
     ensures { result ≡ is_solution_move (marked bench.now) steps.now }
 {

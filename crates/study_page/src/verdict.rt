@@ -4,7 +4,6 @@ ghost use Rattle.study_marks.specs.BenchState.{marked};
 ghost use Rattle.study_marks.specs.Verdict.{verdict};
 ghost use Rattle.study_marks.specs.Study.{Study};
 ghost use Rattle.study_marks.specs.declared.mark.Mark.{Mark as AMark};
-ghost use Rattle.study_marks.specs.Goals.{aim_of};
 ghost use Rattle.study_review.specs.Review.{is_empty};
 ghost use Rattle.study_page.specs.Verdict.{stamp_of, stamp_element, stamp_words, stamp_part, none_given, number_words, which_words, lost_words, faults_words};
 ghost use Rattle.study_page.specs.Verdict.{holds_words, count_words, sentence, at_start, start_words, fault_list, verdict_part, judged};

@@ -1,13 +1,13 @@
 -- Positions along a path.
-use Rattle.std.proofs.Common.{◌≡◌, ℕ, List, [], ◌∷◌, ◌++◌, Option, Some, None, refl, sym, ap, ◌∙◌}
+use Rattle.std.proofs.Common.{◌≡◌, ℕ, zero, suc, ◌+◌, ◌<◌, List, [], ◌∷◌, ◌++◌, length, take, drop, take-suc, slice_index_or, Option, Some, None, refl, sym, ap, subst, ◌∙◌, IsTrue, arith}
 use Rattle.study_board.specs.Position.{Position}
 use Rattle.study_moves.specs.declared.moves.Move.{Move}
 use Rattle.study_moves.specs.Rules.{after}
-use Rattle.study_tree.specs.Tree.{Plain, Spot, spot_at}
+use Rattle.study_tree.specs.Tree.{Plain, Spot, spot_at, has_spot}
 use Rattle.study_marks.specs.Study.{Study, moves_to, position_after, position_at, IsPlayable}
 use Rattle.study_marks.specs.Bench.{played_by}
 use Rattle.study_marks.proofs.MovesToNode.{both, front-found}
-use Rattle.study_marks.proofs.PathRenewed.{there-spot, no-spot}
+use Rattle.study_marks.proofs.PathRenewed.{there-spot, no-spot, has_spot-front}
 use Rattle.study_review.specs.Line.{positions_along, line_to}
 
 along-last : (p : Position) (ms : List Move) (m : Move)
@@ -36,3 +36,16 @@ no-front {L = L} t steps front k m path e none = go (spot_at t steps) refl
     go : (o : Option (Spot L)) → spot_at t steps ≡ o → ⊥
     go None h = let no : None ≡ Some m = sym (ap played_by h) ∙ e in absurd cc
     go (Some s) h = no-spot t front (front-found t steps front k path (there-spot t steps s h)) none
+
+parted : (n : ℕ) (xs : List ℕ) → xs ≡ take n xs ++ drop n xs
+parted zero xs = refl
+parted (suc n) [] = refl
+parted (suc n) (x ∷ xs) = ap (λ (l : List ℕ). x ∷ l) (parted n xs)
+
+-- the path to a node leads through nodes
+pub taken-found : {L : Type 0} (t : Plain L) (steps : List ℕ) (n : ℕ) → IsTrue (has_spot t steps) → IsTrue (has_spot t (take n steps))
+taken-found t steps n h = has_spot-front t (take n steps) (drop n steps) (subst (λ (p : List ℕ). IsTrue (has_spot t p)) (parted n steps) h)
+
+-- one step more of a path
+pub step-taken : (steps : List ℕ) (k : ℕ) → k < length steps → take (k + 1) steps ≡ take k steps ++ slice_index_or steps k 0 ∷ []
+step-taken steps k lt = ap (λ (n : ℕ). take n steps) {x = k + 1} {y = suc k} (omega arith) ∙ take-suc steps k 0 lt

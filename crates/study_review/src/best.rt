@@ -137,6 +137,7 @@ pub fn play_on<V: Values>(
 }
 
 /// Best play of at most 20 plies, up to a position without legal moves.
+#[inline(never)]
 pub fn best_play<V: Values>(
     p: &Position,
     values: &mut V,

@@ -53,26 +53,23 @@ fn walk_to<'b, B: Allocator>(bench: &Bench<'b, B>, steps: &[u16], line: &mut Lin
     ensures len { array_vec_len line.new ≡ length steps.now + 1 }
 {
     let first = bench.start();
-    match steps.split_last() {
-        None => {
-            line.push(first.position.copied());
-            first.position.copied()
-        }
-        Some((_, front)) => {
-            let before = walk_to(bench, front, line);
-            match move_to(bench, steps) {
-                None => unreachable!(),
-                Some(m) => {
-                    let next = played(&before, m);
-                    line.push(next.copied());
-                    next
-                }
+    let mut here = first.position.copied();
+    line.push(here.copied());
+    for depth in 0..steps.len() {
+        match move_to(bench, &steps[..depth + 1]) {
+            None => unreachable!(),
+            Some(m) => {
+                let next = played(&here, m);
+                line.push(next.copied());
+                here = next;
             }
         }
     }
+    here
 }
 
 /// The place of the node at the path, `None` if there is no such node.
+#[inline(never)]
 pub fn place_in<'b, B: Allocator>(bench: &Bench<'b, B>, steps: &[u16]) -> Option<Place>
     ensures none { IfNone result (spot_at (marked bench.now).tree steps.now ≡ None) }
     ensures some { IfSome result (λ _. IsSome (spot_at (marked bench.now).tree steps.now)) }
@@ -97,6 +94,7 @@ pub fn place_in<'b, B: Allocator>(bench: &Bench<'b, B>, steps: &[u16]) -> Option
 }
 
 /// The move that led to the node at the path, and the place of the node before it; `None` if there is no such node, or it is the root.
+#[inline(never)]
 pub fn made_in<'b, B: Allocator>(bench: &Bench<'b, B>, steps: &[u16]) -> Option<Made>
     ensures none { IfNone result (played_by (spot_at (marked bench.now).tree steps.now) ≡ None) }
     ensures made { IfSome result (IsMadeIn (marked bench.now) steps.now) }

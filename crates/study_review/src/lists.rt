@@ -131,6 +131,7 @@ pub fn holding_moves<V: Values>(
 }
 
 /// The legal moves after which the position does not hold.
+#[inline(never)]
 pub fn refutations<V: Values>(
     node: &Node<'_>,
     values: &mut V,
@@ -154,6 +155,7 @@ pub fn refutations<V: Values>(
 }
 
 /// The legal moves after which the position is drawn.
+#[inline(never)]
 pub fn drawing_moves<V: Values>(
     node: &Node<'_>,
     values: &mut V,

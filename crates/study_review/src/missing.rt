@@ -124,6 +124,7 @@ fn answer_each<V: Values>(
 }
 
 /// The legal moves that are not in this list, the moves of the tree, each with its answers.
+#[inline(never)]
 pub fn defences<V: Values>(
     node: &Node<'_>,
     there: &[Move],

@@ -129,6 +129,7 @@ fn time_each<V: Values>(
 }
 
 /// The other legal moves than this one after which the position holds, each with the time that it loses.
+#[inline(never)]
 pub fn timed_alternatives<V: Values>(
     place: &Place,
     m: Move,

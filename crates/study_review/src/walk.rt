@@ -26,6 +26,7 @@ use study_marks::{Aim, Bench, Mark, hero_moves};
 use study_values::Values;
 
 /// The number of children of the node, 0 if there is no such node.
+#[inline(never)]
 pub fn count_at<'b, B: Allocator>(bench: &Bench<'b, B>, steps: &[u16]) -> u16
     ensures { result ≡ width (below_at (marked bench.now).tree.below steps.now) }
 {

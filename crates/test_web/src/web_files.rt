@@ -13,6 +13,7 @@ const KK_DIGEST: &str = "bfe492baf731a0dbf6e1e050f5bc3fe8c1b049383194dcdf82f023b
 const KRK_DIGEST: &str = "c44ba016cdd825eddc9b922d55db18a9147c60cb9978c9a8b62eb20a44c0f5ba";
 
 /// The span of a file that begins there.
+/// No contract: only tests call it, and the files that are made from it are compared with digests.
 pub fn span(class: Class, start: usize, file: &[u8]) -> Span {
     Span {
         class: class as usize,

@@ -27,6 +27,7 @@ mark 0 loss 0 only faults 0
 ";
 
 /// The files of KK and KRK, one after the other.
+/// No contract: only tests call it, and they compare the replies of scripts that read the files.
 pub fn two_files<'a, A: Allocator>(alloc: &'a A) -> Result<(Vec<u8, &'a A>, [Span; 2]), Fail> {
     let mut bytes = make_file(alloc, Class::KK, &[], &[])?;
     let kings = span(Class::KK, 0, bytes.as_slice());
