@@ -8,8 +8,9 @@ ghost use Rattle.study_retro.specs.Predecessors.{AreTold, IsBeforeFrom, IsBefore
 ghost use Rattle.study_levels.specs.Propagation.{AreSet, IsSetWhere};
 
 use crate::earlier::{has_twin, lands_from};
+use crate::mover::Mover;
 use study_board::{Man, Square, SquareSet};
-use study_index::{Departure, Setup, told};
+use study_index::{Departure, told};
 use study_levels::{lower_cell, mark_cell};
 use study_material::Class;
 use study_moves::origins;
@@ -73,20 +74,20 @@ pub fn write_before_man(
     class: Class,
     cells: &mut [u8],
     number: u32,
-    setup: &Setup,
-    man: &Man,
+    mover: Mover<'_>,
     slot: u32,
     change: Change,
 ) -> u64
     requires numbered { (q : Seen) × (position_numbered class number ≡ Some q) }
     requires plain { number < 16777216 }
-    requires told { AreTold class number setup.now.men.items setup.now.to_move }
-    requires man { Contains setup.now.men.items man.now }
+    requires told { AreTold class number mover.setup.now.men.items mover.setup.now.to_move }
+    requires man { Contains mover.setup.now.men.items mover.man.now }
     requires cell { 0 < change.cell }
     requires cells { length cells.old ≡ cells_of class }
-    ensures rise { AreSet (IsBeforeBy class number man.now) change.cell change.over cells.old cells.new }
-    ensures done { (n : ℕ) → IsBeforeBy class number man.now n → IsSetWhere change.cell change.over cells.new n }
+    ensures rise { AreSet (IsBeforeBy class number mover.entry.man.now) change.cell change.over cells.old cells.new }
+    ensures done { (n : ℕ) → IsBeforeBy class number mover.entry.man.now n → IsSetWhere change.cell change.over cells.new n }
 {
+    let (setup, man) = (mover.setup, mover.man);
     if man.side != setup.to_move.other() {
         return 0;
     }
@@ -115,7 +116,8 @@ pub fn write_before(class: Class, cells: &mut [u8], number: u32, change: Change)
     let setup = told(class, number);
     let mut count = 0u64;
     for (slot, man) in setup.men.as_slice().iter().enumerate() {
-        let more = write_before_man(class, cells, number, &setup, man, slot as u32, change);
+        let mover = Mover { setup: &setup, man };
+        let more = write_before_man(class, cells, number, mover, slot as u32, change);
         count = count.saturating_add(more);
     }
     count

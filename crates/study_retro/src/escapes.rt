@@ -16,6 +16,7 @@ ghost use Rattle.study_retro.specs.Still.{HasMove, QuietMovesLose, QuietMovesLos
 use crate::captures::move_to;
 use crate::class_game::ClassGame;
 use crate::earlier::may_leave_capture;
+use crate::mover::Mover;
 use std::alloc::Allocator;
 use study_board::{Kind, Man, Side, Square, SquareSet};
 use study_index::{Departure, Setup, decode};
@@ -80,28 +81,28 @@ pub fn loses_to<A: Allocator>(
     game: &ClassGame<A>,
     cells: &[u8],
     departure: &Departure,
-    setup: &Setup,
-    man: &Man,
+    mover: Mover<'_>,
     target: Square,
     level: u8,
 ) -> bool
     requires laws { IsNumberedClass (class_game game.now.class game.now.tables.now) }
     requires class { departure.now.class ≡ game.now.class }
-    requires from { departure.now.from ≡ man.now.at }
+    requires from { departure.now.from ≡ mover.man.now.at }
     requires numbered { (q : Seen) × (position_numbered game.now.class departure.now.number ≡ Some q) }
     requires plain { departure.now.number < 16777216 }
-    requires told { AreTold game.now.class departure.now.number setup.now.men.items setup.now.to_move }
-    requires man { Contains setup.now.men.items man.now }
-    requires side { same_side man.now.side setup.now.to_move ≡ true }
+    requires told { AreTold game.now.class departure.now.number mover.setup.now.men.items mover.setup.now.to_move }
+    requires man { Contains mover.setup.now.men.items mover.man.now }
+    requires side { same_side mover.man.now.side mover.setup.now.to_move ≡ true }
     requires on { target < 64 }
-    requires safe { is_safe_target setup.now.men.items setup.now.to_move man.now target ≡ true }
-    requires free { is_occupied setup.now.men.items target ≡ false }
+    requires safe { is_safe_target mover.setup.now.men.items mover.setup.now.to_move mover.man.now target ≡ true }
+    requires free { is_occupied mover.setup.now.men.items target ≡ false }
     requires cells { length cells.now ≡ cells_of game.now.class }
-    ensures yes { IsTrue result → (reaches_last_rank man.now target ≡ false) → (q : Seen)
+    ensures yes { IsTrue result → (reaches_last_rank mover.entry.man.now target ≡ false) → (q : Seen)
         → position_numbered game.now.class departure.now.number ≡ Some q
-        → IsWonAfter (class_game game.now.class game.now.tables.now) cells.now level q (move_to man.now target) }
+        → IsWonAfter (class_game game.now.class game.now.tables.now) cells.now level q (move_to mover.entry.man.now target) }
     ensures no { result ≡ false → NoLossBy (class_game game.now.class game.now.tables.now) cells.now level departure.now.number }
 {
+    let man = mover.man;
     if reaches_last_rank(man, target) {
         return true;
     }
@@ -125,22 +126,22 @@ pub fn quiet_moves_of<A: Allocator>(
     game: &ClassGame<A>,
     cells: &[u8],
     number: u32,
-    setup: &Setup,
-    man: &Man,
+    mover: Mover<'_>,
     slot: u32,
     level: u8,
 ) -> QuietMoves
     requires laws { IsNumberedClass (class_game game.now.class game.now.tables.now) }
     requires numbered { (q : Seen) × (position_numbered game.now.class number ≡ Some q) }
     requires plain { number < 16777216 }
-    requires told { AreTold game.now.class number setup.now.men.items setup.now.to_move }
-    requires man { Contains setup.now.men.items man.now }
+    requires told { AreTold game.now.class number mover.setup.now.men.items mover.setup.now.to_move }
+    requires man { Contains mover.setup.now.men.items mover.man.now }
     requires cells { length cells.now ≡ cells_of game.now.class }
     ensures yes { IsTrue result.escape → NoLossBy (class_game game.now.class game.now.tables.now) cells.now level number }
     ensures no { result.escape ≡ false → (q : Seen) → position_numbered game.now.class number ≡ Some q
-        → QuietMovesLoseBy (class_game game.now.class game.now.tables.now) cells.now level q man.now }
+        → QuietMovesLoseBy (class_game game.now.class game.now.tables.now) cells.now level q mover.entry.man.now }
     ensures some { IsTrue result.some → (q : Seen) → position_numbered game.now.class number ≡ Some q → HasMove q }
 {
+    let (setup, man) = (mover.setup, mover.man);
     let mut some = false;
     if man.side != setup.to_move {
         return QuietMoves {
@@ -156,7 +157,7 @@ pub fn quiet_moves_of<A: Allocator>(
     while !rest.is_empty() {
         let target = rest.first();
         rest = rest.without(SquareSet::of(target));
-        if !loses_to(game, cells, &departure, setup, man, target, level) {
+        if !loses_to(game, cells, &departure, mover, target, level) {
             return QuietMoves { escape: true, some };
         }
         some = true;
@@ -188,7 +189,8 @@ pub fn quiet_moves<A: Allocator>(
 {
     let mut some = false;
     for (slot, man) in setup.men.as_slice().iter().enumerate() {
-        let moves = quiet_moves_of(game, cells, number, setup, man, slot as u32, level);
+        let mover = Mover { setup, man };
+        let moves = quiet_moves_of(game, cells, number, mover, slot as u32, level);
         if moves.escape {
             return moves;
         }

@@ -11,6 +11,7 @@ mod captures;
 mod class_game;
 mod earlier;
 mod escapes;
+mod mover;
 mod row;
 mod row_back;
 mod row_checks;

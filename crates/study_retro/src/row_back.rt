@@ -16,6 +16,7 @@ ghost use Rattle.study_retro.specs.Still.{on_square};
 
 use crate::back::{Change, write_before_man, write_cell, write_from};
 use crate::earlier::{has_both_pawns, has_twin, may_pass};
+use crate::mover::Mover;
 use crate::row::Row;
 use crate::row_checks::{Staying, squares_of_check};
 use crate::row_levels::write_before_each;
@@ -186,7 +187,8 @@ fn write_before_man_each(
         rest = rest.without(SquareSet::of(square));
         let number = 64 * row.number + u32::from(square.number());
         let setup = told(row.class, number);
-        let more = write_before_man(row.class, cells, number, &setup, man, slot, change);
+        let mover = Mover { setup: &setup, man };
+        let more = write_before_man(row.class, cells, number, mover, slot, change);
         count = count.saturating_add(more);
         next = square.number() + 1;
     }
@@ -290,7 +292,11 @@ fn write_before_last_each(row: &Row, cells: &mut [u8], decided: SquareSet, chang
             at: square,
         };
         let setup = told(row.class, number);
-        let more = write_before_man(row.class, cells, number, &setup, &last, slot, change);
+        let mover = Mover {
+            setup: &setup,
+            man: &last,
+        };
+        let more = write_before_man(row.class, cells, number, mover, slot, change);
         count = count.saturating_add(more);
         next = square.number() + 1;
     }

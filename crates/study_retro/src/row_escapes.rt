@@ -20,6 +20,7 @@ ghost use Rattle.study_values.specs.declared.value.Value.TheVariants.{Win};
 use crate::class_game::ClassGame;
 use crate::earlier::{has_both_pawns, may_pass};
 use crate::escapes::{has_move, loses_to, quiet_moves_of, reaches_last_rank};
+use crate::mover::Mover;
 use crate::row::Row;
 use crate::row_checks::{Staying, squares_of_check};
 use crate::row_levels::lost_plainly_each;
@@ -85,7 +86,8 @@ fn losing_each<A: Allocator>(
         let number = 64 * departure.row + u32::from(square.number());
         let setup = told(game.class, number);
         let one = Departure::new(game.class, number, man.at, slot);
-        if loses_to(game, cells, &one, &setup, man, target, level) {
+        let mover = Mover { setup: &setup, man };
+        if loses_to(game, cells, &one, mover, target, level) {
             losing = losing.union(SquareSet::of(square));
         }
         next = square.number() + 1;
@@ -208,7 +210,8 @@ fn quiet_moves_of_man_each<A: Allocator>(
         rest = rest.without(SquareSet::of(square));
         let number = 64 * row.number + u32::from(square.number());
         let setup = told(game.class, number);
-        let moves = quiet_moves_of(game, cells, number, &setup, man, slot, level);
+        let mover = Mover { setup: &setup, man };
+        let moves = quiet_moves_of(game, cells, number, mover, slot, level);
         if !moves.escape {
             losing = losing.union(SquareSet::of(square));
         }
@@ -342,7 +345,11 @@ fn quiet_moves_of_last_each<A: Allocator>(
             at: square,
         };
         let setup = told(game.class, number);
-        let moves = quiet_moves_of(game, cells, number, &setup, &last, slot, level);
+        let mover = Mover {
+            setup: &setup,
+            man: &last,
+        };
+        let moves = quiet_moves_of(game, cells, number, mover, slot, level);
         if !moves.escape {
             losing = losing.union(SquareSet::of(square));
         }

@@ -15,9 +15,10 @@ use Rattle.study_retro.proofs.back.write_before_man.Goals as goal
 -- no man of the other side has moved
 pub returns-then-ne-clause-done : goal.returns-then-ne-clause-done
 returns-then-ne-clause-done c = λ n b.
-    let came = led_came c.args.class c.args.number c.requires.numbered.0 c.requires.numbered.1 c.args.setup.now.men.items c.args.setup.now.to_move
-    c.requires.told c.args.man.now c.requires.man b.0 n b.1 b.2 in
-    absurd (false≢true (sym (sym (side_same _ _) ∙ not-true _ (sym c.ne.ensures ∙ c.if-ne.true)) ∙ ap (λ (s : Side). same_side c.args.man.now.side s) c.other.ensures ∙ came.0))
+    let came = led_came c.args.class c.args.number c.requires.numbered.0 c.requires.numbered.1 c.args.mover.setup.now.men.items c.args.mover.setup.now.to_move
+    c.requires.told c.args.mover.man.now c.requires.man b.0 n b.1 b.2 in
+    absurd (false≢true (sym (sym (side_same _ _) ∙ not-true _ (sym c.ne.ensures ∙ c.if-ne.true))
+    ∙ ap (λ (s : Side). same_side c.args.mover.man.now.side s) c.other.ensures ∙ came.0))
 
 pub loop-next-init : goal.loop-next-init
 loop-next-init c = record {
@@ -37,16 +38,17 @@ write_from-requires-clause-led c = λ q at.
     let a = c.first-origin.result in
     let here : position_numbered c.args.class c.args.number ≡ Some q =
     subst (λ (n : ℕ). position_numbered c.args.class n ≡ Some q) c.new-departure.ensures.number at in
-    let his = sym (ap (λ (s : Side). same_side c.args.man.now.side s) c.other.ensures) ∙ sym (side_same _ _) ∙ not-false _ (sym c.ne.ensures ∙ c.if-ne.false) in
-    before_in c.args.class c.args.number q here c.args.setup.now.men.items c.args.setup.now.to_move c.requires.told c.args.man.now c.requires.man
-    c.origins-all.result _ c.as_slice.ensures.value c.origins-all.ensures a f.inside his (first-in _ _ _ c.loop-next.invariant.left a f.inside f.there)
+    let his = sym (ap (λ (s : Side). same_side c.args.mover.man.now.side s) c.other.ensures)
+    ∙ sym (side_same _ _) ∙ not-false _ (sym c.ne.ensures ∙ c.if-ne.false) in
+    before_in c.args.class c.args.number q here c.args.mover.setup.now.men.items c.args.mover.setup.now.to_move c.requires.told
+    c.args.mover.man.now c.requires.man c.origins-all.result _ c.as_slice.ensures.value c.origins-all.ensures a f.inside his (first-in _ _ _ c.loop-next.invariant.left a f.inside f.there)
 
 pub loop-next-preserved : goal.loop-next-preserved
 loop-next-preserved c =
     let f = c.first-origin.ensures in
     let a = c.first-origin.result in
     let inv = c.loop-next.invariant in
-    let man = c.args.man.now in
+    let man = c.args.mover.man.now in
     let class = c.args.class in
     let number : c.new-departure.result.number ≡ c.args.number = c.new-departure.ensures.number in
     let Why : ℕ → Type 0 = IsBeforeBy class c.args.number man in
@@ -76,8 +78,8 @@ loop-next-preserved c =
 pub returns-clause-done : goal.returns-clause-done
 returns-clause-done c = λ n b.
     let inv = c.loop-next.invariant in
-    let e = in_before c.args.class c.args.number c.requires.numbered.0 c.requires.numbered.1 c.args.setup.now.men.items c.args.setup.now.to_move
-    c.requires.told c.args.man.now c.requires.man c.origins-all.result _ c.as_slice.ensures.value c.origins-all.ensures b.0 n b.1 b.2 in
+    let e = in_before c.args.class c.args.number c.requires.numbered.0 c.requires.numbered.1 c.args.mover.setup.now.men.items c.args.mover.setup.now.to_move
+    c.requires.told c.args.mover.man.now c.requires.man c.origins-all.result _ c.as_slice.ensures.value c.origins-all.ensures b.0 n b.1 b.2 in
     elim (cases_lt b.0 c.loop-next.next) [
       | inl l ↦ inv.done b.0 n l e b.2
       | inr g ↦ absurd (false≢true (sym (left-none _ _ _ inv.left (c.is_empty.ensures.0 c.loop-next-test.false) b.0 g b.1) ∙ e))

@@ -10,8 +10,8 @@ abbrev pub invariant-loop-next : goal.invariant-loop-next
 invariant-loop-next l = record {
   left : AreLeft l.all l.rest l.next;
   size : length l.cells ≡ cells_of l.fn.class;
-  rise : AreSet (IsBeforeBy l.fn.class l.number l.man) l.change.cell l.change.over l.initial.cells l.cells;
-  done : (a n : ℕ) → a < l.next → has l.all a ≡ true → IsBeforeFrom l.fn.class l.number l.man a n → IsSetWhere l.change.cell l.change.over l.cells n;
+  rise : AreSet (IsBeforeBy l.fn.class l.number l.mover.man.now) l.change.cell l.change.over l.initial.cells l.cells;
+  done : (a n : ℕ) → a < l.next → has l.all a ≡ true → IsBeforeFrom l.fn.class l.number l.mover.man.now a n → IsSetWhere l.change.cell l.change.over l.cells n;
 }
 
 abbrev pub decreases-loop-next : goal.decreases-loop-next

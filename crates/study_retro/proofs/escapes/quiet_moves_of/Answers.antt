@@ -16,8 +16,8 @@ use Rattle.study_retro.proofs.escapes.quiet_moves_of.Goals as goal
 -- no man of the other side moves
 pub returns-then-ne-clause-no : goal.returns-then-ne-clause-no
 returns-then-ne-clause-no g c = λ f q at x legal quiet.
-    let man = c.args.man.now in
-    let s = safe_by c.args.game.now.class c.args.number q at c.requires.plain c.args.setup.now.men.items c.args.setup.now.to_move c.requires.told
+    let man = c.args.mover.man.now in
+    let s = safe_by c.args.game.now.class c.args.number q at c.requires.plain c.args.mover.setup.now.men.items c.args.mover.setup.now.to_move c.requires.told
     (move_to man x) legal man c.requires.man refl in
     absurd (false≢true (sym (sym (side_same _ _) ∙ not-true _ (sym c.ne.ensures ∙ c.if-ne.true)) ∙ s.1))
 
@@ -28,7 +28,7 @@ pub loses_to-requires-clause-safe : goal.loses_to-requires-clause-safe
 loses_to-requires-clause-safe g c =
     let f = c.first-target.ensures in
     let x = c.first-target.result in
-    ap (λ (zs : List Man). is_safe_target zs c.args.setup.now.to_move c.args.man.now x) (sym c.as_slice-men.ensures.value)
+    ap (λ (zs : List Man). is_safe_target zs c.args.mover.setup.now.to_move c.args.mover.man.now x) (sym c.as_slice-men.ensures.value)
     ∙ sym (c.safe_targets.ensures x f.inside)
     ∙ in-one _ _ (sym (c.without-free.ensures x f.inside) ∙ first-in _ _ _ c.loop-rest.invariant.left x f.inside f.there)
 
@@ -45,17 +45,17 @@ loop-rest-preserved g c =
     let f = c.first-target.ensures in
     let a = c.first-target.result in
     let inv = c.loop-rest.invariant in
-    let man = c.args.man.now in
+    let man = c.args.mover.man.now in
     let next : c.number-next.result ≡ a = c.number-next.ensures.value in
-    let own : same_side man.side c.args.setup.now.to_move ≡ true = sym (side_same _ _) ∙ not-false _ (sym c.ne.ensures ∙ c.if-ne.false) in
-    let safe : is_safe_target c.args.setup.now.men.items c.args.setup.now.to_move man a ≡ true =
-    ap (λ (zs : List Man). is_safe_target zs c.args.setup.now.to_move man a) (sym c.as_slice-men.ensures.value)
+    let own : same_side man.side c.args.mover.setup.now.to_move ≡ true = sym (side_same _ _) ∙ not-false _ (sym c.ne.ensures ∙ c.if-ne.false) in
+    let safe : is_safe_target c.args.mover.setup.now.men.items c.args.mover.setup.now.to_move man a ≡ true =
+    ap (λ (zs : List Man). is_safe_target zs c.args.mover.setup.now.to_move man a) (sym c.as_slice-men.ensures.value)
     ∙ sym (c.safe_targets.ensures a f.inside)
     ∙ in-one _ _ (sym (c.without-free.ensures a f.inside) ∙ first-in _ _ _ c.loop-rest.invariant.left a f.inside f.there) in
     let left = left-more _ _ _ inv.left a f.inside f.there f.least c.of.result c.without-rest.result c.of.ensures c.without-rest.ensures in
     record {
-      some = λ t q at. some_legal c.args.game.now.class c.args.number q at c.requires.plain c.args.setup.now.men.items c.args.setup.now.to_move c.requires.told
-          man c.requires.man own a f.inside safe;
+      some = λ t q at. some_legal c.args.game.now.class c.args.number q at c.requires.plain
+          c.args.mover.setup.now.men.items c.args.mover.setup.now.to_move c.requires.told man c.requires.man own a f.inside safe;
       left = subst (λ (n : ℕ). AreLeft c.without-free.result c.without-rest.result (n + 1)) (sym next) left;
       lose = λ x l e plain q at. elim (cases_lt x c.loop-rest.next) [
         | inl low ↦ inv.lose x low e plain q at
@@ -73,9 +73,9 @@ loop-rest-preserved g c =
 pub returns-clause-no : goal.returns-clause-no
 returns-clause-no g c = λ f q at x legal quiet.
     let inv = c.loop-rest.invariant in
-    let man = c.args.man.now in
-    let men = c.args.setup.now.men.items in
-    let side = c.args.setup.now.to_move in
+    let man = c.args.mover.man.now in
+    let men = c.args.mover.setup.now.men.items in
+    let side = c.args.mover.setup.now.to_move in
     let class = c.args.game.now.class in
     let s = safe_by class c.args.number q at c.requires.plain men side c.requires.told (move_to man x) legal man c.requires.man refl in
     let plain = safe_plain class c.args.number q at c.requires.plain men side c.requires.told (move_to man x) legal man c.requires.man refl refl in

@@ -11,9 +11,9 @@ use Rattle.study_retro.proofs.escapes.quiet_moves_of.Given as goal
 abbrev pub invariant-loop-rest : goal.invariant-loop-rest
 invariant-loop-rest g l = record {
   left : AreLeft l.initial.rest l.rest l.next;
-  lose : (x : ℕ) → x < l.next → has l.initial.rest x ≡ true → reaches_last_rank l.man x ≡ false
+  lose : (x : ℕ) → x < l.next → has l.initial.rest x ≡ true → reaches_last_rank l.mover.man.now x ≡ false
       → (q : Position) → position_numbered l.game.class l.number ≡ Some q
-      → IsWonAfter (class_game l.game.class l.game.tables.now) l.cells l.level q (move_to l.man x);
+      → IsWonAfter (class_game l.game.class l.game.tables.now) l.cells l.level q (move_to l.mover.man.now x);
   some : l.some ≡ true → (q : Position) → position_numbered l.game.class l.number ≡ Some q → HasMove q;
 }
 
