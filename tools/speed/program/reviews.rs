@@ -94,6 +94,7 @@ fn follow<'a, R: Read, S: TableStore, A: Allocator>(
         document: Document::Empty,
         tables: Tables::Whole(WholeTables::new(TableSet::new(alloc)?)),
         store,
+        separate: true,
     };
     let mut studies = 0u32;
     for _ in 0..100_000u32 {
