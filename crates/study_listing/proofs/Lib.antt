@@ -1,3 +1,4 @@
+mod HeldClasses
 pub mod Found
 pub mod Written
 pub mod OneList

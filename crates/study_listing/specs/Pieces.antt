@@ -1,6 +1,7 @@
 -- A list piece by piece: the lines of a range of numbers, and the progress of the list.
 use Rattle.std.specs.Prelude.{◌≡◌, ℕ, ◌-◌, nat_le, min, Bool, true, false, List, [], ◌∷◌, ◌++◌, length, take, drop, Option, Some, None, Result, Ok, Err, codes, decimal, if◌then◌else◌}
 use Rattle.std.specs.Io.KnownBytes.{Appends}
+use Rattle.std.specs.List.{AllByRecursion}
 use Rattle.study_material.specs.declared.class.Class.{Class}
 use Rattle.study_material.specs.Needs.{IsOrder}
 use Rattle.study_notation.specs.Fen.{digits_told}
@@ -56,11 +57,16 @@ AreThese false c classes = IsOrder c classes
 abbrev pub AreLookedAt : Request → List Class → Type 0
 AreLookedAt r classes = AreThese (needs_one_table r) (class_of_request r) classes
 
--- no table of some class is held, and nothing else is wrong
-abbrev pub IsMissing : (Class → Bool) → ProbeFault → Type 0
-IsMissing held (NoTable c) = held c ≡ false
-IsMissing held (TableRead f) = ⊥
-IsMissing held (PageDamaged c n) = ⊥
+-- a table of each class that is used is held
+abbrev pub AreHeld : Request → (Class → Bool) → Type 0
+AreHeld r held = (classes : List Class) × AreLookedAt r classes × AllByRecursion (λ c. held c ≡ true) classes
+
+-- no table of a class that is used is held, the first such class of the list, and nothing else is wrong
+abbrev pub IsMissing : Request → (Class → Bool) → ProbeFault → Type 0
+IsMissing r held (NoTable c) =
+    (before after : List Class) × AreLookedAt r (before ++ c ∷ after) × AllByRecursion (λ d. held d ≡ true) before × (held c ≡ false)
+IsMissing r held (TableRead f) = ⊥
+IsMissing r held (PageDamaged c n) = ⊥
 
 -- ---- the text
 

@@ -6,7 +6,7 @@ ghost use Rattle.std.specs.Io.KnownBytes.{Appends};
 ghost use Rattle.study_material.specs.declared.class.Class.{Class as AClass};
 ghost use Rattle.study_values.specs.declared.fault.SourceFault.{SourceFault as ASourceFault};
 ghost use Rattle.study_listing.specs.Lists.{IsSelectionOf};
-ghost use Rattle.study_listing.specs.Pieces.{AreLookedAt, end_of, how_far, IsMissing, HasWrittenPiece, HasWrittenLines};
+ghost use Rattle.study_listing.specs.Pieces.{AreLookedAt, AreHeld, end_of, how_far, IsMissing, HasWrittenPiece, HasWrittenLines};
 ghost use Rattle.study_listing.specs.Stops.{CanStop, StopsUndamaged};
 
 use crate::fault::Stop;
@@ -41,13 +41,15 @@ pub fn classes_for(request: &Request) -> ArrayVec<Class, CLASS_COUNT>
     order(request.class())
 }
 
-/// Refuses a request if a needed table is missing, naming the first class without one.
+/// Refuses a request if a table that it uses is missing, naming the first class without one.
 pub fn need_tables<V: Values>(request: &Request, values: &V) -> Result<(), ProbeFault>
-    ensures { IfErr result (IsMissing (V.held values.now)) }
+    ensures held { OnOk result (AreHeld request.now (V.held values.now)) }
+    ensures missing { IfErr result (IsMissing request.now (V.held values.now)) }
 {
-    for class in classes_for(request) {
-        if !values.holds(class) {
-            return Err(ProbeFault::NoTable(class));
+    let classes = classes_for(request);
+    for class in classes.as_slice() {
+        if !values.holds(*class) {
+            return Err(ProbeFault::NoTable(*class));
         }
     }
     Ok(())

@@ -1,5 +1,5 @@
 //! A store without files, for a report whose tables are loaded before its first line.
-ghost use Rattle.std.specs.Prelude.{None, true};
+ghost use Rattle.std.specs.Prelude.{◌≡◌, None, Err, true};
 
 use std::io::{Empty, Sink};
 use study_material::Class;
@@ -36,15 +36,21 @@ impl<P: PageSource> TableStore for NoFiles<P> {
 
     ghost faults = { λ s c f. true };
 
-    fn reader(&mut self, _class: Class) -> Result<Empty, StoreFault> {
+    fn reader(&mut self, _class: Class) -> Result<Empty, StoreFault>
+        ensures { result ≡ Err StoreFault.NoFile }
+    {
         Err(StoreFault::NoFile)
     }
 
-    fn writer(&mut self, _class: Class) -> Result<Sink, StoreFault> {
+    fn writer(&mut self, _class: Class) -> Result<Sink, StoreFault>
+        ensures { result ≡ Err StoreFault.Device }
+    {
         Err(StoreFault::Device)
     }
 
-    fn pages(&mut self, _class: Class) -> Result<P, StoreFault> {
+    fn pages(&mut self, _class: Class) -> Result<P, StoreFault>
+        ensures { result ≡ Err StoreFault.NoFile }
+    {
         Err(StoreFault::NoFile)
     }
 }
