@@ -7,7 +7,7 @@ import { app, change, doc, node, parts, say, study } from './app.js';
 import { insertMoves } from './edits.js';
 import { draftFen, moveDraft, placeAt, removeAt } from './setup.js';
 import { holds } from './words.js';
-/** @typedef {import('./types.js').Move} Move @typedef {{to: number, sign: string}} Target */
+/** @typedef {import('./types.js').Move} Move @typedef {{to: number, sign: string, row?: number | null}} Target */
 
 const X = 14, Y = 1;
 /** @param {number} s */
@@ -59,9 +59,10 @@ const markedSquares = marks => svg('g', {}, marks.last.map(s => cell(s, 'last'))
  */
 function standing(fen, marks) {
   const men = menOf(fen);
-  const dots = marks.targets.map(({ to, sign }) => {
-    const [x, y] = corner(to);
-    return svg('circle', { class: sign + (men[to] ? ' over' : ''), cx: x + 22.5, cy: y + 22.5, r: men[to] ? 20 : 7.5 });
+  const dots = marks.targets.map(({ to, sign, row }) => {
+    const [x, y] = corner(to), r = men[to] ? 20 : row ? 11 : 7.5;
+    return [svg('circle', { class: sign + (men[to] ? ' over' : ''), cx: x + 22.5, cy: y + 22.5, r }),
+      row ? svg('text', { class: 'many', x: x + 22.5, y: y + 27, 'data-row': squareName(to) }, `${row}`) : null];
   });
   return svg('g', {}, Object.entries(men).map(([s, c]) => man(c, Number(s))), dots, marks.cursor !== null && cell(marks.cursor, 'cursor'));
 }

@@ -14,7 +14,7 @@ const INNER = 'symbol .i{fill:none;stroke:var(--in)}symbol .d{fill:var(--in);str
 /** The board as a file of SVG that stands alone: with its men's drawings, without marks. */
 export function diagramSvg() {
   const board = $('board').firstChild.cloneNode(true), drawings = document.querySelector('svg.defs'), text = new XMLSerializer();
-  for (const mark of board.querySelectorAll('.last,.pick,.cursor,.dot,.plain,.ring')) mark.remove();
+  for (const mark of board.querySelectorAll('.last,.pick,.cursor,.dot,.plain,.ring,text.many')) mark.remove();
   for (const name of ['class', 'role', 'tabindex', 'aria-label']) board.removeAttribute(name);
   board.setAttribute('width', '377');
   board.setAttribute('height', '380');

@@ -7,7 +7,8 @@ import { close } from './documents_view.js';
 import { close as closeEarlier } from './earlier_view.js';
 import { close as closeFinding } from './finding_view.js';
 import { endOf, remove } from './node_view.js';
-import { draftFen, hideSurvey, stepDraft } from './setup.js';
+import { draftFen, stepDraft } from './setup.js';
+import { hideSurvey } from './survey.js';
 
 /** @param {number} d */
 function neighbour(d) {

@@ -1,10 +1,9 @@
 // @ts-check
 // The set-up of men: a draft until it is taken over. The program says of each draft what is wrong with it, or what its value is.
-import { EMPTY, menOf, placement, sideOf, squareName, typedFen } from './fen.js';
-import { PAGES, app, parts, say, silent, study, viewOf, work } from './app.js';
+import { EMPTY, menOf, placement, sideOf, typedFen } from './fen.js';
+import { app, parts, say, silent, study, viewOf } from './app.js';
 import { Stopped } from './engine.js';
 import { freshId } from './keep.js';
-import { readSurvey, refusalIn } from './replies.js';
 import { aimText, aimWords, counted, holds, movesTo, reason } from './words.js';
 import { joined } from './script.js';
 import { isTurn, turnedAim, turnedFen } from './turning.js';
@@ -23,7 +22,7 @@ import { isTurn, turnedAim, turnedFen } from './turning.js';
  * @property {boolean} more      one more in this script
  * @property {Judged | null} judged
  * @property {string[]} passed
- * @property {{to: number, sign: string, text: string}[] | null} survey
+ * @property {import('./elsewhere.js').Spot[] | null} survey
  * @property {string[]} waits      the tables that are being built for it
  * @property {string} id      the document that it becomes, where that is a new one
  * @property {import('./turning.js').Turn[]} turns      what was done to the whole diagram, so that the moves can come along
@@ -238,31 +237,6 @@ async function judgement(d, build) {
 async function passedSquares() {
   const { text } = await parts.core.answer('passed ' + draftFen().replace(/^(\S+ \S+) .*/, '$1 - - 0 1'), '', 1);
   return text.split(/\s+/).filter(word => /^[a-h][36]$/.test(word));
-}
-/**
- * All squares of a man: where the aim holds, and where by one first move.
- * @param {number} man
- */
-export const survey = man => work(async () => {
-  const d = app.setup;
-  if (!d || !d.men[man]) return;
-  d.man = man;
-  const answer = await parts.core.answer(`survey ${squareName(man)} ${d.aim} ${draftFen()}`, '', PAGES), stands = readSurvey(answer.text);
-  if (app.setup !== d || d.man !== man) return;
-  if (!stands.length) say('fen', `No survey: ${reason(refusalIn(answer))}.`);
-  else
-    d.survey = stands.filter(s => s.kind === 'holds' || s.kind === 'only')
-                   .map(s => ({to: s.square, sign: s.kind === 'only' ? 'dot' : 'plain', text: squareName(s.square) + (s.san ? ` (${s.san})` : '')}));
-  parts.showJudged();
-}, 'fen');
-
-/** The squares of a survey are taken off the board again; whether some were shown. */
-export function hideSurvey() {
-  const d = app.setup;
-  if (!d || !d.survey) return false;
-  d.survey = null;
-  parts.showJudged();
-  return true;
 }
 /** The number of moves that an aim of mate begins with. */
 export const guess = () => {

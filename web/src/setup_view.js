@@ -1,12 +1,13 @@
 // @ts-check
 // The set-up of men: palette, side to move, stipulation, FEN, what the program says of it, and what it becomes.
-import { $, button, h, put, svg } from './dom.js';
-import { isWhite, manName, menOf, squareName } from './fen.js';
+import { $, button, h, put } from './dom.js';
+import { manName, menOf } from './fen.js';
 import { app, node, parts, study } from './app.js';
 import { manIcon, takeUp } from './board.js';
 import { aimView, told } from './head_view.js';
 import { kept } from './node_view.js';
-import { closeSetup, draftFen, drafted, judge, survey, turnDraft, typed } from './setup.js';
+import { closeSetup, draftFen, drafted, judge, turnDraft, typed } from './setup.js';
+import { surveyView } from './survey_view.js';
 import { takeOver } from './taking_over.js';
 import { moveName, readAim } from './words.js';
 /** @typedef {import('./setup.js').Draft} Draft */
@@ -131,26 +132,6 @@ function judgedView(d) {
     h('p', {id: 'judged', class: judged && judged.text && !judged.bad ? 'judged' : 'note', role: 'status'}, text),
     judged && judged.lacking.length > 0 &&
         h('p', {}, button('Build them now', 'some seconds for each; once for all', () => judge(true), {id: 'buildNow'}))
-  ];
-}
-/** @param {Draft} d */
-function surveyView(d) {
-  const judged = d.judged, men = Object.entries(d.men);
-  if (men.length < 2 || !judged || judged.bad || judged.lacking.length) return null;
-  const name = (/** @type {string} */ letter, /** @type {number} */ s) => `${isWhite(letter) ? 'White' : 'Black'} ${letter.toUpperCase()}${squareName(s)}`;
-  const chosen = d.man === null ? Number(men[0][0]) : d.man;
-  const list =
-      h('select', {id: 'surveyMan', 'aria-label': 'The man that could stand elsewhere', onchange: (/** @type {any} */ e) => survey(Number(e.target.value))},
-        men.map(([s, letter]) => h('option', {value: s, selected: Number(s) === chosen}, name(letter, Number(s)))));
-  const sign = (/** @type {string} */ cls) => svg('svg', { width: 12, height: 12, 'aria-hidden': 'true' }, svg('circle', { class: cls, cx: 6, cy: 6, r: 5 }));
-  const only = (d.survey || []).filter(t => t.sign === 'dot').map(t => t.text), more = (d.survey || []).filter(t => t.sign !== 'dot').length;
-  return [
-    h('p', {class: 'row'}, 'Where else could ', list, ' stand?',
-      button('Show', 'the squares on which the stipulation holds', () => survey(chosen), {id: 'survey'})),
-    d.survey &&
-        h('p', {class: 'note', role: 'status', id: 'stands'}, sign('dot'),
-          ` by one first move: ${only.length ? only.slice(0, 12).join(', ') + (only.length > 12 ? ` and ${only.length - 12} more` : '') : 'nowhere'}; `,
-          sign('plain'), ` it holds on ${more}${only.length ? ' more' : ''}. A press on a square puts this man there.`)
   ];
 }
 /**

@@ -107,9 +107,10 @@ const sizeOf = tree => 1 + tree.children.reduce((sum, child) => sum + sizeOf(chi
  * The largest part of a tree whose moves are all accepted, and the moves that fell away with what stood below them.
  * @param {Bare} tree
  * @param {(lines: string[]) => Promise<number>} firstRefused      the place of the first line that is refused, or -1
+ * @param {number} [most]      where more moves fall away than these, nothing is kept
  * @returns {Promise<{lines: string[], fallen: {san: string, below: number}[]}>}
  */
-export async function legalPart(tree, firstRefused) {
+export async function legalPart(tree, firstRefused, most = Infinity) {
   const fallen = /** @type {{san: string, below: number}[]} */ ([]);
   for (;;) {
     const list = insertions(tree), lines = list.map(({ line }) => line), at = await firstRefused(lines);
@@ -117,5 +118,6 @@ export async function legalPart(tree, firstRefused) {
     const { node, parent } = list[at];
     fallen.push({ san: node.san, below: sizeOf(node) - 1 });
     parent.children.splice(parent.children.indexOf(node), 1);
+    if (fallen.length > most) return { lines: [], fallen };
   }
 }

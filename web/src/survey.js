@@ -1,0 +1,114 @@
+// @ts-check
+// Where else a man could stand: the squares on which the stipulation holds. What more is known of them comes one square
+// after the other, so that nothing waits for it.
+import { PAGES, app, counting, parts, say, work } from './app.js';
+import { fenWith, rowAt, treeAt } from './elsewhere.js';
+import { sideOf, squareName } from './fen.js';
+import { readSurvey, refusalIn } from './replies.js';
+import { draftFen } from './setup.js';
+import { bareOf, turnedTree } from './turning.js';
+import { readAim, reason } from './words.js';
+/** @typedef {import('./setup.js').Draft} Draft @typedef {import('./elsewhere.js').Spot} Spot */
+/** @typedef {import('./types.js').Stand} Stand */
+
+/**
+ * All squares of a man: where the aim holds, and where by one first move.
+ * @param {number} man
+ */
+export const survey = man => work(async () => {
+  const d = app.setup;
+  if (!d || !d.men[man]) return;
+  d.man = man;
+  const answer = await parts.core.answer(`survey ${squareName(man)} ${d.aim} ${draftFen()}`, '', PAGES);
+  const stands = readSurvey(answer.text);
+  if (app.setup !== d || d.man !== man) return;
+  if (!stands.length) say('fen', `No survey: ${reason(refusalIn(answer))}.`);
+  else d.survey = stands.filter(s => s.kind === 'holds' || s.kind === 'only').map(spotOf);
+  parts.showJudged();
+  if (stands.length) counting(rows(d, man)).catch(() => {});
+}, 'fen');
+/**
+ * @param {Stand} stand
+ * @returns {Spot}
+ */
+const spotOf = stand => ({
+  to: stand.square,
+  sign: stand.kind === 'only' ? 'dot' : 'plain',
+  text: squareName(stand.square) + (stand.san ? ` (${stand.san})` : ''),
+  row: null,
+  there: null
+});
+/** The squares of a survey are taken off the board again; whether some were shown. */
+export function hideSurvey() {
+  const d = app.setup;
+  if (!d || !d.survey) return false;
+  d.survey = null;
+  parts.showJudged();
+  return true;
+}
+
+const OFTEN = 150;
+/**
+ * Does something for each square of a survey, as long as it is shown, and draws it now and then.
+ * @param {Draft} d
+ * @param {Spot[]} spots
+ * @param {(spot: Spot) => Promise<boolean>} look      whether to go on
+ */
+async function forEach(d, spots, look) {
+  const mine = d.survey, shown = () => app.setup === d && d.survey === mine;
+  let drawn = performance.now();
+  for (const spot of spots) {
+    if (!await look(spot) || !shown()) break;
+    if (performance.now() - drawn < OFTEN) continue;
+    parts.showJudged();
+    drawn = performance.now();
+  }
+  if (shown()) parts.showJudged();
+}
+let known = true;
+/**
+ * The number of only moves in a row at each dot.
+ * @param {Draft} d
+ * @param {number} man
+ */
+async function rows(d, man) {
+  const { hero, goal } = readAim(d.aim), fen = draftFen();
+  const dots = (d.survey || []).filter(spot => spot.sign === 'dot');
+  if (!known || !dots.length || goal === 'mate' || hero !== sideOf(fen)) return;
+  await forEach(d, dots, async spot => {
+    const row = await rowAt(parts.core, goal, fenWith(fen, man, spot.to));
+    known = row !== undefined;
+    spot.row = row === undefined ? null : row;
+    return known;
+  });
+}
+
+const asked = /** @type {WeakSet<Spot[]>} */ (new WeakSet());
+/**
+ * Whether the trees of a survey were asked for.
+ * @param {Spot[]} spots
+ */
+export const isAsked = spots => asked.has(spots);
+/**
+ * Whether the set-up has a tree that could come along.
+ * @param {Draft} d
+ */
+export const hasTree = d => !d.anew && app.view !== null && app.view.root.children.length > 0;
+/** What the tree of the study would be on each square of the survey, the dots first. */
+export const lookAtTrees = () => counting(trees()).catch(fault => {
+  say('fen', `Not looked at: ${fault.message}.`);
+  parts.showJudged();
+});
+async function trees() {
+  const d = app.setup, spots = d && d.survey, view = app.view;
+  if (!d || !spots || !view || d.man === null || isAsked(spots)) return;
+  const man = d.man, fen = draftFen(), tree = turnedTree(bareOf(view.root), d.turns);
+  const first = (/** @type {Spot} */ spot) => Number(spot.sign !== 'dot');
+  asked.add(spots);
+  parts.showJudged();
+  await parts.shelf.lay(await parts.shelf.classesOf([fen]), parts.facts);
+  await forEach(d, [...spots].sort((x, y) => first(x) - first(y)), async spot => {
+    spot.there = await treeAt(parts.facts, fenWith(fen, man, spot.to), d.aim, tree);
+    return true;
+  });
+}
