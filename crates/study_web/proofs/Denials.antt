@@ -40,6 +40,7 @@ use Rattle.study_web.specs.Answers.{IsWhole, MayEnd, IsNever, IsNoMemory, IsView
 use Rattle.study_listing.specs.declared.fault.Stop.{Stop}
 use Rattle.study_listing.specs.declared.fault.Stop.TheVariants as stops
 use Rattle.study_listing.specs.Stops.{StopsUndamaged}
+use Rattle.study_search.specs.Faults.{CanReport}
 use Rattle.study_web.specs.Found.{of_stop}
 use Rattle.study_web.specs.Opened.{IsHeldAs, IsOfTables, IsOfValues, IsValueUntold, IsSearchUntold, IsOfSearch}
 use Rattle.study_web.specs.Told.{denial_text, IsDenied, IsUntold}
@@ -100,6 +101,18 @@ search_stopped h m Right (stops.Values fault) lacks fails right = inr (fault, un
     untold-in (probe.PageDamaged c n) lacks fails right = right
 search_stopped h m Right stops.TooManyStudies lacks fails right = inl refl
 search_stopped h m Right stops.WriteDevice lacks fails right = inl refl
+
+-- a value that was not read, as honest values may report
+pub search_reported : {V : Type 0} (held : V → Class → Bool) (may_fail : V → Class → SourceFault → Type 0) (is_honest : V → Type 0)
+    → (h : Known) (m : Faults) (Right : Type 0) (v : V) (fault : ProbeFault) → CanReport held may_fail is_honest v fault
+    → ((c : Class) → IsHeldAs (h c) (held v c)) → ((c : Class) (f : SourceFault) → may_fail v c f → m c f ≡ true) → (Right → is_honest v)
+    → IsOfSearch h m Right (denial.Refused (of_probe fault))
+search_reported held may_fail is_honest h m Right v fault can known fails right = inr (fault, untold-in fault can, refl)
+  where
+    untold-in : (fault : ProbeFault) → CanReport held may_fail is_honest v fault → IsSearchUntold h m Right fault
+    untold-in (probe.NoTable c) none = subst (IsHeldAs (h c)) none (known c)
+    untold-in (probe.TableRead f) r = (r.0, fails r.0 f r.1)
+    untold-in (probe.PageDamaged c n) damaged = λ k. damaged (right k)
 
 module _ {V : Type 0} (held : V → Class → Bool) (gives : V → Position → ProbeAnswer → Type 0) (may_fail : V → Class → SourceFault → Type 0)
     (asked_of failed_of : V → ℕ) (is_honest : V → Type 0) where

@@ -21,6 +21,7 @@ use Rattle.study_review.specs.Review.{IsReviewOf}
 use Rattle.study_print.specs.Pages.{IsFile}
 use Rattle.study_view.specs.Setup.{passed_squares, AreClassesNeeded}
 use Rattle.study_view.specs.Survey.{IsSurvey}
+use Rattle.study_search.specs.declared.only_moves.Outcome.{Outcome as SoughtOutcome}
 use Rattle.study_listing.specs.declared.piece_words.Piece.{Piece}
 use Rattle.study_listing.specs.Pieces.{AreLookedAt, IsPiece}
 use Rattle.study_import.specs.Imported.{script_of, all_games}
@@ -36,7 +37,8 @@ use Rattle.study_web.specs.declared.spans.Span.{Span}
 use Rattle.study_web.specs.Spans.{spans_for}
 use Rattle.study_web.specs.Making.{IsRightFileOf, IsMakeFault, HasRightNeeds}
 use Rattle.study_web.specs.Opened.{AreAllRight, IsOfFiles, IsOfFileValues, IsOfFileSearch}
-use Rattle.study_web.specs.Asked.{Asked, Asks, run, review, report, tables, make, view, survey, passed, find, unread, bring}
+use Rattle.study_web.specs.Asked.{Asked, Asks, run, review, report, tables, make, view, survey, passed, find, unread, row, bring}
+use Rattle.study_web.specs.Row.{IsRow}
 use Rattle.study_web.specs.Setup.{AreTables, positions_in, squares_text}
 use Rattle.study_web.specs.Store.{IsShelf, AreRightFiles}
 use Rattle.study_web.specs.Told.{denial_text, ending_of, IsDenied}
@@ -201,6 +203,16 @@ abbrev pub IsFoundTo : List Span → List ℕ → Piece → List ℕ → Ending 
 IsFoundTo spans bytes piece text ended =
     (classes : List Class) × AreLookedAt piece.request classes × IsFoundOver (spans_for classes spans) bytes piece text ended
 
+-- the number of only moves in a row from the position, if the opened files are right
+abbrev pub IsRowOver : List Span → List ℕ → SoughtOutcome → Start → List ℕ → Ending → Type 0
+IsRowOver spans bytes o start =
+    IsWhole (λ text. AreAllRight spans bytes → IsRow o start.position text) (IsOfFileSearch spans bytes) IsNoMemory
+
+-- the same over the files that the position needs; no others are opened
+abbrev pub IsRowTo : List Span → List ℕ → SoughtOutcome → Start → List ℕ → Ending → Type 0
+IsRowTo spans bytes o start text ended =
+    (classes : List Class) × AreClassesNeeded (start.position ∷ []) classes × IsRowOver (spans_for classes spans) bytes o start text ended
+
 -- the script of the games
 abbrev pub IsImported : List ℕ → Option Stipulation → List ℕ → Ending → Type 0
 IsImported pgn given = IsWhole (λ text. text ≡ script_of (all_games given) pgn) IsOutOfMemory IsNoMemory
@@ -218,6 +230,7 @@ IsAnswerTo spans bytes by_pages script tables text ended = IsTableList script te
 IsAnswerTo spans bytes by_pages script (passed start) text ended = IsPassedList start text ended
 IsAnswerTo spans bytes by_pages script (find piece) text ended = IsFoundTo spans bytes piece text ended
 IsAnswerTo spans bytes by_pages script (unread fault) text ended = IsDenied (denial.Unread fault) text ended
+IsAnswerTo spans bytes by_pages script (row o start) text ended = IsRowTo spans bytes o start text ended
 IsAnswerTo spans bytes by_pages script (bring given) text ended = IsImported script given text ended
 
 -- the answer to the request, or the reason why the line is not a valid request

@@ -9,5 +9,6 @@ pub mod Setup
 pub mod Spans
 pub mod Store
 pub mod Told
+pub mod Row
 pub mod Views
 pub mod Answers

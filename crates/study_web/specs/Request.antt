@@ -17,7 +17,9 @@ use Rattle.study_command.specs.declared.command.SyntaxFault.TheVariants.{BadByte
 use Rattle.study_reply.specs.declared.refusal.Refusal.{Refusal}
 use Rattle.study_reply.specs.declared.refusal.Refusal.TheVariants.{Form, NotAClass, Fen}
 use Rattle.study_script.specs.Replies.{class_told}
-use Rattle.study_web.specs.Asked.{Asked, Asks, run, review, report, tables, make, view, survey, passed, find, unread, bring}
+use Rattle.study_search.specs.declared.only_moves.Outcome.{Outcome}
+use Rattle.study_listing.specs.Requests.{outcome_named}
+use Rattle.study_web.specs.Asked.{Asked, Asks, run, review, report, tables, make, view, survey, passed, find, unread, row, bring}
 use Rattle.study_web.specs.FindWords.{find_asked}
 use Rattle.study_web.specs.declared.request.Request.{Request}
 use Rattle.study_web.specs.declared.request.Request.TheVariants as request
@@ -95,6 +97,15 @@ abbrev pub survey_asked : List (List ℕ) → List ℕ → Asks
 survey_asked [] text = Err (Form BadArguments)
 survey_asked (square ∷ more) text = survey_at (square_told square) (behind_word text)
 
+-- `win FEN` or `draw FEN`
+abbrev pub row_for : Option Outcome → List ℕ → Asks
+row_for None fen = Err (Form BadArguments)
+row_for (Some o) fen = with_start (row o) (start_of fen)
+
+abbrev pub row_asked : List (List ℕ) → List ℕ → Asks
+row_asked [] text = Err (Form BadArguments)
+row_asked (outcome ∷ more) text = row_for (outcome_named outcome) (behind_word text)
+
 -- nothing, or `SIDE GOAL`
 abbrev pub brought_for : Option (Stipulation × List ℕ) → Asks
 brought_for None = Err (Form UnknownStipulation)
@@ -119,7 +130,8 @@ word_asked word rest =
     else (if bytes_eq word (codes "make") then make_asked (one_word (words rest))
     else (if bytes_eq word (codes "find") then find_asked (words rest)
     else (if bytes_eq word (codes "import") then import_asked (words rest) rest
-    else Err (Form UnknownCommand))))))))))
+    else (if bytes_eq word (codes "row") then row_asked (words rest) rest
+    else Err (Form UnknownCommand)))))))))))
 
 abbrev pub words_asked : List (List ℕ) → List ℕ → Asks
 words_asked [] line = Err (Form UnknownCommand)
@@ -143,6 +155,7 @@ request_seen (request.Passed start) = passed start
 request_seen (request.Find piece) = find piece
 request_seen (request.Unread fault) = unread fault
 request_seen (request.Import given) = bring given
+request_seen (request.Row r) = row r.outcome r.start
 
 abbrev pub asks_seen : Result Request Refusal → Asks
 asks_seen (Ok r) = Ok (request_seen r)

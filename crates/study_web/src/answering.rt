@@ -2,7 +2,7 @@
 ghost use Rattle.std.specs.Prelude.{◌≡◌, ◌≤◌, true, is_some, IfSome, IfOk, IfErr};
 ghost use Rattle.study_command.specs.Paths.{steps_of, is_path_word};
 ghost use Rattle.study_web.specs.Answers.{IsAnswer, IsMade, IsMadeFile, IsMakeDenial, IsNoMemory, IsPassedList, IsPrinted, IsReviewed, IsRun, of_make};
-ghost use Rattle.study_web.specs.Answers.{IsFoundTo, IsImported, AreNeeded, IsOutOfMemory, IsSurveyedTo, IsTableList, IsUnread, IsViewed, MayEnd, OverNeeded};
+ghost use Rattle.study_web.specs.Answers.{IsFoundTo, IsImported, AreNeeded, IsOutOfMemory, IsRowTo, IsSurveyedTo, IsTableList, IsUnread, IsViewed, MayEnd, OverNeeded};
 ghost use Rattle.study_web.specs.Request.{request_of};
 
 use crate::chosen::spans_for;
@@ -13,7 +13,8 @@ use crate::make::{MakeFault, make_file};
 use crate::printed::printed_of;
 use crate::replies::replies_over;
 use crate::reply::{NoText, Reply, denied, ran, told};
-use crate::request::{Request, Surveyed, read_request};
+use crate::request::{Request, Rowed, Surveyed, read_request};
+use crate::row::row_of;
 use crate::saved::Saved;
 use crate::script::{review_of, view_of};
 use crate::setup::{passed_of, positions_in, tables_of};
@@ -31,10 +32,10 @@ use study_view::classes_needed;
 /// Answers a request for a script, over the files of the request.
 ///
 /// A request is a line of words: `run`, `make CLASS`, `view PATH`, `review`, `report`, `survey SQUARE SIDE GOAL FEN`, `tables`,
-/// `passed FEN`, `find CLASS THEME [FILTER ..] FROM TO`, `import`, `import SIDE GOAL`. For `import` the script is PGN, as Latin-1 or
-/// UTF-8. Files are read by pages and must be tables: for `view`, `review` and `report` those that the script's positions need, for
-/// `survey` and `find` those that the position or the class needs. Other files are not opened. What `run` saves is put into the cells,
-/// one for each class.
+/// `passed FEN`, `find CLASS THEME [FILTER ..] FROM TO`, `import`, `import SIDE GOAL`, `row win FEN`, `row draw FEN`. For `import` the
+/// script is PGN, as Latin-1 or UTF-8. Files are read by pages and must be tables: for `view`, `review` and `report` those that the
+/// script's positions need, for `survey`, `row` and `find` those that the position or the class needs. Other files are not opened. What
+/// `run` saves is put into the cells, one for each class.
 pub fn answer<'f, 'a, A: Allocator>(
     alloc: &'a A,
     request: &[u8],
@@ -58,6 +59,7 @@ pub fn answer<'f, 'a, A: Allocator>(
         Ok(Request::Find(piece)) => of_find(alloc, &piece, files),
         Ok(Request::Unread(fault)) => denied(alloc, Denial::Unread(fault)),
         Ok(Request::Import(given)) => of_import(alloc, script, given),
+        Ok(Request::Row(row)) => of_row(alloc, &row, files),
     }
 }
 
@@ -252,6 +254,21 @@ fn of_survey<'a, A: Allocator>(
         Ok(those) => {
             let mut store = SpanStore::new(alloc, those.as_slice(), files.bytes, &[]);
             told(alloc, survey_of(alloc, asked, &mut store, files.pages))
+        }
+    }
+}
+
+/// Opens only the files that the position needs.
+fn of_row<'a, A: Allocator>(alloc: &'a A, row: &Rowed, files: &TableFiles<'_>) -> Reply<'a, A>
+    requires { IfSome files.now.pages (λ n. (1 ≤ n) × (n ≤ 4096)) }
+    ensures { IsRowTo files.now.spans.now files.now.bytes.now row.now.outcome row.now.start result.text.items result.ended }
+{
+    let classes = classes_needed(&[row.start.position.copied()]);
+    match spans_for(alloc, classes.as_slice(), files.spans) {
+        Err(_) => denied(alloc, Denial::Refused(Refusal::OutOfMemory)),
+        Ok(those) => {
+            let mut store = SpanStore::new(alloc, those.as_slice(), files.bytes, &[]);
+            told(alloc, row_of(alloc, row, &mut store, files.pages))
         }
     }
 }

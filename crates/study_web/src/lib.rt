@@ -21,6 +21,7 @@ mod refusals;
 mod replies;
 mod reply;
 mod request;
+mod row;
 mod saved;
 mod script;
 mod setup;

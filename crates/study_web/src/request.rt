@@ -7,8 +7,9 @@ ghost use Rattle.study_text.specs.Words.{words};
 ghost use Rattle.study_marks.specs.Edits.{is_printable};
 ghost use Rattle.study_command.specs.Parser.{one_word, mate_in, mate_moves_of};
 ghost use Rattle.study_script.specs.Replies.{class_told};
+ghost use Rattle.study_listing.specs.Requests.{outcome_named};
 ghost use Rattle.study_web.specs.Request.{alone, make_asked, view_asked, with_start, goal_begun, stipulation_begun};
-ghost use Rattle.study_web.specs.Request.{survey_asked, import_asked, word_asked, request_of, request_seen, asks_seen};
+ghost use Rattle.study_web.specs.Request.{survey_asked, row_asked, import_asked, word_asked, request_of, request_seen, asks_seen};
 ghost use Rattle.study_web.specs.Asked.{passed as passed_asked};
 
 use crate::find_words::read_find;
@@ -22,6 +23,7 @@ use study_marks::{Goal, MateMoves, Stipulation, is_printable};
 use study_material::Class;
 use study_notation::{FenFault, Start, read_fen};
 use study_reply::Refusal;
+use study_search::Outcome;
 use study_text::next_word;
 
 /// A man of a position, and the stipulation to survey it for.
@@ -29,6 +31,13 @@ use study_text::next_word;
 pub struct Surveyed {
     pub square: Square,
     pub stipulation: Stipulation,
+    pub start: Start,
+}
+
+/// A position, and the result that the side to move is to keep.
+#[derive(Drop)]
+pub struct Rowed {
+    pub outcome: Outcome,
     pub start: Start,
 }
 
@@ -57,6 +66,8 @@ pub enum Request<'r> {
     Unread(Unread),
     /// `import` or `import SIDE GOAL`: the script of the games of PGN; the stipulation is for the games that have none of their own.
     Import(Option<Stipulation>),
+    /// `row win FEN`, `row draw FEN`: how many only moves in a row the defender can make the side to move find.
+    Row(Rowed),
 }
 
 /// The request that a line of printable words spells, or the first reason why it is not valid.
@@ -98,6 +109,8 @@ fn read_words<'r>(word: &'r [u8], rest: &'r [u8]) -> Result<Request<'r>, Refusal
         read_find(rest)
     } else if word == b"import".as_slice() {
         read_import(rest)
+    } else if word == b"row".as_slice() {
+        read_row(rest)
     } else {
         Err(Refusal::Form(SyntaxFault::UnknownCommand))
     }
@@ -234,6 +247,37 @@ fn read_survey(rest: &[u8]) -> Result<Request<'_>, Refusal>
             stipulation,
             start,
         })),
+    }
+}
+
+/// `win` or `draw`.
+fn read_outcome(word: &[u8]) -> Option<Outcome>
+    ensures { result ≡ outcome_named word.now }
+{
+    if word == b"win".as_slice() {
+        Some(Outcome::Win)
+    } else if word == b"draw".as_slice() {
+        Some(Outcome::Draw)
+    } else {
+        None
+    }
+}
+
+/// `win FEN` or `draw FEN`.
+#[tactic(auto, using(study_command::proofs::Printable::printable_behind))]
+fn read_row(rest: &[u8]) -> Result<Request<'_>, Refusal>
+    requires { list_all is_printable rest.now ≡ true }
+    ensures { asks_seen result ≡ row_asked (words rest.now) rest.now }
+{
+    let Some((word, rest)) = next_word(rest) else {
+        return Err(Refusal::Form(SyntaxFault::BadArguments));
+    };
+    let Some(outcome) = read_outcome(word) else {
+        return Err(Refusal::Form(SyntaxFault::BadArguments));
+    };
+    match read_start(rest) {
+        Err(fault) => Err(Refusal::Fen(fault)),
+        Ok(start) => Ok(Request::Row(Rowed { outcome, start })),
     }
 }
 

@@ -71,7 +71,7 @@ pub fn positions_in<'a, A: Allocator>(
     }
 }
 
-fn add<A: Allocator>(text: &mut Vec<u8, &A>, bytes: &[u8]) -> Result<(), AllocError>
+pub(crate) fn add<A: Allocator>(text: &mut Vec<u8, &A>, bytes: &[u8]) -> Result<(), AllocError>
     ensures { OnOk result (text.new.items ≡ text.old.items ++ bytes.now) }
 {
     text.extend_from_slice(bytes)?;

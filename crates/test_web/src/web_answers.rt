@@ -319,6 +319,10 @@ fn refused_by_name(rt: HostRuntime) -> Result<(), Fail> {
         ("find KRK 9", "BadArguments\n"),
         ("find KRK zugzwang 0 9", "NoTable KRK\n"),
         ("find KRK draw 1 0 9", "NoTable KK\n"),
+        ("row", "BadArguments\n"),
+        ("row mate 4k3/8/8/8/8/8/8/R3K3 w - -", "BadArguments\n"),
+        ("row win", "FieldCount\n"),
+        ("row win 4k3/8/8/8/8/8/8/R3K3 w - -", "NoTable KRK\n"),
         ("import white", "UnknownStipulation\n"),
         ("import white win 5", "BadArguments\n"),
     ];
@@ -451,6 +455,32 @@ fn found_over_tables(rt: HostRuntime) -> Result<(), Fail> {
         bytes.as_slice(),
     );
     assert!(rt; longest.text.as_slice() == b"to 1280 of 1280\n".as_slice());
+    Ok(())
+}
+
+/// The only moves in a row are counted over the files that the position needs; other files are not opened. The numbers are an independent program's:
+/// that draw of king and rook, of which no position has three; a king that may go anywhere; and a win.
+#[test]
+fn rows_over_tables(rt: HostRuntime) -> Result<(), Fail> {
+    let alloc = rt.alloc();
+    let (bytes, two) = two_files(&alloc)?;
+    let cut = Span {
+        class: Class::KQK as usize,
+        start: 0,
+        length: 63,
+    };
+    let spans = [cut, two[0], two[1]];
+    let cases = [
+        ("row draw 6kR/8/5K2/8/8/8/8/8 b - - 0 1", "2\n"),
+        ("row draw k7/8/8/8/8/8/8/K7 w - - 0 1", "0\n"),
+        ("row draw k7/1R6/8/K7/8/8/8/8 w - - 0 1", "none\n"),
+        ("row win k7/1R6/8/K7/8/8/8/8 w - - 0 1", "0\n"),
+    ];
+    for (request, text) in cases {
+        let given = ask(&alloc, request, "", &spans, bytes.as_slice());
+        assert!(rt; given.ended == Ending::Answered, "{request}");
+        assert!(rt; given.text.as_slice() == text.as_bytes(), "{request}");
+    }
     Ok(())
 }
 
