@@ -33,6 +33,7 @@ if [ -n "$short" ]; then
 else
     try "$python" page.py "$tables"
     try "$python" entries.py "$tables"
+    try "$python" composing.py "$tables"
     try "$python" kept.py "$tables"
     try "$python" screen.py "$tables"
     try "$python" gallery.py "$tables"

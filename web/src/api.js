@@ -77,6 +77,15 @@ export function makeApi(spawn) {
       return answer(`survey ${square} ${stipulation} ${fen}`, '');
     },
     /**
+     * How many only moves in a row the defender can make the side to move find.
+     * @param {string} fen
+     * @param {'win' | 'draw'} goal
+     */
+    async row(fen, goal) {
+      await parts.shelf.ready([fen]);
+      return answer(`row ${goal} ${fen}`, '');
+    },
+    /**
      * The tables that a script's positions need.
      * @param {string} script
      */

@@ -2,7 +2,7 @@
 // The entries of a script, one a row: its studies with what is said of them, and those that were left out.
 import { isKnown } from './edits.js';
 import { control, sideOf } from './fen.js';
-import { leftOutBy, whyLeftOut } from './imported.js';
+import { leftOutBy, originalsIn, whyLeftOut } from './imported.js';
 import { isEdit, wordsOf } from './script.js';
 import { bareTree } from './unmarked.js';
 import { aimText, reason } from './words.js';
@@ -76,6 +76,19 @@ function tagsAfter(lines, from) {
   return tags;
 }
 /**
+ * A game of a PGN that was left out, if a remark says so; the remarks behind it have its title and its author.
+ * @param {string[]} lines
+ * @param {number} line
+ */
+function leftOutAt(lines, line) {
+  const game = leftOutBy(lines[line]);
+  if (!game) return [];
+  const end = lines.findIndex((text, at) => at > line && !text.startsWith('#'));
+  const { Event = '', White = '' } = originalsIn(lines.slice(line, end < 0 ? undefined : end));
+  const place = `game ${game.game} of the PGN, line ${game.line}`;
+  return [missing(line, Event ? `${Event} (${place})` : place, White, whyLeftOut(game))];
+}
+/**
  * @param {number} line
  * @param {string} title
  * @param {string} author
@@ -100,10 +113,7 @@ export function entriesOf(doc, reviews = []) {
     const { Event = '', White = '', Round = '' } = tagsAfter(doc.lines, r.line);
     return missing(r.line, isKnown(Event) ? Event : isKnown(Round) ? `entry ${Round}` : '', isKnown(White) ? White : '', reason(r.reply));
   });
-  const unread = doc.lines.flatMap((text, line) => {
-    const game = leftOutBy(text);
-    return game ? [missing(line, `game ${game.game} of the PGN, line ${game.line}`, '', whyLeftOut(game))] : [];
-  });
+  const unread = doc.lines.flatMap((_, line) => leftOutAt(doc.lines, line));
   return [...studies, ...refused, ...unread].sort((x, y) => x.line - y.line);
 }
 const KINDS = ['sound', 'time', 'unsound', 'wrong', 'holds', 'not read', 'left out', 'not judged'];

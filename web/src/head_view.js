@@ -245,12 +245,27 @@ function mistakeView(s, n) {
  * @param {string} text
  */
 function cut(n, text) {
-  const below = written(n).length - 1, after = n.parent ? n.parent.children[n.parent.children.indexOf(n) + 1] : undefined,
-        isFirst = n.parent !== null && n.parent.children[0] === n;
-  const title = `delete ${moveName(n)}${below ? ` and ${counted(below, 'move')} below it` : ''}${
-      isFirst && after ? `; ${moveName(after)} comes to its place` : ''}`;
-  return h('button', { type: 'button', class: 'chip act', title, onclick: () => remove(n.path) }, '✕ ', text,
-           below > 0 && h('small', {}, ` (${counted(below + 1, 'move')})`));
+  const below = written(n).length - 1, row = n.parent ? n.parent.children : [];
+  const next = row[0] === n && row[1] ? `${moveName(row[1])} comes to its place` : '';
+  const gone = below ? `delete ${counted(below + 1, 'move')}: ${lineFrom(n)}` : `delete ${moveName(n)}`;
+  const words = [below && counted(below + 1, 'move'), next].filter(Boolean).join('; ');
+  return h('button', {
+    type: 'button',
+    class: 'chip act',
+    title: [gone, next].filter(Boolean).join('; '),
+    'data-cut': n.path,
+    onclick: () => remove(n.path)
+  }, '✕ ', text, words && h('small', {}, ` (${words})`));
+}
+/**
+ * A move with the first ones below it.
+ * @param {TreeNode} n
+ */
+function lineFrom(n) {
+  const sans = [n.san];
+  let at = n;
+  for (; at.children[0] && sans.length < 8; at = at.children[0]) sans.push(at.children[0].san);
+  return numberedLine(n.parent ? n.parent.fen : n.fen, sans) + (at.children[0] ? ' ..' : '');
 }
 /**
  * How many of the other moves only lose time.

@@ -1,6 +1,7 @@
 // @ts-check
 // What a PGN says beside its moves - comments, NAGs, tags that a script has no place for - kept as remarks of the script,
 // each at the moves that lead to it, and written into the saved PGN again where these moves still stand there.
+import { isKnown } from './edits.js';
 import { TAGS } from './script.js';
 /** @typedef {import('./types.js').Study} Study @typedef {import('./types.js').Script} Script */
 
@@ -38,6 +39,14 @@ function walk(movetext, tell) {
 function parts(game) {
   const tags = Object.fromEntries([...game.matchAll(/^\[(\w+) "(.*)"\]\s*$/gm)].map(m => [m[1], m[2]]));
   return [tags, game.replace(/^\[\w+ ".*"\]\s*$/gm, '').replace(/^%.*$/gm, '')];
+}
+/**
+ * The title and the author of a game that is left out, as remarks to stand behind its own.
+ * @param {string} game
+ */
+export function namesOf(game) {
+  const [tags] = parts(game), text = (/** @type {string} */ name) => (tags[name] || '').replace(/\\(["\\])/g, '$1').trim();
+  return ['Event', 'White'].filter(name => isKnown(text(name))).map(name => `# ${name} was: ${text(name).slice(0, 80)}`);
 }
 /**
  * The games of a PGN, cut as the program cuts them: a line of a tag begins one behind a line of moves, and a second Event.

@@ -2,9 +2,9 @@
 // A file or a text becomes the document: a script as it stands, a PGN by way of the program.
 import { $, button, h } from './dom.js';
 import { app, change, counting, doc, opened, parts, say, work } from './app.js';
-import { decoded, documentOf, importNote, looksLikePgn, notKept, withoutAim } from './imported.js';
+import { decoded, documentOf, importNote, leftOutBy, looksLikePgn, notKept, withoutAim } from './imported.js';
 import { freshId } from './keep.js';
-import { gamesIn, remarksOf } from './notes.js';
+import { gamesIn, namesOf, remarksOf } from './notes.js';
 import { replace } from './past.js';
 import { gamesOf, isCommand, isSilent, linesOf } from './script.js';
 import { aimText, counted, endedReason, readAim } from './words.js';
@@ -36,7 +36,8 @@ async function imported(bytes, aim) {
   return lines;
 }
 /**
- * The lines of an import, with what its games say beside their moves as remarks above each position.
+ * The lines of an import, with what its games say beside their moves as remarks above each position, and whose those
+ * are that were left out.
  * @param {string[]} lines
  * @param {string} text
  */
@@ -46,7 +47,9 @@ function withRemarks(lines, text) {
   return lines.flatMap(line => {
     const m = /^# game (\d+), /.exec(line);
     if (m) game = Number(m[1]);
-    return line.startsWith('position ') && games[game - 1] ? [...remarksOf(games[game - 1]), line] : [line];
+    const source = games[game - 1];
+    if (!source) return [line];
+    return line.startsWith('position ') ? [...remarksOf(source), line] : leftOutBy(line) ? [line, ...namesOf(source)] : [line];
   });
 }
 /** A position for a game that is there for a tag alone. */

@@ -47,18 +47,24 @@ export function hideSurvey() {
   return true;
 }
 
+/**
+ * The worker of facts has the tables of a position: what it is asked, no move waits for.
+ * @param {string} fen
+ */
+const laid = async fen => parts.shelf.lay(await parts.shelf.classesOf([fen]), parts.facts);
 const OFTEN = 150;
 /**
- * Does something for each square of a survey, as long as it is shown, and draws it now and then.
+ * Does something for some squares of a survey, as long as it is shown, and draws it now and then.
  * @param {Draft} d
+ * @param {Spot[] | null} all
  * @param {Spot[]} spots
  * @param {(spot: Spot) => Promise<boolean>} look      whether to go on
  */
-async function forEach(d, spots, look) {
-  const mine = d.survey, shown = () => app.setup === d && d.survey === mine;
+async function forEach(d, all, spots, look) {
+  const shown = () => app.setup === d && d.survey === all;
   let drawn = performance.now();
   for (const spot of spots) {
-    if (!await look(spot) || !shown()) break;
+    if (!shown() || !await look(spot)) break;
     if (performance.now() - drawn < OFTEN) continue;
     parts.showJudged();
     drawn = performance.now();
@@ -72,11 +78,12 @@ let known = true;
  * @param {number} man
  */
 async function rows(d, man) {
-  const { hero, goal } = readAim(d.aim), fen = draftFen();
-  const dots = (d.survey || []).filter(spot => spot.sign === 'dot');
+  const { hero, goal } = readAim(d.aim), fen = draftFen(), spots = d.survey;
+  const dots = (spots || []).filter(spot => spot.sign === 'dot');
   if (!known || !dots.length || goal === 'mate' || hero !== sideOf(fen)) return;
-  await forEach(d, dots, async spot => {
-    const row = await rowAt(parts.core, goal, fenWith(fen, man, spot.to));
+  await laid(fen);
+  await forEach(d, spots, dots, async spot => {
+    const row = await rowAt(parts.facts, goal, fenWith(fen, man, spot.to));
     known = row !== undefined;
     spot.row = row === undefined ? null : row;
     return known;
@@ -106,8 +113,8 @@ async function trees() {
   const first = (/** @type {Spot} */ spot) => Number(spot.sign !== 'dot');
   asked.add(spots);
   parts.showJudged();
-  await parts.shelf.lay(await parts.shelf.classesOf([fen]), parts.facts);
-  await forEach(d, [...spots].sort((x, y) => first(x) - first(y)), async spot => {
+  await laid(fen);
+  await forEach(d, spots, [...spots].sort((x, y) => first(x) - first(y)), async spot => {
     spot.there = await treeAt(parts.facts, fenWith(fen, man, spot.to), d.aim, tree);
     return true;
   });

@@ -33,6 +33,15 @@ test('each entry has a row and a stamp', () => {
   assert.deepEqual(d.studies.map(s => hasSolution(d.lines, s)), [true, false, true]);
   assert.equal(nameOf({ ...d.studies[0], originals: { White: 'Réti' } }, 'White'), 'Réti');
 });
+test('a game that was left out has its title and its author, where remarks behind it have them', () => {
+  const lines = ['# game 2, line 9: left out: 7 men', '# Event was: A "prize"', '# White was: Kasparyan, G.', '', '# game 3, line 20: NoSuchMove at Kh9',
+    '# White was: Réti', '# game 4, line 31: left out: 6 men'];
+  const rows = entriesOf({ ...readScript(lines, [], []), at: 0, path: 'root', name: '', id: 'x', note: '', judged: true });
+  assert.deepEqual(rows.map(r => [r.title, r.author, r.stamp]), [
+    ['A "prize" (game 2 of the PGN, line 9)', 'Kasparyan, G.', 'left out: 7 men'], ['game 3 of the PGN, line 20', 'Réti', 'left out: Kh9: not legal here'],
+    ['game 4 of the PGN, line 31', '', 'left out: 6 men']
+  ]);
+});
 test('the list as comma-separated values', () => {
   const text = csvOf(entriesOf(doc(['unsound 1', 'sound', 'sound']), readReviews(REVIEW)));
   const [, first, second] = text.split('\r\n');

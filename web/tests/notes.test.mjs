@@ -1,7 +1,7 @@
 // What a PGN says beside its moves is kept, and written again.
 import test from 'node:test';
 import assert from 'node:assert/strict';
-import { gamesIn, remarksOf, withNotes } from '../src/notes.js';
+import { gamesIn, namesOf, remarksOf, withNotes } from '../src/notes.js';
 
 const GAME = `[Event "Rigaer Tageblatt"]
 [White "Reti"]
@@ -21,6 +21,10 @@ const OURS = `[Event "Rigaer Tageblatt"]
 1-0
 
 `;
+test('title and author of a game that is left out', () => {
+  assert.deepEqual(namesOf(GAME), ['# Event was: Rigaer Tageblatt', '# White was: Reti']);
+  assert.deepEqual(namesOf('[Event "?"]\n[White "A \\"B\\" C"]\n\n1. e4 *\n'), ['# White was: A "B" C']);
+});
 test('remarks of a game, at the moves that lead to them', () => {
   assert.deepEqual(remarksOf(GAME), [
     '# tag Annotator an editor', '# note -: A study for practice.', '# note Kg3: $1', '# note Kg3: The only move', '# note b4: $2', '# note b4: $4',

@@ -60,6 +60,7 @@ def test_ten_entries_are_ten_rows(user):
     assert [row[4].split(":")[0].split(" ")[0] for row in list_] == "sound sound left left holds sound unsound left wrong sound".split(), list_
     assert list_[0][2] == "Réti, Richard" and list_[1][2] == "Троицкий"
     assert "Kh9" in list_[2][4] and "6 men" in list_[3][4], list_
+    assert list_[2][2] == "A" and list_[2][1].startswith("Three (game 3 of") and list_[3][2] == "B", list_
     note = user.text("import")
     assert "10 games, 7 studies" in note and "game 3, line" in note and "Not kept of this PGN: 1 null move." in note, note
     counts = user.js("return [...document.querySelectorAll('#list [data-kind]')].map(b => b.innerText)")

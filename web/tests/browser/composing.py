@@ -1,0 +1,194 @@
+"""A man's other squares, what a remedy takes away, missing defences, a diagram: in headless Chromium, by mouse and keys.
+
+    composing.py TABLES [NAME ..]
+
+TABLES has those of two and three men at least.
+"""
+import base64
+import os
+import re
+import sys
+import tempfile
+import time
+
+from user import By, run
+
+TABLES = os.path.abspath(sys.argv[1])
+FEN = "8/8/8/6k1/8/8/1P5K/8 w - - 0 1"
+SMALL = "KK KQK KRK KBK KNK KPK".split()
+STUDY = f"""position {FEN}
+stipulate white win
+insert root Kg3
+insert 0 Kf5
+insert 0.0 Kf3
+insert 0.0.0 Ke5
+insert 0.0.0.0 Ke3
+insert 0 Kh5
+insert 0.1 Kf4
+insert 0.1.0 Kg6
+insert 0.1 Kf3
+"""
+UNKNOWN = "UnknownCommand\n"
+
+
+def script(user):
+    return user.promise("studyboard.script()")
+
+
+def opened(user):
+    user.open_tables(TABLES, SMALL)
+    user.promise("studyboard.open(a[0])", STUDY)
+    user.settle()
+
+
+def view(user, lines, path="root"):
+    return [row.split(" ") for row in user.promise("studyboard.view(a[0], a[1])", lines, path).split("\n")]
+
+
+class Rows:
+    """Only moves in a row, by the marks of single positions."""
+    def __init__(self, user):
+        self.user, self.views = user, {}
+
+    def moves(self, fen):
+        """Whether White, or Black, wins; and of each move its mark and the position after it."""
+        if fen not in self.views:
+            rows = view(self.user, f"position {fen}\nstipulate white win\n")
+            root = next(row for row in rows if row[0] == "node")
+            moves = [(row, " ".join(row[-6:])) for row in rows if row[0] == "move"]
+            self.views[fen] = root[4], moves
+        return self.views[fen]
+
+    def has(self, fen, n):
+        value, moves = self.moves(fen)
+        only = [after for row, after in moves if "only" in row]
+        if value != "win" or n and len(only) != 1:
+            return False
+        return n < 2 or any(self.has(after, n - 1) for _, after in self.moves(only[0])[1])
+
+    def most(self, fen):
+        return max(n for n in range(13) if self.has(fen, n))
+
+
+def surveyed(user, man):
+    user.click("setUp")
+    user.until("document.getElementById('survey')", 30)
+    user.choose("surveyMan", str(man))
+    user.until("document.getElementById('stands')", 30)
+    user.settle()
+
+
+def moved(square):
+    """The king of FEN on another square of its ranks."""
+    return {"g2": "8/8/8/6k1/8/8/1P4K1/8 w - - 0 1", "h3": "8/8/8/6k1/8/7K/1P6/8 w - - 0 1", "f2": "8/8/8/6k1/8/8/1P3K2/8 w - - 0 1"}[square]
+
+
+def test_rows_of_only_moves_at_the_dots(user):
+    opened(user)
+    known = user.promise("studyboard.row(a[0], 'win')", FEN) != UNKNOWN
+    surveyed(user, 15)
+    told = user.js("return Object.fromEntries([...document.querySelectorAll('#board [data-row]')].map(e => [e.dataset.row, e.textContent]))")
+    if not known:
+        assert not told and not user.has("inRow")
+        return
+    rows = Rows(user)
+    assert told == {square: str(rows.most(moved(square))) for square in ("g2", "h3")} == {"g2": "6", "h3": "6"}, told
+    assert "6: g2 (Kg3), h3 (Kg3)." in user.text("inRow"), user.text("inRow")
+    user.picture("rows")
+    user.choose("draftGoal", "mate")
+    surveyed_again = "document.getElementById('survey') && !document.getElementById('stands')"
+    user.until(surveyed_again, 30)
+    user.click("survey")
+    user.until("document.getElementById('stands')", 30)
+    user.settle()
+    assert not user.has("inRow")
+
+
+def test_trees_on_other_squares(user):
+    opened(user)
+    surveyed(user, 15)
+    user.click("lookAtTrees")
+    user.until("document.querySelectorAll('#treesThere [data-there]').length", 60)
+    user.settle()
+    chips = dict(user.js("return [...document.querySelectorAll('#treesThere [data-there]')].map(e => [e.dataset.there, e.innerText])"))
+    for square in ("g2", "h3", "f2"):
+        rows = view(user, STUDY.replace(FEN, moved(square)))
+        refused, faults = [row for row in rows if row[0] == "refused"], re.search(r"faults (\d+)", " ".join(rows[2])).group(1)
+        assert not refused and chips[square] == f"{square}: unsound {faults}", (square, chips)
+    assert list(chips)[:2] == ["g2", "h3"] and "looked at" not in user.text("treesThere"), chips
+    assert "no move stays" in user.text("treesThere"), user.text("treesThere")
+    user.picture("trees")
+    user.d.find_element(By.CSS_SELECTOR, '[data-there="h3"]').click()
+    user.until("document.getElementById('fen').value.startsWith('8/8/8/6k1/8/7K/1P6/8 w')", 30)
+    user.until("!document.getElementById('start').disabled", 30)
+    user.click("start")
+    user.settle()
+    assert script(user).startswith(f"position {moved('h3')}") and len(re.findall("insert", script(user))) == 9
+    assert user.text("stamp").startswith("unsound 1")
+
+
+def test_trees_are_given_up_with_the_survey(user):
+    opened(user)
+    surveyed(user, 15)
+    user.click("lookAtTrees")
+    user.press("h3")
+    user.until("document.getElementById('judged').textContent.includes('holds')", 30)
+    user.settle()
+    assert not user.has("treesThere") and not user.has("stands")
+    user.click("cancel")
+    user.click("new")
+    user.fill("fen", FEN)
+    user.until("document.getElementById('survey')", 30)
+    user.choose("surveyMan", "15")
+    user.until("document.getElementById('stands')", 30)
+    assert not user.has("lookAtTrees")
+
+
+def test_what_a_remedy_takes_away(user):
+    opened(user)
+    user.until("document.querySelector('[data-cut]')", 30)
+    cut = user.d.find_element(By.CSS_SELECTOR, '[data-cut="0.1.0"]')
+    assert cut.text == "✕ End before it (2 moves; 2. Kf3 comes to its place)", cut.text
+    assert cut.get_attribute("title") == "delete 2 moves: 2. Kf4 Kg6; 2. Kf3 comes to its place", cut.get_attribute("title")
+    cut.click()
+    user.settle()
+    assert len(user.d.find_elements(By.CSS_SELECTOR, ".tree [data-path]")) == 7
+
+
+def test_all_defences_with_one_answer(user):
+    opened(user)
+    user.until("document.getElementById('addAll')", 30)
+    said, before = user.text("addAll"), len(re.findall("insert", script(user)))
+    user.click("addAll")
+    user.settle()
+    count = int(re.fullmatch(r"Add all (\d+) with one answer", said).group(1))
+    added = re.findall(r"insert \S+ (\S+)", script(user))[before:]
+    assert count == 4 and added == "Kf6 Kf4 Ke6 Ke4 Kd5 Kd3 Kd6 Kd4".split(), (said, added)
+    assert user.text("stamp").startswith("unsound 1")
+
+
+def test_a_fen_and_pictures(user):
+    opened(user)
+    user.click("copyFen")
+    user.until("document.getElementById('sayBoard').textContent.includes('FEN') || "
+               "document.getElementById('sayBoard').textContent.includes('Copied')", 20)
+    assert FEN in user.text("sayBoard")
+    folder = tempfile.mkdtemp()
+    user.d.execute_cdp_cmd("Browser.setDownloadBehavior", {"behavior": "allow", "downloadPath": folder})
+    user.click("savePng")
+    for _ in range(500):
+        names = [name for name in os.listdir(folder) if name.endswith(".png")]
+        if names:
+            break
+        time.sleep(0.02)
+    with open(os.path.join(folder, names[0]), "rb") as file:
+        data = file.read()
+    assert data.startswith(base64.b64decode("iVBORw0KGgo=")) and len(data) > 5000
+    name, text = user.download("saveSvg")
+    assert name.endswith(".svg") and text.startswith("<svg")
+    surveyed(user, 15)
+    assert user.js("return document.querySelectorAll('#board .dot').length") == 2
+    assert user.download("saveSvg") == (name, text)
+
+
+run(globals(), sys.argv[2:])
