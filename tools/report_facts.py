@@ -650,6 +650,25 @@ def refusal(number, line, name, reason=None):
                   + say(reason or REASONS[name.split()[0]]), 'class="warn"')
 
 
+def in_its_letters(text):
+    """The original text of a tag, in UTF-8 as read in Latin 1: it is UTF-8 if all of it is, else Latin 1."""
+    try:
+        text.encode("latin-1").decode("utf-8")
+        first = "\x80"
+    except UnicodeDecodeError:
+        first = "\xa0"
+    return "".join(say(c) if c < first else c if first == "\x80" else c.encode("utf-8").decode("latin-1") for c in text)
+
+
+def remark(line):
+    """The paragraph of a comment of studyimport: a game without a block, or the original text of a tag. Other comments have none."""
+    if re.match(r"# game \d*, line ", line) and not re.match(r"[^:]*: stipulated by ", line):
+        return inside("p", say("No page for " + line[2:]), 'class="warn"')
+    if re.match(r"# (Event|Site|Date|Round|White|Black) was: ", line):
+        return inside("p", in_its_letters(line[2:]), 'class="note"')
+    return ""
+
+
 def read(*names):
     with open(os.path.join(*names), encoding="latin-1") as file:
         return file.read()
@@ -673,11 +692,13 @@ def told_in(name):
 
 
 def part(studies, number, script, refused, tags):
-    """What the lines of a script add to the pages: studies come from the list, and refused lines by their numbers."""
+    """What the lines of a script add to the pages: studies come from the list, refused lines by their numbers, and remarks."""
     out = ""
     for n, line in enumerate(script, 1):
         if n in refused:
             out += refusal(n + number, line, refused[n])
+        elif line.startswith("#"):
+            out += remark(line)
         elif line.startswith("tag "):
             _, name, *words = line.split(" ", 2)
             tags[name] = words[0].rstrip(" ") if words else "?"
@@ -720,13 +741,15 @@ def file_of(texts, more=()):
             body += page(again, count)
         elif name:
             body += refusal(number, line, name)
+        else:
+            body += remark(line)
     return opening() + body + (summary(studies) if count > 1 else "") + "</body></html>\n"
 
 
 def opening():
     """The frame, which has no facts."""
     text = read(TOP, "crates/study_html/specs/Frame.antt")
-    parts = re.findall(r'codes "((?:[^"\\]|\\.)*)"', text[text.index("opening ="):text.index("unfoldable pub closing")])
+    parts = re.findall(r'codes "((?:[^"\\]|\\.)*)"', text[text.index("front ="):text.index("sheet_style :")])
     return "".join(parts).replace("\\n", "\n").replace('\\"', '"')
 
 
@@ -786,14 +809,20 @@ def check(tables, names):
 GATE = ["kqk_stalemate_duals"]
 # In the folder are the tables of KQK and KBK, and none of KK.
 GATE_MORE = [
-    ("# Lines that are refused.", None),
+    ("# Lines that are refused, and remarks of studyimport.", None),
     ("build QK", "NotAClass"),
     ('tag Event <script>alert("1 & 2")</script>', None),
     ("tag Site ?", None),
     ("tag Date 2026.??.??", None),
     ("tag Round 3", None),
     ("tag White <script>Caf\xe9", "BadByte"),
+    ("# game 2, line 14: stipulated by its comment", None),
+    ("# White was: <b>Caf\xe9", None),
+    ("# Event was: \xd0\x9c\xd0\xb0\xd1\x82 & \"", None),
     ("pgn", "again"),
+    ("# game 3, line 31: left out: 7 men", None),
+    ("# game 4, line 52, column 17: NoSuchMove at Kb6", None),
+    ("# game 5, line 60: NoStipulation", None),
     ("moves 0.0.0.0.0", "NoSuchNode"),
     ("insert root 1.Qg8", "NotSan"),
     ("dance <script>'root'", "UnknownCommand"),

@@ -10,17 +10,17 @@ use Rattle.study_script.specs.State.{State}
 use Rattle.study_report.specs.Outcome.{Outcome, Shape}
 use Rattle.study_report.specs.Parts.{Fits}
 use Rattle.study_page.specs.Csv.{head_record, IsRecordOf, IsSomeRecord}
-use Rattle.study_list.specs.List.{refusal_record, IsList, ListShape, ListFits}
+use Rattle.study_list.specs.List.{refusal_record, remark_record, IsList, ListShape, ListFits}
 
 module _ (left old begun new : Option (List ℕ)) (answer : Result Summary RunFault) where
   pub whole_list : (first : State) (given : Option (List ℕ)) → Appends old begun head_record
-      → IfSome given (λ bytes. Outcome IsRecordOf refusal_record first bytes left begun new answer)
+      → IfSome given (λ bytes. Outcome IsRecordOf refusal_record remark_record first bytes left begun new answer)
       → IfSome given (λ bytes. IsList first bytes left old new answer)
   whole_list first None opened told = tt
   whole_list first (Some script) opened told = inr (begun, opened, told)
 
   pub list_fits : (given : Option (List ℕ)) → Appends old begun head_record
-      → IfSome given (λ bytes. Fits IsSomeRecord refusal_record bytes left begun new answer)
+      → IfSome given (λ bytes. Fits IsSomeRecord refusal_record remark_record bytes left begun new answer)
       → IfSome given (λ bytes. ListFits bytes left old new answer)
   list_fits None opened fits = tt
   list_fits (Some script) opened fits = inr (begun, opened, fits)

@@ -1,5 +1,5 @@
 -- The list of a script's studies as comma-separated values.
-use Rattle.std.specs.Prelude.{◌≡◌, ◌⊎◌, ℕ, List, Option, Some, Result, Err}
+use Rattle.std.specs.Prelude.{◌≡◌, ◌⊎◌, ℕ, List, [], ◌++◌, Option, Some, Result, Err, if◌then◌else◌, codes}
 use Rattle.std.specs.Io.KnownBytes.{Appends}
 use Rattle.study_text.specs.Taken.{TakesPrefix}
 use Rattle.study_script.specs.declared.running.Summary.{Summary}
@@ -8,23 +8,32 @@ use Rattle.study_script.specs.declared.running.RunFault.TheVariants.{WriteDevice
 use Rattle.study_script.specs.State.{State}
 use Rattle.study_report.specs.Outcome.{Outcome, Shape}
 use Rattle.study_report.specs.Parts.{Fits}
-use Rattle.study_page.specs.Csv.{head_record, refused_record, IsRecordOf, IsSomeRecord}
+use Rattle.study_report.specs.Remarks.{subject, statement, is_left_out}
+use Rattle.study_page.specs.Csv.{quoted, head_record, refused_record, IsRecordOf, IsSomeRecord}
 use Rattle.study_print.specs.Reasons.{refusal_in}
 
 -- a refused line, by the script's reply to it
 abbrev pub refusal_record : ℕ → List ℕ → List ℕ → List ℕ
 refusal_record number line reply = refused_record number line (refusal_in reply)
 
+-- a game that was left out: its place among the games in place of a title, and the reason in place of a verdict
+unfoldable pub left_out_record : List ℕ → List ℕ
+left_out_record line = codes "," ++ (quoted (subject line) ++ (codes ",,,," ++ (quoted (statement line) ++ codes "\r\n")))
+
+-- an original text has no record
+abbrev pub remark_record : List ℕ → List ℕ
+remark_record line = if is_left_out line then left_out_record line else []
+
 -- the writer fails in the head, before the first line is read
 abbrev pub IsHeadCut : List ℕ → Option (List ℕ) → Option (List ℕ) → Option (List ℕ) → Result Summary RunFault → Type 0
 IsHeadCut script left old new answer = (answer ≡ Err WriteDevice) × (left ≡ Some script) × TakesPrefix old new head_record
 
 -- A list, given the state at the beginning, the bytes of a script, what the reader has left of them, what the writer had and has, and the result:
--- the head, and in script order the record of each study of an accepted `pgn` line and of each refused line.
+-- the head, and in script order the record of each study of an accepted `pgn` line, of each refused line and of each game that was left out.
 abbrev pub IsList : State → List ℕ → Option (List ℕ) → Option (List ℕ) → Option (List ℕ) → Result Summary RunFault → Type 0
 IsList first script left old new answer =
     IsHeadCut script left old new answer
-    ⊎ ((begun : Option (List ℕ)) × Appends old begun head_record × Outcome IsRecordOf refusal_record first script left begun new answer)
+    ⊎ ((begun : Option (List ℕ)) × Appends old begun head_record × Outcome IsRecordOf refusal_record remark_record first script left begun new answer)
 
 -- the same without the content of the records, whatever the state
 abbrev pub ListShape : List ℕ → Option (List ℕ) → Result Summary RunFault → Type 0
@@ -34,4 +43,4 @@ ListShape script left answer = ((answer ≡ Err WriteDevice) × (left ≡ Some s
 abbrev pub ListFits : List ℕ → Option (List ℕ) → Option (List ℕ) → Option (List ℕ) → Result Summary RunFault → Type 0
 ListFits script left old new answer =
     ((answer ≡ Err WriteDevice) × TakesPrefix old new head_record)
-    ⊎ ((begun : Option (List ℕ)) × Appends old begun head_record × Fits IsSomeRecord refusal_record script left begun new answer)
+    ⊎ ((begun : Option (List ℕ)) × Appends old begun head_record × Fits IsSomeRecord refusal_record remark_record script left begun new answer)

@@ -1,4 +1,5 @@
-//! The list of a script's studies as comma-separated values (RFC 4180): a record for each study, with its verdict, and for each refused line.
+//! The list of a script's studies as comma-separated values (RFC 4180): a record for each study, with its verdict, for each
+//! refused line, and for each game that was left out of an imported script.
 //!
 //! `follow_list` follows a script over tables and writes the head and the records, for a spreadsheet. `Records` is the same as a `Report`, for the
 //! records.
@@ -6,6 +7,7 @@
 
 mod following;
 mod records;
+mod remarks;
 
 pub use following::follow_list;
 pub use records::Records;

@@ -1,4 +1,5 @@
 //! A report as records of comma-separated values.
+use crate::remarks::write_remark;
 use std::alloc::Allocator;
 use std::io::Write;
 use study_marks::Bench;
@@ -7,19 +8,21 @@ use study_print::refusal_in;
 use study_report::{NotTold, Report, ReviewFault};
 use study_values::Values;
 
-/// Studies and refused lines as records, in the order of the script.
+/// Studies, refused lines and games that were left out as records, in the order of the script.
 #[derive(Clone, Copy, Debug, PartialEq, Eq)]
 pub struct Records;
 
 impl Report for Records {
     ghost use Rattle.study_page.specs.Csv.{IsRecordOf, IsSomeRecord};
-    ghost use Rattle.study_list.specs.List.{refusal_record};
+    ghost use Rattle.study_list.specs.List.{refusal_record, remark_record};
 
     ghost tells = { λ plain number text. IsRecordOf plain number text };
 
     ghost form = { λ number text. IsSomeRecord number text };
 
     ghost refusal = { λ number line reply. refusal_record number line reply };
+
+    ghost remark = { λ line. remark_record line };
 
     // Nothing is kept.
     ghost lists = { λ records told. Unit {0} };
@@ -44,6 +47,19 @@ impl Report for Records {
         out: &mut W,
     ) -> Result<(), NotTold> {
         match write_refused_record(alloc, number, line, refusal_in(reply), out) {
+            Ok(()) => Ok(()),
+            Err(PageFault::OutOfMemory) => Err(NotTold::OutOfMemory),
+            Err(PageFault::Device) => Err(NotTold::Device),
+        }
+    }
+
+    fn add_remark<'a, A: Allocator, W: Write>(
+        &mut self,
+        alloc: &'a A,
+        line: &[u8],
+        out: &mut W,
+    ) -> Result<(), NotTold> {
+        match write_remark(alloc, line, out) {
             Ok(()) => Ok(()),
             Err(PageFault::OutOfMemory) => Err(NotTold::OutOfMemory),
             Err(PageFault::Device) => Err(NotTold::Device),

@@ -6,7 +6,6 @@ use Rattle.std.proofs.KnownBytes.{Appends-trans}
 use Rattle.std.proofs.lemmas.Bool.{false≢true}
 use Rattle.study_text.specs.Taken.{TakesPrefix}
 use Rattle.study_command.specs.Lines.{script_lines}
-use Rattle.study_command.specs.Parser.{command_of}
 use Rattle.study_reply.specs.declared.refusal.Refusal.TheVariants.{NotAClass}
 use Rattle.study_reply.specs.Names.{words_of}
 use Rattle.study_script.specs.declared.running.Summary.{Summary}
@@ -14,9 +13,10 @@ use Rattle.study_script.specs.declared.running.RunFault.{RunFault}
 use Rattle.study_script.specs.declared.running.RunFault.TheVariants.{ReadDevice, WriteDevice, LineTooLong, TooManyLines, OutOfMemory}
 use Rattle.study_script.specs.Written.{Piece, error_of}
 use Rattle.study_report.specs.declared.kind.Kind.{Kind}
-use Rattle.study_report.specs.declared.kind.Kind.TheVariants.{PassedOver, NoClass, Study, Checked}
-use Rattle.study_report.specs.Told.{kind_in, study_count}
-use Rattle.study_report.specs.Parts.{Part, nothing_part, refused_part, checked_part, parts_text, IsPartAs, AreParts, AreWritten, Fits}
+use Rattle.study_report.specs.declared.kind.Kind.TheVariants.{Remark, PassedOver, NoClass, Study, Checked}
+use Rattle.study_report.specs.Told.{line_kind, study_count}
+use Rattle.study_report.specs.Remarks.{is_left_out}
+use Rattle.study_report.specs.Parts.{Part, nothing_part, refused_part, remark_part, checked_part, parts_text, IsPartAs, AreParts, AreWritten, Fits}
 use Rattle.study_html.specs.declared.element.Element.{Element}
 use Rattle.study_html.specs.declared.element.Element.TheVariants.{Code, Head, Heads, Header, Row, Rows, Strong, Table, Title, Warning}
 use Rattle.study_html.specs.declared.element.Element.TheVariants as element
@@ -29,7 +29,9 @@ use Rattle.study_page.specs.Page.{IsEntry}
 use Rattle.study_page.specs.Lists.{refusal_part, summary_part, summary_heads, two_heads, three_heads}
 use Rattle.study_print.specs.declared.pages.Count.{Count}
 use Rattle.study_print.specs.declared.pages.Count.TheVariants.{Nothing, One, Several}
-use Rattle.study_print.specs.Pages.{refusal_text, summary_text, end_text, is_broken, IsClosed, IsEndedIf, IsEnded, IsWholeFile, IsWholeUnlessCut}
+use Rattle.study_print.specs.Remarks.{left_out_part, original_part, remark_text}
+use Rattle.study_print.specs.Pages.{refusal_text, summary_text, end_text, is_broken, IsClosed, IsEndedIf, IsEnded, IsBody, IsWholeFile, IsWholeUnlessCut}
+use Rattle.study_print.proofs.BodyGrows.{none_body, both_bodies, nested_body, original_body}
 
 -- ---- what a line writes
 
@@ -48,28 +50,42 @@ refusal_nested number text name reason =
 entry_nested : (number : ℕ) (text : List ℕ) → IsEntry number text → IsWellNested text
 entry_nested number text entry = subst IsWellNested (sym entry.2) (within (element.Entry number) entry.0 entry.1)
 
-text_nested : (part whole : Part) → part ≡ whole → IsWellNested whole.text → IsWellNested part.text
-text_nested part whole e h = subst (λ (p : Part). IsWellNested p.text) (sym e) h
+left_out_nested : (line : List ℕ) → IsWellNested (left_out_part line)
+unfolding left_out_part
+left_out_nested line = within Warning _ (both_nested _ _ (word _) (word _))
+
+remark_body : (line : List ℕ) (left_out : Bool) → IsBody (if left_out then left_out_part line else original_part line)
+remark_body line true = nested_body _ (left_out_nested line)
+remark_body line false = original_body line
+
+body_of : (part whole : Part) → part ≡ whole → IsBody whole.text → IsBody part.text
+body_of part whole e h = subst (λ (p : Part). IsBody p.text) (sym e) h
+
+text_nested : (part whole : Part) → part ≡ whole → IsWellNested whole.text → IsBody part.text
+text_nested part whole e h = body_of part whole e (nested_body whole.text h)
 
 checked_nested : (number : ℕ) (line : List ℕ) (piece : Piece) (refused : Bool)
-    → IsWellNested (if refused then refused_part IsEntry refusal_text number line piece.text else nothing_part).text
+    → IsWellNested (if refused then refused_part IsEntry refusal_text remark_text number line piece.text else nothing_part).text
 checked_nested number line piece true = refusal_nested number line _ _
 checked_nested number line piece false = none_nested
 
-part_nested : (kind : Kind) (number next : ℕ) (line : List ℕ) (part : Part) → IsPartAs IsEntry refusal_text kind number next line part → IsWellNested part.text
+part_nested : (kind : Kind) (number next : ℕ) (line : List ℕ) (part : Part) → IsPartAs IsEntry refusal_text remark_text kind number next line part
+    → IsBody part.text
+part_nested Remark number next line part h =
+    body_of part (remark_part IsEntry refusal_text remark_text line) h (remark_body line (is_left_out line))
 part_nested PassedOver number next line part h = text_nested part nothing_part h none_nested
 part_nested NoClass number next line part h = text_nested part _ h (refusal_nested number line _ _)
 part_nested Study number next line part (inl h) = text_nested part _ h.1 (refusal_nested number line _ _)
 part_nested Study number next line part (inr h) = text_nested part _ h.2 (entry_nested next h.0 h.1)
 part_nested Checked number next line part h = text_nested part _ h.2 (checked_nested number line h.0 h.0.refused)
 
-parts_nested : (lines studies : ℕ) (texts : List (List ℕ)) (parts : List Part) → AreParts IsEntry refusal_text lines studies texts parts
-    → IsWellNested (parts_text parts)
-parts_nested lines studies [] [] h = none_nested
+parts_nested : (lines studies : ℕ) (texts : List (List ℕ)) (parts : List Part) → AreParts IsEntry refusal_text remark_text lines studies texts parts
+    → IsBody (parts_text parts)
+parts_nested lines studies [] [] h = none_body
 parts_nested lines studies [] (part ∷ parts) h = absurd h
 parts_nested lines studies (line ∷ more) [] h = absurd h
 parts_nested lines studies (line ∷ more) (part ∷ parts) h =
-    both_nested part.text (parts_text parts) (part_nested (kind_in (command_of line)) (suc lines) (suc studies) line part h.0)
+    both_bodies part.text (parts_text parts) (part_nested (line_kind line) (suc lines) (suc studies) line part h.0)
     (parts_nested (suc lines) (studies + study_count part.told) more parts h.1)
 
 -- ---- the list of all entries
@@ -94,19 +110,19 @@ summary_nested Several rows h = list_nested rows h
 -- ---- the file
 
 module _ (old begun ended new : Option (List ℕ)) (count : Count) (rows : List ℕ) (nested : IsWellNested rows) where
-  whole : (lines : List (List ℕ)) (refusals : ℕ) → Appends old begun opening → AreWritten IsEntry refusal_text lines begun ended refusals
+  whole : (lines : List (List ℕ)) (refusals : ℕ) → Appends old begun opening → AreWritten IsEntry refusal_text remark_text lines begun ended refusals
       → Appends ended new (end_text count rows) → IsWholeFile old new
   whole lines refusals opened written closed =
       let parts = parts_text written.0 in
       let list = summary_text count rows in (
         parts ++ list,
-        both_nested parts list (parts_nested 0 0 lines written.0 written.1) (summary_nested count rows nested),
+        both_bodies parts list (parts_nested 0 0 lines written.0 written.1) (nested_body list (summary_nested count rows nested)),
         subst (Appends old new) (ap (λ (t : List ℕ). opening ++ t) (sym (append_assoc parts list closing)))
             (Appends-trans old begun new opening (parts ++ (list ++ closing)) opened (Appends-trans begun ended new parts (list ++ closing) written.2 closed)),
       )
 
   pub whole_by : (script : List ℕ) (left : Option (List ℕ)) (answer : Result Summary RunFault) → Appends old begun opening
-      → Fits IsEntry refusal_text script left begun ended answer → Appends ended new (end_text count rows) → IsWholeUnlessCut old new answer
+      → Fits IsEntry refusal_text remark_text script left begun ended answer → Appends ended new (end_text count rows) → IsWholeUnlessCut old new answer
   whole_by script left (Ok summary) opened fits closed = whole _ _ opened fits closed
   whole_by script left (Err ReadDevice) opened fits closed = whole _ _ opened fits.4 closed
   whole_by script left (Err (LineTooLong n)) opened fits closed = whole _ _ opened fits.1 closed
@@ -123,7 +139,7 @@ module _ (old begun ended new : Option (List ℕ)) (count : Count) (rows : List 
   cut (Err OutOfMemory) answer broken same = absurd (false≢true broken)
 
   ended_if : (broken : Bool) (script : List ℕ) (left : Option (List ℕ)) (ran answer : Result Summary RunFault) → is_broken ran ≡ broken
-      → Appends old begun opening → Fits IsEntry refusal_text script left begun ended ran
+      → Appends old begun opening → Fits IsEntry refusal_text remark_text script left begun ended ran
       → IsEndedIf broken (end_text count rows) ended new ran answer → IsWholeUnlessCut old new answer
   ended_if true script left ran answer broken opened fits end = cut ran answer broken end.0
   ended_if false script left ran answer broken opened fits (inl end) =
@@ -132,7 +148,7 @@ module _ (old begun ended new : Option (List ℕ)) (count : Count) (rows : List 
   ended_if false script left ran answer broken opened fits (inr (inr end)) = subst (IsWholeUnlessCut old new) (sym end.0) tt
 
   pub whole_file : (left : Option (List ℕ)) (given : Option (List ℕ)) (ran answer : Result Summary RunFault) → Appends old begun opening
-      → IfSome given (λ bytes. Fits IsEntry refusal_text bytes left begun ended ran) → IsEnded (end_text count rows) ended new ran answer
+      → IfSome given (λ bytes. Fits IsEntry refusal_text remark_text bytes left begun ended ran) → IsEnded (end_text count rows) ended new ran answer
       → IfSome given (λ bytes. IsWholeUnlessCut old new answer)
   whole_file left None ran answer opened fits end = tt
   whole_file left (Some script) ran answer opened fits end = ended_if (is_broken ran) script left ran answer refl opened fits end

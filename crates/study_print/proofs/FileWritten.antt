@@ -15,6 +15,7 @@ use Rattle.study_page.specs.Page.{IsPageOf, IsEntry}
 use Rattle.study_print.specs.declared.pages.Count.{Count}
 use Rattle.study_print.specs.Entries.{AreEntries}
 use Rattle.study_print.specs.Pages.{refusal_text, end_text, is_broken, IsClosed, IsEndedIf, IsEnded, AreItsEntries, IsFile, FileShape, IsAnswerTo, FileFits}
+use Rattle.study_print.specs.Remarks.{remark_text}
 
 pub where_ok : {A E : Type 0} (r : Result A E) (P : Type 0) → is_err r ≡ false → OnOk r P → P
 where_ok (Ok x) P e h = h
@@ -24,18 +25,18 @@ where_ok (Err x) P e h = absurd cc
 
 module _ (first : State) (left old begun ended new : Option (List ℕ)) (answer : Result Summary RunFault) (count : Count) (rows : List ℕ) where
   listed_in : (script : List ℕ) (ran : Result Summary RunFault)
-      → OnOk ran (IfSome (Some script) (λ bytes. AreListed IsPageOf refusal_text first bytes begun ended (AreEntries count rows)))
+      → OnOk ran (IfSome (Some script) (λ bytes. AreListed IsPageOf refusal_text remark_text first bytes begun ended (AreEntries count rows)))
       → IfErr ran (λ fault. IfSome (Some script)
-      (λ bytes. AreListedBefore IsPageOf refusal_text first bytes begun ended (AreEntries count rows) fault))
+      (λ bytes. AreListedBefore IsPageOf refusal_text remark_text first bytes begun ended (AreEntries count rows) fault))
       → AreItsEntries first script begun ended ran count rows
   listed_in script (Ok summary) h k = h
   listed_in script (Err fault) h k = k
 
   pub whole_file : (given : Option (List ℕ)) (ran : Result Summary RunFault) → Appends old begun opening
-      → IfSome given (λ bytes. Outcome IsPageOf refusal_text first bytes left begun ended ran)
-      → OnOk ran (IfSome given (λ bytes. AreListed IsPageOf refusal_text first bytes begun ended (AreEntries count rows)))
+      → IfSome given (λ bytes. Outcome IsPageOf refusal_text remark_text first bytes left begun ended ran)
+      → OnOk ran (IfSome given (λ bytes. AreListed IsPageOf refusal_text remark_text first bytes begun ended (AreEntries count rows)))
       → IfErr ran (λ fault. IfSome given
-      (λ bytes. AreListedBefore IsPageOf refusal_text first bytes begun ended (AreEntries count rows) fault))
+      (λ bytes. AreListedBefore IsPageOf refusal_text remark_text first bytes begun ended (AreEntries count rows) fault))
       → IsEnded (end_text count rows) ended new ran answer
       → IfSome given (λ bytes. IsFile first bytes left old new answer)
   whole_file None ran opened told listed before end = tt
@@ -69,7 +70,7 @@ no_shape (Some script) = inl (refl, refl)
 -- ---- what is written, whatever the tables say
 
 pub whole_fits : (left old begun ended new : Option (List ℕ)) (answer : Result Summary RunFault) (count : Count) (rows : List ℕ) (given : Option (List ℕ))
-    (ran : Result Summary RunFault) → Appends old begun opening → IfSome given (λ bytes. Fits IsEntry refusal_text bytes left begun ended ran)
+    (ran : Result Summary RunFault) → Appends old begun opening → IfSome given (λ bytes. Fits IsEntry refusal_text remark_text bytes left begun ended ran)
     → IsEnded (end_text count rows) ended new ran answer → IfSome given (λ bytes. FileFits bytes left old new answer)
 whole_fits left old begun ended new answer count rows None ran opened fits end = tt
 whole_fits left old begun ended new answer count rows (Some script) ran opened fits end = inr (begun, ended, ran, count, rows, opened, fits, end)

@@ -1,3 +1,4 @@
 pub mod Entries
 pub mod Pages
 pub mod Reasons
+pub mod Remarks

@@ -9,13 +9,14 @@ use Rattle.study_script.specs.State.{State}
 use Rattle.study_report.specs.Outcome.{Outcome, AreListed, AreListedBefore, Shape}
 use Rattle.study_report.specs.Parts.{Fits}
 use Rattle.study_html.specs.Frame.{opening, closing}
-use Rattle.study_html.specs.Markup.{IsWellNested}
+use Rattle.study_html.specs.Markup.{Markup, text_of}
 use Rattle.study_page.specs.Page.{IsPageOf, IsEntry}
 use Rattle.study_page.specs.Lists.{refusal_part, summary_part}
 use Rattle.study_print.specs.declared.pages.Count.{Count}
 use Rattle.study_print.specs.declared.pages.Count.TheVariants.{Nothing, One, Several}
 use Rattle.study_print.specs.Entries.{AreEntries}
 use Rattle.study_print.specs.Reasons.{refusal_in, reason_of}
+use Rattle.study_print.specs.Remarks.{original_part, remark_text}
 
 -- a refused line: its number, its text, and the script's reply to it, with the reason in words
 abbrev pub refusal_text : ℕ → List ℕ → List ℕ → List ℕ
@@ -52,16 +53,16 @@ IsEnded text old new ran answer = IsEndedIf (is_broken ran) text old new ran ans
 
 -- The entries of a run are exactly its printed studies; if it stops at a fault, those printed before the stop.
 abbrev pub AreItsEntries : State → List ℕ → Option (List ℕ) → Option (List ℕ) → Result Summary RunFault → Count → List ℕ → Type 0
-AreItsEntries first script old new (Ok summary) count rows = AreListed IsPageOf refusal_text first script old new (AreEntries count rows)
-AreItsEntries first script old new (Err fault) count rows = AreListedBefore IsPageOf refusal_text first script old new (AreEntries count rows) fault
+AreItsEntries first script old new (Ok summary) count rows = AreListed IsPageOf refusal_text remark_text first script old new (AreEntries count rows)
+AreItsEntries first script old new (Err fault) count rows = AreListedBefore IsPageOf refusal_text remark_text first script old new (AreEntries count rows) fault
 
 -- A file of pages, given the state at the beginning, the bytes of a script, what the reader has left of them, what the writer had and has, and the result:
--- the opening; in script order the page of each study of an accepted `pgn` line, and each refused line; the list of the entries; and the closing.
+-- the opening; in script order the page of each study of an accepted `pgn` line, each refused line and each remark; the list of the entries; and the closing.
 abbrev pub IsFile : State → List ℕ → Option (List ℕ) → Option (List ℕ) → Option (List ℕ) → Result Summary RunFault → Type 0
 IsFile first script left old new answer =
     ((answer ≡ Err WriteDevice) × (left ≡ Some script) × TakesPrefix old new opening)
     ⊎ ((begun ended : Option (List ℕ)) × (ran : Result Summary RunFault) × (count : Count) × (rows : List ℕ) × Appends old begun opening
-    × Outcome IsPageOf refusal_text first script left begun ended ran × AreItsEntries first script begun ended ran count rows
+    × Outcome IsPageOf refusal_text remark_text first script left begun ended ran × AreItsEntries first script begun ended ran count rows
     × IsEnded (end_text count rows) ended new ran answer)
 
 -- the result after a run, if writing the part after the last page may fail too
@@ -73,17 +74,32 @@ abbrev pub FileShape : List ℕ → Option (List ℕ) → Result Summary RunFaul
 FileShape script left answer =
     ((answer ≡ Err WriteDevice) × (left ≡ Some script)) ⊎ ((ran : Result Summary RunFault) × Shape script left ran × IsAnswerTo ran answer)
 
--- What is written of a file, whatever the state and its tables: the opening, the entries and the refusals of the lines, with as many refusals as are
--- counted, and the part after the last page.
+-- What is written of a file, whatever the state and its tables: the opening, the entries, the refusals and the remarks of the lines, with as many refusals
+-- as are counted, and the part after the last page.
 abbrev pub FileFits : List ℕ → Option (List ℕ) → Option (List ℕ) → Option (List ℕ) → Result Summary RunFault → Type 0
 FileFits script left old new answer =
     ((answer ≡ Err WriteDevice) × TakesPrefix old new opening)
     ⊎ ((begun ended : Option (List ℕ)) × (ran : Result Summary RunFault) × (count : Count) × (rows : List ℕ) × Appends old begun opening
-    × Fits IsEntry refusal_text script left begun ended ran × IsEnded (end_text count rows) ended new ran answer)
+    × Fits IsEntry refusal_text remark_text script left begun ended ran × IsEnded (end_text count rows) ended new ran answer)
+
+-- markup, and between it paragraphs of original texts, which may have letters outside ASCII
+pub data Body : Type 0 where
+  nothing : Body
+  markup : Markup → Body → Body
+  original : List ℕ → Body → Body
+
+abbrev pub body_text : Body → List ℕ
+body_text nothing = []
+body_text (markup tree rest) = text_of tree ++ body_text rest
+body_text (original line rest) = original_part line ++ body_text rest
+
+-- the text is that of such a body: each element that is opened is closed, in order, and text from outside is in it only as words
+abbrev pub IsBody : List ℕ → Type 0
+IsBody text = (body : Body) × (text ≡ body_text body)
 
 -- a whole file: between the opening and the closing all is well nested
 abbrev pub IsWholeFile : Option (List ℕ) → Option (List ℕ) → Type 0
-IsWholeFile old new = (text : List ℕ) × IsWellNested text × Appends old new (opening ++ (text ++ closing))
+IsWholeFile old new = (text : List ℕ) × IsBody text × Appends old new (opening ++ (text ++ closing))
 
 -- A file is whole, whatever is held and whatever its tables say, unless its writer failed or there was no memory: a run that stops at a fault of its
 -- script closes the file, too.

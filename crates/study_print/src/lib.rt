@@ -1,4 +1,4 @@
-//! The printed report of a script: a page for each of its studies, its refused lines, and the list of its entries.
+//! The printed report of a script: a page for each of its studies, its refused lines, its remarks, and the list of its entries.
 //!
 //! `follow_pages` follows a script over tables and writes a whole HTML file for a browser to show and print. `Pages` is the same as a `Report`, for
 //! the part between the opening and the list. `reason_of` gives in words why a line is refused.
@@ -8,6 +8,7 @@ mod ending;
 mod following;
 mod pages;
 mod reasons;
+mod remarks;
 mod watch;
 
 pub use following::{follow_pages, follow_pages_over};

@@ -2,6 +2,7 @@
 ghost use Rattle.std.specs.Prelude.{◌≡◌, []};
 
 use crate::reasons::{reason_of, refusal_in};
+use crate::remarks::write_remark;
 use crate::watch::Watch;
 use std::alloc::Allocator;
 use std::io::Write;
@@ -33,7 +34,7 @@ impl Count {
     }
 }
 
-/// A page for each study, and a line for each refused one. For each printed study its row of the list at the end is kept.
+/// A page for each study, a line for each refused one, and a paragraph for each remark. For each printed study its row of the list at the end is kept.
 #[derive(Drop)]
 pub struct Pages<'s, S: Allocator, N: Watch> {
     alloc: &'s S,
@@ -62,12 +63,15 @@ impl<'s, S: Allocator, N: Watch> Report for Pages<'s, S, N> {
     ghost use Rattle.study_page.specs.Page.{IsPageOf, IsEntry};
     ghost use Rattle.study_print.specs.Entries.{AreEntries};
     ghost use Rattle.study_print.specs.Pages.{refusal_text};
+    ghost use Rattle.study_print.specs.Remarks.{remark_text};
 
     ghost tells = { λ plain number text. IsPageOf plain number text };
 
     ghost form = { λ number text. IsEntry number text };
 
     ghost refusal = { λ number line reply. refusal_text number line reply };
+
+    ghost remark = { λ line. remark_text line };
 
     ghost lists = { λ pages told. AreEntries pages.count pages.rows told };
 
@@ -100,6 +104,19 @@ impl<'s, S: Allocator, N: Watch> Report for Pages<'s, S, N> {
     ) -> Result<(), NotTold> {
         let refusal = refusal_in(reply);
         match write_refusal(alloc, number, line, refusal, reason_of(refusal), out) {
+            Ok(()) => Ok(()),
+            Err(PageFault::OutOfMemory) => Err(NotTold::OutOfMemory),
+            Err(PageFault::Device) => Err(NotTold::Device),
+        }
+    }
+
+    fn add_remark<'a, A: Allocator, W: Write>(
+        &mut self,
+        alloc: &'a A,
+        line: &[u8],
+        out: &mut W,
+    ) -> Result<(), NotTold> {
+        match write_remark(alloc, line, out) {
             Ok(()) => Ok(()),
             Err(PageFault::OutOfMemory) => Err(NotTold::OutOfMemory),
             Err(PageFault::Device) => Err(NotTold::Device),

@@ -19,13 +19,13 @@ use Rattle.study_text.specs.Taken.{TakesPrefix}
 use Rattle.study_report.specs.declared.told.Told.{Told}
 use Rattle.study_report.specs.declared.told.Told.TheVariants.{Nothing, Study as AStudy, Refusal as ARefusal}
 use Rattle.study_reply.specs.declared.refusal.Refusal.TheVariants.{NotAClass}
-use Rattle.study_command.specs.Parser.{command_of}
 use Rattle.study_script.specs.Replies.{Reply, refused}
 use Rattle.study_report.specs.declared.kind.Kind.{Kind}
-use Rattle.study_report.specs.declared.kind.Kind.TheVariants.{PassedOver, NoClass, Study, Checked}
-use Rattle.study_report.specs.Told.{Point, Added, IsAdded, IsAddedAs, IsPgnAfter, IsCheckedAfter, kind_in, refusal_count, study_count}
+use Rattle.study_report.specs.declared.kind.Kind.TheVariants.{Remark, PassedOver, NoClass, Study, Checked}
+use Rattle.study_report.specs.Told.{Point, Added, IsAdded, IsAddedAs, IsPgnAfter, IsCheckedAfter, line_kind, refusal_count, study_count}
 use Rattle.study_report.specs.Told.{nothing_added, refusal_added, studies_on, listed_in, studies_in}
-use Rattle.study_report.specs.Outcome.{begun, AreAdded, report_text, refusals, point_after, IsFollowed, AreListed, StoppedAfter, AreListedBefore, Outcome, Shape}
+use Rattle.study_report.specs.Outcome.{begun, AreAdded, report_text, refusals, point_after, IsFollowed, AreListed, StoppedAfter, AreListedBefore, Outcome}
+use Rattle.study_report.specs.Outcome.{Shape}
 use Rattle.study_report.specs.Written.{Adds, Stops}
 
 -- ---- the first line that is left
@@ -78,10 +78,10 @@ listed-same t ARefusal b c i j e f n = ap (λ (x : Told). listed_in x b i) e
 listed-same t AStudy b c i j e f n =
     ap (λ (x : Told). listed_in x b i) e ∙ ap (λ (x : Document). studies_on x i) f ∙ ap (studies_on c) (n refl)
 
-module _ (tells : Plainly → ℕ → List ℕ → Type 0) (refusal : ℕ → List ℕ → List ℕ → List ℕ) where
+module _ (tells : Plainly → ℕ → List ℕ → Type 0) (refusal : ℕ → List ℕ → List ℕ → List ℕ) (remark : List ℕ → List ℕ) where
   are-more : (p : Point) (lines : List (List ℕ)) (added : List Added) (line : List ℕ) (a : Added)
-      → AreAdded tells refusal p lines added → IsAdded tells refusal (point_after p added) line a
-      → AreAdded tells refusal p (lines ++ line ∷ []) (added ++ a ∷ [])
+      → AreAdded tells refusal remark p lines added → IsAdded tells refusal remark (point_after p added) line a
+      → AreAdded tells refusal remark p (lines ++ line ∷ []) (added ++ a ∷ [])
   are-more p [] [] line a h r = (r, tt)
   are-more p [] (x ∷ added) line a h r = absurd h
   are-more p (l ∷ lines) [] line a h r = absurd h
@@ -95,7 +95,7 @@ module _ (tells : Plainly → ℕ → List ℕ → Type 0) (refusal : ℕ → Li
     pub within : n ≤ length all
     pub short : AreShort (take n all)
     pub added : List Added
-    pub are : AreAdded tells refusal (begun first) (take n all) added
+    pub are : AreAdded tells refusal remark (begun first) (take n all) added
     pub written : Appends old new (report_text added)
     pub point_is : p ≡ point_after (begun first) added
     pub refused_is : refused ≡ refusals added
@@ -132,7 +132,7 @@ module _ (tells : Plainly → ℕ → List ℕ → Type 0) (refusal : ℕ → Li
   pub told_more : (Lists Lists' : List (Plainly × ℕ) → Type 0) (script now next old mid new : Option (List ℕ)) (first : State)
       (p : Point) (line : List ℕ) (a : Added) (n refused refused' : ℕ) → HasTold Lists script now old mid first p n refused
       → TakesLine now next true line → length line ≤ 1024
-      → IsAdded tells refusal p line a → Appends mid new a.text → refused' ≡ refused + refusal_count a.told
+      → IsAdded tells refusal remark p line a → Appends mid new a.text → refused' ≡ refused + refusal_count a.told
       → ((more : List (Plainly × ℕ)) → Lists more → Lists' (more ++ listed_in a.told a.after.state.document a.after.studies))
       → HasTold Lists' script next old new first a.after (n + 1) refused'
   told_more Lists Lists' None now next old mid new first p line a n refused refused' r t short is wrote k l = record { known = tt }
@@ -151,7 +151,8 @@ module _ (tells : Plainly → ℕ → List ℕ → Type 0) (refusal : ℕ → Li
           within = omega arith;
           short = rw grown (short-more (take n all) line v.short short);
           added = v.added ++ a ∷ [];
-          are = rw grown (are-more (begun first) (take n all) v.added line a v.are (subst (λ (h : Point). IsAdded tells refusal h line a) v.point_is is));
+          are = rw grown (are-more (begun first) (take n all) v.added line a v.are
+              (subst (λ (h : Point). IsAdded tells refusal remark h line a) v.point_is is));
           written = rw (text-more v.added a) (Appends-trans old mid new (report_text v.added) a.text v.written wrote);
           point_is = sym (point_after-more (begun first) v.added a);
           refused_is = k ∙ ap (λ i. i + refusal_count a.told) v.refused_is ∙ sym (sum_by_push (λ (x : Added). refusal_count x.told) v.added a);
@@ -163,7 +164,7 @@ module _ (tells : Plainly → ℕ → List ℕ → Type 0) (refusal : ℕ → Li
 
   pub told_ends : {Lists : List (Plainly × ℕ) → Type 0} (left script now next old new : Option (List ℕ)) (first : State) (p : Point) (line : List ℕ)
       (n refused : ℕ) → HasTold Lists script now old new first p n refused → TakesLine now next false line → n ≤ 100000
-      → IfSome script (λ bytes. Outcome tells refusal first bytes left old new (Ok (record { lines = n; refused = refused })))
+      → IfSome script (λ bytes. Outcome tells refusal remark first bytes left old new (Ok (record { lines = n; refused = refused })))
   told_ends left None now next old new first p line n refused r t le = tt
   told_ends left (Some bs) None next old new first p line n refused r t le = absurd r.known
   told_ends left (Some bs) (Some rest) None old new first p line n refused r t le = absurd t
@@ -174,7 +175,7 @@ module _ (tells : Plainly → ℕ → List ℕ → Type 0) (refusal : ℕ → Li
         omega arith,
         subst AreShort d.0 v.short,
         v.added,
-        subst (λ (ls : List (List ℕ)). AreAdded tells refusal (begun first) ls v.added) d.0 v.are,
+        subst (λ (ls : List (List ℕ)). AreAdded tells refusal remark (begun first) ls v.added) d.0 v.are,
         v.written,
         e,
         v.refused_is,
@@ -183,7 +184,7 @@ module _ (tells : Plainly → ℕ → List ℕ → Type 0) (refusal : ℕ → Li
   -- the state at the end of the script is the one that it leaves
   pub told_after : {Lists : List (Plainly × ℕ) → Type 0} (holds : State → Type 0) (script now next old new : Option (List ℕ)) (first : State)
       (p : Point) (line : List ℕ) (n refused : ℕ) → HasTold Lists script now old new first p n refused → TakesLine now next false line → holds p.state
-      → IfSome script (λ bytes. IsFollowed tells refusal first bytes old new holds)
+      → IfSome script (λ bytes. IsFollowed tells refusal remark first bytes old new holds)
   told_after holds None now next old new first p line n refused r t held = tt
   told_after holds (Some bs) None next old new first p line n refused r t held = absurd r.known
   told_after holds (Some bs) (Some rest) None old new first p line n refused r t held = absurd t
@@ -191,7 +192,7 @@ module _ (tells : Plainly → ℕ → List ℕ → Type 0) (refusal : ℕ → Li
       let v = r.known in
       let d = none_left (script_lines bs) n v.within (v.left_is ∙ t) in (
         v.added,
-        subst (λ (ls : List (List ℕ)). AreAdded tells refusal (begun first) ls v.added) d.0 v.are,
+        subst (λ (ls : List (List ℕ)). AreAdded tells refusal remark (begun first) ls v.added) d.0 v.are,
         v.written,
         subst (λ (q : Point). holds q.state) v.point_is held,
       )
@@ -199,7 +200,7 @@ module _ (tells : Plainly → ℕ → List ℕ → Type 0) (refusal : ℕ → Li
   -- what is true of the reported studies
   pub told_listed : (Lists : List (Plainly × ℕ) → Type 0) (script now next old new : Option (List ℕ)) (first : State) (p : Point) (line : List ℕ)
       (n refused : ℕ) → HasTold Lists script now old new first p n refused → TakesLine now next false line
-      → IfSome script (λ bytes. AreListed tells refusal first bytes old new Lists)
+      → IfSome script (λ bytes. AreListed tells refusal remark first bytes old new Lists)
   told_listed Lists None now next old new first p line n refused r t = tt
   told_listed Lists (Some bs) None next old new first p line n refused r t = absurd r.known
   told_listed Lists (Some bs) (Some rest) None old new first p line n refused r t = absurd t
@@ -207,22 +208,22 @@ module _ (tells : Plainly → ℕ → List ℕ → Type 0) (refusal : ℕ → Li
       let v = r.known in
       let d = none_left (script_lines bs) n v.within (v.left_is ∙ t) in (
         v.added,
-        subst (λ (ls : List (List ℕ)). AreAdded tells refusal (begun first) ls v.added) d.0 v.are,
+        subst (λ (ls : List (List ℕ)). AreAdded tells refusal remark (begun first) ls v.added) d.0 v.are,
         v.written,
         v.listed,
       )
 
   pub listed-before : (Had Has : List (Plainly × ℕ) → Type 0) (before : List (Plainly × ℕ)) → Had before
       → (script : Option (List ℕ)) (first : State) (old new : Option (List ℕ))
-      → IfSome script (λ bytes. AreListed tells refusal first bytes old new
+      → IfSome script (λ bytes. AreListed tells refusal remark first bytes old new
       (λ more. (told : List (Plainly × ℕ)) → Had told → Has (told ++ more)))
-      → IfSome script (λ bytes. AreListed tells refusal first bytes old new (λ more. Has (before ++ more)))
+      → IfSome script (λ bytes. AreListed tells refusal remark first bytes old new (λ more. Has (before ++ more)))
   listed-before Had Has before had None first old new h = tt
   listed-before Had Has before had (Some bs) first old new (added, are, wrote, l) = (added, are, wrote, l before had)
 
   pub told_long : {Lists : List (Plainly × ℕ) → Type 0} (left script now old new : Option (List ℕ)) (first : State) (p : Point) (n refused : ℕ)
       → HasTold Lists script now old new first p n refused → BeginsLong now → n < 100000
-      → IfSome script (λ bytes. Outcome tells refusal first bytes left old new (Err (LineTooLong (n + 1))))
+      → IfSome script (λ bytes. Outcome tells refusal remark first bytes left old new (Err (LineTooLong (n + 1))))
   told_long left None now old new first p n refused r t lt = tt
   told_long left (Some bs) None old new first p n refused r t lt = absurd r.known
   told_long left (Some bs) (Some rest) old new first p n refused r (line, more, is, long) lt =
@@ -233,7 +234,7 @@ module _ (tells : Plainly → ℕ → List ℕ → Type 0) (refusal : ℕ → Li
 
   pub told_read : {Lists : List (Plainly × ℕ) → Type 0} (left script now old new : Option (List ℕ)) (first : State) (p : Point) (n refused : ℕ)
       → HasTold Lists script now old new first p n refused → n ≤ 100000 → GaveFeeds script left n → GaveFeeds now left 0
-      → IfSome script (λ bytes. Outcome tells refusal first bytes left old new (Err ReadDevice))
+      → IfSome script (λ bytes. Outcome tells refusal remark first bytes left old new (Err ReadDevice))
   told_read left None now old new first p n refused r le g h = tt
   told_read left (Some bs) None old new first p n refused r le g h = absurd r.known
   told_read left (Some bs) (Some rest) old new first p n refused r le g h =
@@ -241,7 +242,7 @@ module _ (tells : Plainly → ℕ → List ℕ → Type 0) (refusal : ℕ → Li
 
   pub told_many : {Lists : List (Plainly × ℕ) → Type 0} (left script now old new : Option (List ℕ)) (first : State) (p : Point) (refused : ℕ)
       → HasTold Lists script now old new first p 100000 refused → HasMore now
-      → IfSome script (λ bytes. Outcome tells refusal first bytes left old new (Err TooManyLines))
+      → IfSome script (λ bytes. Outcome tells refusal remark first bytes left old new (Err TooManyLines))
   told_many left None now old new first p refused r t = tt
   told_many left (Some bs) None old new first p refused r t = absurd r.known
   told_many left (Some bs) (Some rest) old new first p refused r t =
@@ -251,8 +252,8 @@ module _ (tells : Plainly → ℕ → List ℕ → Type 0) (refusal : ℕ → Li
   pub told_write : {Lists : List (Plainly × ℕ) → Type 0} (script now next old mid new : Option (List ℕ)) (first : State) (p : Point) (line : List ℕ)
       (n refused : ℕ) → HasTold Lists script now old mid first p n refused → TakesLine now next true line → length line ≤ 1024
       → n < 100000 → GaveFeeds script next (n + 1)
-      → (a : Added) × IsAdded tells refusal p line a × TakesPrefix mid new a.text
-      → IfSome script (λ bytes. Outcome tells refusal first bytes next old new (Err WriteDevice))
+      → (a : Added) × IsAdded tells refusal remark p line a × TakesPrefix mid new a.text
+      → IfSome script (λ bytes. Outcome tells refusal remark first bytes next old new (Err WriteDevice))
   told_write None now next old mid new first p line n refused r t short lt g q = tt
   told_write (Some bs) None next old mid new first p line n refused r t short lt g q = absurd r.known
   told_write (Some bs) (Some rest) None old mid new first p line n refused r t short lt g q = absurd t
@@ -273,14 +274,14 @@ module _ (tells : Plainly → ℕ → List ℕ → Type 0) (refusal : ℕ → Li
           mid,
           v.written,
           a,
-          subst (λ (h : Point). IsAdded tells refusal h line a) v.point_is is,
+          subst (λ (h : Point). IsAdded tells refusal remark h line a) v.point_is is,
           part,
         ),
       )
 
   pub told_memory : {Lists : List (Plainly × ℕ) → Type 0} (left script now old mid new : Option (List ℕ)) (first : State) (p : Point) (n refused : ℕ)
       → HasTold Lists script now old mid first p n refused → n ≤ 100000 → new ≡ mid
-      → IfSome script (λ bytes. Outcome tells refusal first bytes left old new (Err OutOfMemory))
+      → IfSome script (λ bytes. Outcome tells refusal remark first bytes left old new (Err OutOfMemory))
   told_memory left None now old mid new first p n refused r le same = tt
   told_memory left (Some bs) None old mid new first p n refused r le same = absurd r.known
   told_memory left (Some bs) (Some rest) old mid new first p n refused r le same =
@@ -290,8 +291,8 @@ module _ (tells : Plainly → ℕ → List ℕ → Type 0) (refusal : ℕ → Li
   -- the run stops within a line
   pub told_stops : {Lists : List (Plainly × ℕ) → Type 0} (script now next old mid new : Option (List ℕ)) (first : State) (p : Point) (line : List ℕ)
       (n refused : ℕ) (fault : RunFault) → HasTold Lists script now old mid first p n refused → TakesLine now next true line → length line ≤ 1024
-      → n < 100000 → GaveFeeds script next (n + 1) → Stops (IsAdded tells refusal p line) mid new fault
-      → IfSome script (λ bytes. Outcome tells refusal first bytes next old new (Err fault))
+      → n < 100000 → GaveFeeds script next (n + 1) → Stops (IsAdded tells refusal remark p line) mid new fault
+      → IfSome script (λ bytes. Outcome tells refusal remark first bytes next old new (Err fault))
   told_stops script now next old mid new first p line n refused WriteDevice r t short lt g h =
       told_write script now next old mid new first p line n refused r t short lt g h
   told_stops script now next old mid new first p line n refused OutOfMemory r t short lt g h =
@@ -307,8 +308,8 @@ module _ (tells : Plainly → ℕ → List ℕ → Type 0) (refusal : ℕ → Li
       (p : Point) (n refused : ℕ) (fault : RunFault) → HasTold Lists script now old new first p n refused
       → ((more : List (Plainly × ℕ)) → Lists more → Has more)
       → ((q : Point) (all : List (List ℕ)) (added : List Added) → Appends old new (report_text added)
-      → StoppedAfter tells refusal q all n added old new fault)
-      → IfSome script (λ bytes. AreListedBefore tells refusal first bytes old new Has fault)
+      → StoppedAfter tells refusal remark q all n added old new fault)
+      → IfSome script (λ bytes. AreListedBefore tells refusal remark first bytes old new Has fault)
   told_before Has None now old new first p n refused fault r l stopped = tt
   told_before Has (Some bs) None old new first p n refused fault r l stopped = absurd r.known
   told_before Has (Some bs) (Some rest) old new first p n refused fault r l stopped =
@@ -317,8 +318,8 @@ module _ (tells : Plainly → ℕ → List ℕ → Type 0) (refusal : ℕ → Li
 
   told_before_write : {Lists : List (Plainly × ℕ) → Type 0} (Has : List (Plainly × ℕ) → Type 0) (script now next old mid new : Option (List ℕ))
       (first : State) (p : Point) (line : List ℕ) (n refused : ℕ) → HasTold Lists script now old mid first p n refused → TakesLine now next true line
-      → ((more : List (Plainly × ℕ)) → Lists more → Has more) → (a : Added) × IsAdded tells refusal p line a × TakesPrefix mid new a.text
-      → IfSome script (λ bytes. AreListedBefore tells refusal first bytes old new Has WriteDevice)
+      → ((more : List (Plainly × ℕ)) → Lists more → Has more) → (a : Added) × IsAdded tells refusal remark p line a × TakesPrefix mid new a.text
+      → IfSome script (λ bytes. AreListedBefore tells refusal remark first bytes old new Has WriteDevice)
   told_before_write Has None now next old mid new first p line n refused r t l q = tt
   told_before_write Has (Some bs) None next old mid new first p line n refused r t l q = absurd r.known
   told_before_write Has (Some bs) (Some rest) None old mid new first p line n refused r t l q = absurd t
@@ -329,14 +330,14 @@ module _ (tells : Plainly → ℕ → List ℕ → Type 0) (refusal : ℕ → Li
         v.within,
         v.added,
         v.are,
-        (mid, v.written, rw f.3 (a, subst (λ (h : Point). IsAdded tells refusal h line a) v.point_is is, part)),
+        (mid, v.written, rw f.3 (a, subst (λ (h : Point). IsAdded tells refusal remark h line a) v.point_is is, part)),
         l (studies_in v.added) v.listed,
       )
 
   told_before_memory : {Lists : List (Plainly × ℕ) → Type 0} (Has : List (Plainly × ℕ) → Type 0) (script now old mid new : Option (List ℕ))
       (first : State) (p : Point) (n refused : ℕ) → HasTold Lists script now old mid first p n refused
       → ((more : List (Plainly × ℕ)) → Lists more → Has more) → new ≡ mid
-      → IfSome script (λ bytes. AreListedBefore tells refusal first bytes old new Has OutOfMemory)
+      → IfSome script (λ bytes. AreListedBefore tells refusal remark first bytes old new Has OutOfMemory)
   told_before_memory Has None now old mid new first p n refused r l same = tt
   told_before_memory Has (Some bs) None old mid new first p n refused r l same = absurd r.known
   told_before_memory Has (Some bs) (Some rest) old mid new first p n refused r l same =
@@ -352,8 +353,8 @@ module _ (tells : Plainly → ℕ → List ℕ → Type 0) (refusal : ℕ → Li
   -- the run stopped within a line
   pub told_before_stop : {Lists : List (Plainly × ℕ) → Type 0} (Has : List (Plainly × ℕ) → Type 0) (script now next old mid new : Option (List ℕ))
       (first : State) (p : Point) (line : List ℕ) (n refused : ℕ) (fault : RunFault) → HasTold Lists script now old mid first p n refused
-      → TakesLine now next true line → ((more : List (Plainly × ℕ)) → Lists more → Has more) → Stops (IsAdded tells refusal p line) mid new fault
-      → IfSome script (λ bytes. AreListedBefore tells refusal first bytes old new Has fault)
+      → TakesLine now next true line → ((more : List (Plainly × ℕ)) → Lists more → Has more) → Stops (IsAdded tells refusal remark p line) mid new fault
+      → IfSome script (λ bytes. AreListedBefore tells refusal remark first bytes old new Has fault)
   told_before_stop Has script now next old mid new first p line n refused WriteDevice r t l h =
       told_before_write Has script now next old mid new first p line n refused r t l h
   told_before_stop Has script now next old mid new first p line n refused OutOfMemory r t l h =
@@ -380,19 +381,20 @@ module _ (tells : Plainly → ℕ → List ℕ → Type 0) (refusal : ℕ → Li
   counts-nothing : (p : Point) (s : State) (a : Added) → a ≡ nothing_added p s → Counts p a
   counts-nothing p s a e = subst (Counts p) (sym e) (refl, omega arith)
 
-  counts-refusal : (p : Point) (line : List ℕ) (reply : Reply) (a : Added) → a ≡ refusal_added tells refusal p line reply → Counts p a
+  counts-refusal : (p : Point) (line : List ℕ) (reply : Reply) (a : Added) → a ≡ refusal_added tells refusal remark p line reply → Counts p a
   counts-refusal p line reply a e = subst (Counts p) (sym e) (refl, omega arith)
 
-  counts-pgn : (p : Point) (line : List ℕ) (reply : Reply) (a : Added) (b : Bool) → IsPgnAfter tells refusal p line reply b a → Counts p a
+  counts-pgn : (p : Point) (line : List ℕ) (reply : Reply) (a : Added) (b : Bool) → IsPgnAfter tells refusal remark p line reply b a → Counts p a
   counts-pgn p line reply a true e = counts-refusal p line reply a e
   counts-pgn p line reply a false (inl (plain, text, b, t, e)) = subst (Counts p) (sym e) (refl, omega arith)
   counts-pgn p line reply a false (inr (plain, why, d, l, e)) = counts-refusal p line (refused reply.state why) a e
 
-  counts-checked : (p : Point) (line : List ℕ) (reply : Reply) (a : Added) (b : Bool) → IsCheckedAfter tells refusal p line reply b a → Counts p a
+  counts-checked : (p : Point) (line : List ℕ) (reply : Reply) (a : Added) (b : Bool) → IsCheckedAfter tells refusal remark p line reply b a → Counts p a
   counts-checked p line reply a true e = counts-refusal p line reply a e
   counts-checked p line reply a false e = counts-nothing p reply.state a e
 
-  counts-more : (p : Point) (line : List ℕ) (a : Added) (k : Kind) → IsAddedAs tells refusal k p line a → Counts p a
+  counts-more : (p : Point) (line : List ℕ) (a : Added) (k : Kind) → IsAddedAs tells refusal remark k p line a → Counts p a
+  counts-more p line a Remark e = subst (Counts p) (sym e) (refl, omega arith)
   counts-more p line a PassedOver e = counts-nothing p p.state a e
   counts-more p line a NoClass e = counts-refusal p line (refused p.state NotAClass) a e
   counts-more p line a Study (o, reply, is, after) = counts-pgn p line reply a reply.refused after
@@ -403,14 +405,14 @@ module _ (tells : Plainly → ℕ → List ℕ → Type 0) (refusal : ℕ → Li
       (line : List ℕ) (n refused refused' studies studies' : ℕ) (told : Told)
       (r : ToldOn holds Lists script now old mid first n refused studies)
       → TakesLine now next true line → length line ≤ 1024
-      → Adds (IsAdded tells refusal r.point line) holds' mid new told
+      → Adds (IsAdded tells refusal remark r.point line) holds' mid new told
       → refused' ≡ refused + refusal_count told → studies' ≡ studies + study_count told
       → ((s : State) → holds' s → document ≡ s.document)
       → ((more : List (Plainly × ℕ)) → Lists more → Lists' (more ++ listed_in told document (studies + 1)))
       → ToldOn holds' Lists' script next old new first (n + 1) refused' studies'
   ToldOn-more holds holds' Lists Lists' document script now next old mid new first line n refused refused' studies studies' told r t short
       (a, is, wrote, held, same) k j seen l =
-      let counts = counts-more r.point line a (kind_in (command_of line)) is in
+      let counts = counts-more r.point line a (line_kind line) is in
       record {
         point = a.after;
         told = told_more Lists Lists' script now next old mid new first r.point line a n refused refused' r.told t short is wrote
@@ -446,9 +448,10 @@ few-told AStudy = (omega arith, omega arith)
 few-told ARefusal = (omega arith, omega arith)
 
 -- there is no memory for the first line
-pub none_before : (tells : Plainly → ℕ → List ℕ → Type 0) (refusal : ℕ → List ℕ → List ℕ → List ℕ) (Has : List (Plainly × ℕ) → Type 0)
+pub none_before : (tells : Plainly → ℕ → List ℕ → Type 0) (refusal : ℕ → List ℕ → List ℕ → List ℕ)
+    (remark : List ℕ → List ℕ) (Has : List (Plainly × ℕ) → Type 0)
     (told : List (Plainly × ℕ)) (script out : Option (List ℕ)) (first : State) → Has told
-    → IfSome script (λ bytes. AreListedBefore tells refusal first bytes out out (λ more. Has (told ++ more)) OutOfMemory)
-none_before tells refusal Has told None out first h = tt
-none_before tells refusal Has told (Some bytes) out first h =
+    → IfSome script (λ bytes. AreListedBefore tells refusal remark first bytes out out (λ more. Has (told ++ more)) OutOfMemory)
+none_before tells refusal remark Has told None out first h = tt
+none_before tells refusal remark Has told (Some bytes) out first h =
     (0, omega arith, [], tt, Appends-nil out, subst Has (sym (append-nil told)) h)

@@ -17,7 +17,7 @@ use Rattle.study_report.specs.declared.told.Told.{Told}
 use Rattle.study_report.specs.declared.told.Told.TheVariants.{Nothing, Study as AStudy, Refusal as ARefusal}
 use Rattle.study_report.specs.Told.{study_count, listed_in}
 use Rattle.study_report.specs.Told.{Point, Added, IsLeftOut, IsStudyTold, IsAddedAs, IsPgnAfter, IsCheckedAfter}
-use Rattle.study_report.specs.Told.{nothing_added, study_added, refusal_added}
+use Rattle.study_report.specs.Told.{nothing_added, study_added, refusal_added, remark_added}
 use Rattle.study_report.specs.Written.{Adds, Stops, StopsIn, IsSection, IsSectionPart, IsReplied}
 
 -- what holds of every text written for a refusal
@@ -29,6 +29,16 @@ pub refusal-none : (r : Result Told RunFault) (text : List ℕ) (old new : Optio
     → IfOk r (λ t. study_count t ≡ 0)
 refusal-none r text old new h =
     IfOk-weaker r (RefusalWritten text old new) (λ t. study_count t ≡ 0) (λ t (e, wrote). ap study_count e) h
+
+-- what holds of every text written for a remark
+abbrev pub RemarkWritten : List ℕ → Option (List ℕ) → Option (List ℕ) → Told → Type 0
+RemarkWritten text old new told = (told ≡ Nothing) × Appends old new text
+
+-- a remark is no study
+pub remark-none : (r : Result Told RunFault) (text : List ℕ) (old new : Option (List ℕ)) → IfOk r (RemarkWritten text old new)
+    → IfOk r (λ t. study_count t ≡ 0)
+remark-none r text old new h =
+    IfOk-weaker r (RemarkWritten text old new) (λ t. study_count t ≡ 0) (λ t (e, wrote). ap study_count e) h
 
 none-in : (t : Told) (document : Document) (number : ℕ) → study_count t ≡ 0 → listed_in t document number ≡ []
 none-in Nothing document number e = refl
@@ -70,33 +80,46 @@ stops-in I a old new ReadDevice is h = absurd h
 stops-in I a old new (LineTooLong n) is h = absurd h
 stops-in I a old new TooManyLines is h = absurd h
 
-module _ (tells : Plainly → ℕ → List ℕ → Type 0) (refusal : ℕ → List ℕ → List ℕ → List ℕ) where
+module _ (tells : Plainly → ℕ → List ℕ → Type 0) (refusal : ℕ → List ℕ → List ℕ → List ℕ) (remark : List ℕ → List ℕ) where
   -- a refusal is written, from the number of the line and the bytes of its reply
   pub refusal-adds : (I : Added → Type 0) (H : State → Type 0) (p : Point) (line : List ℕ) (reply : Reply) (number : ℕ) (bytes : List ℕ)
       (r : Result Told RunFault) (old new : Option (List ℕ)) → number ≡ suc p.lines → bytes ≡ reply.text
-      → I (refusal_added tells refusal p line reply) → H reply.state → IfOk r (RefusalWritten (refusal number line bytes) old new)
+      → I (refusal_added tells refusal remark p line reply) → H reply.state → IfOk r (RefusalWritten (refusal number line bytes) old new)
       → IfOk r (Adds I H old new)
   refusal-adds I H p line reply number bytes r old new n b is held h =
       let same : refusal number line bytes ≡ refusal (suc p.lines) line reply.text =
       ap (λ i. refusal i line bytes) n ∙ ap (refusal (suc p.lines) line) b in
       IfOk-weaker r (RefusalWritten (refusal number line bytes) old new) (Adds I H old new)
-      (λ told (t, wrote). (refusal_added tells refusal p line reply, is, subst (Appends old new) same wrote, held, t)) h
+      (λ told (t, wrote). (refusal_added tells refusal remark p line reply, is, subst (Appends old new) same wrote, held, t)) h
 
   pub refusal-stops : (I : Added → Type 0) (p : Point) (line : List ℕ) (reply : Reply) (number : ℕ) (bytes : List ℕ)
       (r : Result Told RunFault) (old new : Option (List ℕ)) → number ≡ suc p.lines → bytes ≡ reply.text
-      → I (refusal_added tells refusal p line reply) → IfErr r (StopsIn (refusal number line bytes) old new)
+      → I (refusal_added tells refusal remark p line reply) → IfErr r (StopsIn (refusal number line bytes) old new)
       → IfErr r (Stops I old new)
   refusal-stops I p line reply number bytes r old new n b is h =
       let same : refusal number line bytes ≡ refusal (suc p.lines) line reply.text =
       ap (λ i. refusal i line bytes) n ∙ ap (refusal (suc p.lines) line) b in
       IfErr-weaker r (StopsIn (refusal number line bytes) old new) (Stops I old new)
-      (λ fault k. stops-in I (refusal_added tells refusal p line reply) old new fault is
+      (λ fault k. stops-in I (refusal_added tells refusal remark p line reply) old new fault is
       (subst (λ (t : List ℕ). StopsIn t old new fault) same k)) h
+
+  -- a remark is written
+  pub remark-adds : (I : Added → Type 0) (H : State → Type 0) (p : Point) (line : List ℕ) (r : Result Told RunFault) (old new : Option (List ℕ))
+      → I (remark_added tells refusal remark p line) → H p.state → IfOk r (RemarkWritten (remark line) old new) → IfOk r (Adds I H old new)
+  remark-adds I H p line r old new is held h =
+      IfOk-weaker r (RemarkWritten (remark line) old new) (Adds I H old new)
+      (λ told (t, wrote). (remark_added tells refusal remark p line, is, wrote, held, t)) h
+
+  pub remark-stops : (I : Added → Type 0) (p : Point) (line : List ℕ) (r : Result Told RunFault) (old new : Option (List ℕ))
+      → I (remark_added tells refusal remark p line) → IfErr r (StopsIn (remark line) old new) → IfErr r (Stops I old new)
+  remark-stops I p line r old new is h =
+      IfErr-weaker r (StopsIn (remark line) old new) (Stops I old new)
+      (λ fault. stops-in I (remark_added tells refusal remark p line) old new fault is) h
 
   -- the study in the document is written
   pub section-adds : (H : State → Type 0) (p : Point) (s : State) (line : List ℕ) (number studies : ℕ) (plain : Plainly) (old new : Option (List ℕ))
       → s.document ≡ study plain → number ≡ suc studies → studies ≡ p.studies → H s → IsSection tells s.document number old new
-      → Adds (IsStudyTold tells refusal p s line) H old new AStudy
+      → Adds (IsStudyTold tells refusal remark p s line) H old new AStudy
   section-adds H p s line number studies plain old new b n k held sec =
       let there = subst (λ (x : Document). IsSection tells x number old new) b sec in
       let at : number ≡ suc p.studies = n ∙ ap suc k in
@@ -104,7 +127,7 @@ module _ (tells : Plainly → ℕ → List ℕ → Type 0) (refusal : ℕ → Li
 
   pub section-stops : (p : Point) (s : State) (line : List ℕ) (number studies : ℕ) (plain : Plainly) (old new : Option (List ℕ))
       → s.document ≡ study plain → number ≡ suc studies → studies ≡ p.studies → IsSectionPart tells s.document number old new
-      → Stops (IsStudyTold tells refusal p s line) old new WriteDevice
+      → Stops (IsStudyTold tells refusal remark p s line) old new WriteDevice
   section-stops p s line number studies plain old new b n k sec =
       let there = subst (λ (x : Document). IsSectionPart tells x number old new) b sec in
       let at : number ≡ suc p.studies = n ∙ ap suc k in
@@ -112,28 +135,28 @@ module _ (tells : Plainly → ℕ → List ℕ → Type 0) (refusal : ℕ → Li
 
   -- a study that is refused
   pub left-out : (p : Point) (s : State) (line : List ℕ) (plain : Plainly) (why : Refusal) → s.document ≡ study plain → IsLeftOut s plain why
-      → IsStudyTold tells refusal p s line (refusal_added tells refusal p line (refused s why))
+      → IsStudyTold tells refusal remark p s line (refusal_added tells refusal remark p line (refused s why))
   left-out p s line plain why b h = inr (plain, why, b, h, refl)
 
   -- ---- after the script's reply
 
   pub checked-refused : (p : Point) (line : List ℕ) (o : Outside) (reply : Reply) → IsReplyIn true p.state line o reply → reply.refused ≡ true
-      → IsAddedAs tells refusal Checked p line (refusal_added tells refusal p line reply)
-  checked-refused p line o reply is e = let a = refusal_added tells refusal p line reply in
-      (o, reply, is, subst (λ b. IsCheckedAfter tells refusal p line reply b a) (sym e) refl)
+      → IsAddedAs tells refusal remark Checked p line (refusal_added tells refusal remark p line reply)
+  checked-refused p line o reply is e = let a = refusal_added tells refusal remark p line reply in
+      (o, reply, is, subst (λ b. IsCheckedAfter tells refusal remark p line reply b a) (sym e) refl)
 
   pub pgn-refused : (p : Point) (line : List ℕ) (o : Outside) (reply : Reply) → IsReplyIn true p.state line o reply → reply.refused ≡ true
-      → IsAddedAs tells refusal Study p line (refusal_added tells refusal p line reply)
-  pgn-refused p line o reply is e = let a = refusal_added tells refusal p line reply in
-      (o, reply, is, subst (λ b. IsPgnAfter tells refusal p line reply b a) (sym e) refl)
+      → IsAddedAs tells refusal remark Study p line (refusal_added tells refusal remark p line reply)
+  pgn-refused p line o reply is e = let a = refusal_added tells refusal remark p line reply in
+      (o, reply, is, subst (λ b. IsPgnAfter tells refusal remark p line reply b a) (sym e) refl)
 
   pub pgn-told : (p : Point) (line : List ℕ) (o : Outside) (reply : Reply) (a : Added) → IsReplyIn true p.state line o reply → reply.refused ≡ false
-      → IsStudyTold tells refusal p reply.state line a → IsAddedAs tells refusal Study p line a
-  pgn-told p line o reply a is e h = (o, reply, is, subst (λ b. IsPgnAfter tells refusal p line reply b a) (sym e) h)
+      → IsStudyTold tells refusal remark p reply.state line a → IsAddedAs tells refusal remark Study p line a
+  pgn-told p line o reply a is e h = (o, reply, is, subst (λ b. IsPgnAfter tells refusal remark p line reply b a) (sym e) h)
 
   pub replied-adds : (I : Added → Type 0) (H : State → Type 0) (p : Point) (line : List ℕ) (number : ℕ) (bytes : List ℕ) (was : Bool)
       (r : Result Told RunFault) (old new : Option (List ℕ))
-      → ((o : Outside) (reply : Reply) → IsReplyIn true p.state line o reply → reply.refused ≡ true → I (refusal_added tells refusal p line reply))
+      → ((o : Outside) (reply : Reply) → IsReplyIn true p.state line o reply → reply.refused ≡ true → I (refusal_added tells refusal remark p line reply))
       → number ≡ suc p.lines → was ≡ true → IsReplied p.state line H bytes was
       → IfOk r (RefusalWritten (refusal number line bytes) old new) → IfOk r (Adds I H old new)
   replied-adds I H p line number bytes was r old new so n was-true (o, reply, is, b, held, same) h =
@@ -141,17 +164,17 @@ module _ (tells : Plainly → ℕ → List ℕ → Type 0) (refusal : ℕ → Li
 
   pub replied-stops : (I : Added → Type 0) (H : State → Type 0) (p : Point) (line : List ℕ) (number : ℕ) (bytes : List ℕ) (was : Bool)
       (r : Result Told RunFault) (old new : Option (List ℕ))
-      → ((o : Outside) (reply : Reply) → IsReplyIn true p.state line o reply → reply.refused ≡ true → I (refusal_added tells refusal p line reply))
+      → ((o : Outside) (reply : Reply) → IsReplyIn true p.state line o reply → reply.refused ≡ true → I (refusal_added tells refusal remark p line reply))
       → number ≡ suc p.lines → was ≡ true → IsReplied p.state line H bytes was
       → IfErr r (StopsIn (refusal number line bytes) old new) → IfErr r (Stops I old new)
   replied-stops I H p line number bytes was r old new so n was-true (o, reply, is, b, held, same) h =
       refusal-stops I p line reply number bytes r old new n b (so o reply is (sym same ∙ was-true)) h
 
   pub checked-nothing : (H : State → Type 0) (p : Point) (line : List ℕ) (bytes : List ℕ) (was : Bool) (out : Option (List ℕ))
-      → was ≡ false → IsReplied p.state line H bytes was → Adds (IsAddedAs tells refusal Checked p line) H out out Nothing
+      → was ≡ false → IsReplied p.state line H bytes was → Adds (IsAddedAs tells refusal remark Checked p line) H out out Nothing
   checked-nothing H p line bytes was out was-false (o, reply, is, b, held, same) =
       let a = nothing_added p reply.state in
-      (a, (o, reply, is, subst (λ x. IsCheckedAfter tells refusal p line reply x a) (sym (sym same ∙ was-false)) refl), Appends-nil out, held, refl)
+      (a, (o, reply, is, subst (λ x. IsCheckedAfter tells refusal remark p line reply x a) (sym (sym same ∙ was-false)) refl), Appends-nil out, held, refl)
 
 -- the reply that a session wrote into memory
 pub replied : (H : State → Type 0) (s : State) (line old taken : List ℕ) (was : Bool) → old ≡ []

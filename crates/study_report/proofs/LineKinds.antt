@@ -1,6 +1,6 @@
 -- What is known of a line, by its kind.
 use Rattle.std.proofs.Common.{◌≡◌, ℕ, Bool, true, false, ◌&&◌, List, Option, Some, None, Ok, Err, refl, sym, ap, ◌∙◌}
-use Rattle.std.specs.Prelude.{IfSome}
+use Rattle.std.specs.Prelude.{IfSome, if◌then◌else◌}
 use Rattle.study_material.specs.declared.class.Class.{Class}
 use Rattle.study_command.specs.declared.command.TableCommand.TheVariants.{Build, Load, Save, Verify}
 use Rattle.study_command.specs.Parser.{Asks, fen_command, node_query, node_command, table_command, stipulate, insert, tag, solve, pgn, command_of}
@@ -10,10 +10,22 @@ use Rattle.study_reply.specs.declared.refusal.Refusal.{Refusal}
 use Rattle.study_reply.specs.declared.refusal.Refusal.TheVariants.{NoStudy, OutOfMemory}
 use Rattle.study_script.specs.State.{State, Document, empty, start, study, Outside, quiet, no_path, no_room, no_room_for, unread, unopened}
 use Rattle.study_script.specs.State.{cut_off, file, header}
-use Rattle.study_script.specs.Replies.{Reply, refused, class_told, IsPgnReply, IsReplyWhere, IsReplyIn, begins_position, emptied, kept_apart}
-use Rattle.study_report.specs.declared.kind.Kind.TheVariants.{PassedOver, Study, Checked}
-use Rattle.study_report.specs.Told.{kind_in, class_kind}
+use Rattle.study_script.specs.Replies.{Reply, refused, class_told, IsPgnReply, IsReplyWhere, IsReplyIn, begins_position, emptied}
+use Rattle.study_report.specs.declared.kind.Kind.{Kind}
+use Rattle.study_report.specs.declared.kind.Kind.TheVariants.{Remark, PassedOver, Study, Checked}
+use Rattle.study_report.specs.Remarks.{is_remark}
+use Rattle.study_report.specs.Told.{kind_in, line_kind, class_kind}
 use Rattle.study_report.specs.Written.{none_trusted}
+
+-- ---- a line that is no remark
+
+-- it is of the kind of its command
+plain-kind : (b : Bool) (k kind : Kind) → (Remark ≡ kind → ⊥) → (if b then Remark else k) ≡ kind → k ≡ kind
+plain-kind true k kind other e = absurd (other e)
+plain-kind false k kind other e = e
+
+plain-study : (line : List ℕ) → line_kind line ≡ Study → kind_in (command_of line) ≡ Study
+plain-study line k = plain-kind (is_remark line) (kind_in (command_of line)) Study (λ e. absurd cc) k
 
 -- ---- a line that is answered opens no file
 
@@ -37,11 +49,15 @@ trusted-ask (Ok (Some (tag name text))) h = tt
 trusted-ask (Ok (Some (solve count steps))) h = tt
 trusted-ask (Ok (Some pgn)) h = tt
 
-pub trusted-checked : (line : List ℕ) → kind_in (command_of line) ≡ Checked → IsTrusted none_trusted line
-trusted-checked line k = trusted-ask (command_of line) (λ e. let bad : Checked ≡ PassedOver = sym k ∙ e in absurd cc)
+pub trusted-checked : (line : List ℕ) → line_kind line ≡ Checked → IsTrusted none_trusted line
+trusted-checked line k =
+    let asked : kind_in (command_of line) ≡ Checked = plain-kind (is_remark line) (kind_in (command_of line)) Checked (λ e. absurd cc) k in
+    trusted-ask (command_of line) (λ e. let bad : Checked ≡ PassedOver = sym asked ∙ e in absurd cc)
 
-pub trusted-study : (line : List ℕ) → kind_in (command_of line) ≡ Study → IsTrusted none_trusted line
-trusted-study line k = trusted-ask (command_of line) (λ e. let bad : Study ≡ PassedOver = sym k ∙ e in absurd cc)
+pub trusted-study : (line : List ℕ) → line_kind line ≡ Study → IsTrusted none_trusted line
+trusted-study line k =
+    let asked = plain-study line k in
+    trusted-ask (command_of line) (λ e. let bad : Study ≡ PassedOver = sym asked ∙ e in absurd cc)
 
 -- ---- a line that reports a study
 
@@ -88,9 +104,9 @@ pgn-finds s (file bytes) (study old) reply r f = found-study s old reply r
 pgn-finds s (header told) (study old) reply r f = found-study s old reply r
 
 -- the same if studies are kept apart
-pub study-finds : (s : State) (line : List ℕ) (o : Outside) (reply : Reply) → kind_in (command_of line) ≡ Study → IsReplyIn true s line o reply
+pub study-finds : (s : State) (line : List ℕ) (o : Outside) (reply : Reply) → line_kind line ≡ Study → IsReplyIn true s line o reply
     → reply.refused ≡ false → Finds s s.document reply
 study-finds s line o reply kind (plain, is, e) was =
     let accepted : plain.refused ≡ false = sym (ap (λ (r : Reply). r.refused) e) ∙ was in
-    let found = pgn-finds s o s.document plain (pgn-asked s o plain (command_of line) kind is) accepted in
+    let found = pgn-finds s o s.document plain (pgn-asked s o plain (command_of line) (plain-study line kind) is) accepted in
     (found.0, ap (λ (r : Reply). r.state) e ∙ ap (λ (b : Bool). emptied (b && begins_position line) plain.state) accepted ∙ found.1)

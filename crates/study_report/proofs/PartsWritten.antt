@@ -1,15 +1,15 @@
 -- What is written for lines, whatever the tables say.
-use Rattle.std.proofs.Common.{◌≡◌, ◌⊎◌, ℕ, zero, suc, ◌+◌, ◌-◌, ◌<◌, ◌≤◌, Bool, true, false}
+use Rattle.std.proofs.Common.{◌≡◌, ◌⊎◌, ℕ, suc, ◌+◌, ◌-◌, ◌≤◌, Bool, true, false}
 use Rattle.std.proofs.Common.{List, [], ◌∷◌, ◌++◌, length, take, drop, Option, Some, None, Result, Ok}
 use Rattle.std.proofs.Common.{Err, inl, inr, refl, sym, ap, subst, ◌∙◌, arith, append_assoc}
-use Rattle.std.specs.Prelude.{IfSome, IfOk, IfErr, OnOk, codes, if◌then◌else◌}
+use Rattle.std.specs.Prelude.{IfSome, IfOk, IfErr, codes, if◌then◌else◌}
 use Rattle.std.specs.Io.KnownBytes.{Appends}
 use Rattle.std.proofs.KnownBytes.{Appends-nil, Appends-trans}
 use Rattle.std.proofs.lemmas.List.{append-nil, length-take-le}
 use Rattle.std.proofs.lemmas.List.Sums.{sum_by_push, sum_by-cons}
 use Rattle.std.proofs.lemmas.Result.{IfOk-weaker}
 use Rattle.study_marks.specs.Edits.{Plainly}
-use Rattle.study_command.specs.Lines.{script_lines, TakesLine, BeginsLong, GaveFeeds}
+use Rattle.study_command.specs.Lines.{script_lines, TakesLine, GaveFeeds}
 use Rattle.study_command.specs.Parser.{Asks, command_of}
 use Rattle.study_reply.specs.declared.refusal.Refusal.{Refusal}
 use Rattle.study_reply.specs.declared.refusal.Refusal.TheVariants.{Form, NotAClass}
@@ -17,17 +17,17 @@ use Rattle.study_reply.specs.Names.{words_of}
 use Rattle.study_reply.specs.Words.{reply_line}
 use Rattle.study_script.specs.declared.running.RunFault.{RunFault}
 use Rattle.study_script.specs.declared.running.RunFault.TheVariants.{ReadDevice, WriteDevice, LineTooLong, TooManyLines, OutOfMemory}
-use Rattle.study_script.specs.State.{Document, empty, start, study}
-use Rattle.study_script.specs.Written.{Piece, silent, error_of, IsPieceWhere, IsPiece, IsWritten}
+use Rattle.study_script.specs.State.{Document, study}
+use Rattle.study_script.specs.Written.{Piece, IsPieceWhere, IsWritten}
 use Rattle.study_script.proofs.FirstLines.{first_left, none_left}
 use Rattle.study_report.specs.declared.kind.Kind.{Kind}
-use Rattle.study_report.specs.declared.kind.Kind.TheVariants.{PassedOver, NoClass, Study, Checked}
+use Rattle.study_report.specs.declared.kind.Kind.TheVariants.{Remark, PassedOver, NoClass, Study, Checked}
 use Rattle.study_report.specs.declared.told.Told.{Told}
-use Rattle.study_report.specs.declared.told.Told.TheVariants.{Nothing, Study as AStudy, Refusal as ARefusal}
+use Rattle.study_report.specs.declared.told.Told.TheVariants.{Nothing, Study as AStudy}
 use Rattle.study_report.specs.Told.{lacks_study, study_count, refusal_count}
 use Rattle.study_report.specs.Parts.{Part, nothing_part, study_part, parts_text, part_studies, part_refusals, WritesPart, IsReplyPiece, refused_part}
-use Rattle.study_report.specs.Parts.{checked_part, IsPartAs, IsPart, AreParts, AreWritten, Fits}
-use Rattle.study_report.proofs.LineAdds.{RefusalWritten}
+use Rattle.study_report.specs.Parts.{remark_part, checked_part, IsPartAs, IsPart, AreParts, Fits}
+use Rattle.study_report.proofs.LineAdds.{RefusalWritten, RemarkWritten}
 
 -- ---- a line
 
@@ -49,98 +49,106 @@ pub on-err : {A E : Type 0} (r : Result A E) (P : Type 0) → P → IfErr r (λ 
 on-err (Ok x) P h = tt
 on-err (Err e) P h = h
 
-module _ (form : ℕ → List ℕ → Type 0) (refusal : ℕ → List ℕ → List ℕ → List ℕ) where
+module _ (form : ℕ → List ℕ → Type 0) (refusal : ℕ → List ℕ → List ℕ → List ℕ) (remark : List ℕ → List ℕ) where
   pub passed-part : (k : Kind) (line : List ℕ) (number next : ℕ) (out : Option (List ℕ)) → PassedOver ≡ k
-      → WritesPart (IsPartAs form refusal k number next line) out out Nothing
+      → WritesPart (IsPartAs form refusal remark k number next line) out out Nothing
   passed-part k line number next out e =
-      (nothing_part, subst (λ (x : Kind). IsPartAs form refusal x number next line nothing_part) e refl, Appends-nil out, refl)
+      (nothing_part, subst (λ (x : Kind). IsPartAs form refusal remark x number next line nothing_part) e refl, Appends-nil out, refl)
+
+  pub remark-part : {E : Type 0} (k : Kind) (line : List ℕ) (number next : ℕ) (r : Result Told E) (old new : Option (List ℕ)) → Remark ≡ k
+      → IfOk r (RemarkWritten (remark line) old new) → IfOk r (WritesPart (IsPartAs form refusal remark k number next line) old new)
+  remark-part k line number next r old new e h =
+      let part = remark_part form refusal remark line in
+      IfOk-weaker r (RemarkWritten (remark line) old new) (WritesPart (IsPartAs form refusal remark k number next line) old new)
+      (λ told (t, wrote). (part, subst (λ (x : Kind). IsPartAs form refusal remark x number next line part) e refl, wrote, t)) h
 
   pub no-class-part : {E : Type 0} (k : Kind) (line : List ℕ) (number next : ℕ) (r : Result Told E) (old new : Option (List ℕ)) → NoClass ≡ k
       → IfOk r (RefusalWritten (refusal number line (reply_line (codes "error ") (words_of NotAClass))) old new)
-      → IfOk r (WritesPart (IsPartAs form refusal k number next line) old new)
+      → IfOk r (WritesPart (IsPartAs form refusal remark k number next line) old new)
   no-class-part k line number next r old new e h =
-      let part = refused_part form refusal number line (reply_line (codes "error ") (words_of NotAClass)) in
+      let part = refused_part form refusal remark number line (reply_line (codes "error ") (words_of NotAClass)) in
       IfOk-weaker r (RefusalWritten (refusal number line (reply_line (codes "error ") (words_of NotAClass))) old new)
-      (WritesPart (IsPartAs form refusal k number next line) old new)
-      (λ told (t, wrote). (part, subst (λ (x : Kind). IsPartAs form refusal x number next line part) e refl, wrote, t)) h
+      (WritesPart (IsPartAs form refusal remark k number next line) old new)
+      (λ told (t, wrote). (part, subst (λ (x : Kind). IsPartAs form refusal remark x number next line part) e refl, wrote, t)) h
 
   pub part-of-kind : {E : Type 0} (j k : Kind) (line : List ℕ) (number next : ℕ) (r : Result Told E) (old new : Option (List ℕ)) → j ≡ k
-      → IfOk r (WritesPart (IsPartAs form refusal j number next line) old new) → IfOk r (WritesPart (IsPartAs form refusal k number next line) old new)
+      → IfOk r (WritesPart (IsPartAs form refusal remark j number next line) old new)
+      → IfOk r (WritesPart (IsPartAs form refusal remark k number next line) old new)
   part-of-kind j k line number next r old new e h =
-      subst (λ (x : Kind). IfOk r (WritesPart (IsPartAs form refusal x number next line) old new)) e h
+      subst (λ (x : Kind). IfOk r (WritesPart (IsPartAs form refusal remark x number next line) old new)) e h
 
   -- a line is refused by these words
   pub refusal-part : {E : Type 0} (line : List ℕ) (number next : ℕ) (words : List ℕ) (r : Result Told E) (old new : Option (List ℕ))
       → IfOk r (RefusalWritten (refusal number line (reply_line (codes "error ") words)) old new)
-      → IfOk r (WritesPart (IsPartAs form refusal Study number next line) old new)
+      → IfOk r (WritesPart (IsPartAs form refusal remark Study number next line) old new)
   refusal-part line number next words r old new h =
       IfOk-weaker r (RefusalWritten (refusal number line (reply_line (codes "error ") words)) old new)
-      (WritesPart (IsPartAs form refusal Study number next line) old new)
-      (λ told (e, wrote). (refused_part form refusal number line (reply_line (codes "error ") words), inl (words, refl), wrote, e)) h
+      (WritesPart (IsPartAs form refusal remark Study number next line) old new)
+      (λ told (e, wrote). (refused_part form refusal remark number line (reply_line (codes "error ") words), inl (words, refl), wrote, e)) h
 
   pub refusal-of-reply : {E : Type 0} (line : List ℕ) (number next : ℕ) (bytes : List ℕ) (was : Bool) (r : Result Told E) (old new : Option (List ℕ))
       → IsReplyPiece line bytes was → was ≡ true → IfOk r (RefusalWritten (refusal number line bytes) old new)
-      → IfOk r (WritesPart (IsPartAs form refusal Study number next line) old new)
+      → IfOk r (WritesPart (IsPartAs form refusal remark Study number next line) old new)
   refusal-of-reply line number next bytes was r old new (piece, is, b, same) so h =
       let w = refused-words (command_of line) piece is (sym same ∙ so) in
       refusal-part line number next w.0 r old new
       (subst (λ (t : List ℕ). IfOk r (RefusalWritten (refusal number line t) old new)) (b ∙ w.1) h)
 
   checked-if : (number : ℕ) (line : List ℕ) (piece : Piece) → piece.refused ≡ true
-      → refused_part form refusal number line piece.text ≡ checked_part form refusal number line piece
+      → refused_part form refusal remark number line piece.text ≡ checked_part form refusal remark number line piece
   checked-if number line piece e = go piece.refused e
     where
-      go : (b : Bool) → b ≡ true → refused_part form refusal number line piece.text
-          ≡ (if b then refused_part form refusal number line piece.text else nothing_part)
+      go : (b : Bool) → b ≡ true → refused_part form refusal remark number line piece.text
+          ≡ (if b then refused_part form refusal remark number line piece.text else nothing_part)
       go true e = refl
       go false e = absurd cc
 
-  checked-not : (number : ℕ) (line : List ℕ) (piece : Piece) → piece.refused ≡ false → nothing_part ≡ checked_part form refusal number line piece
+  checked-not : (number : ℕ) (line : List ℕ) (piece : Piece) → piece.refused ≡ false → nothing_part ≡ checked_part form refusal remark number line piece
   checked-not number line piece e = go piece.refused e
     where
-      go : (b : Bool) → b ≡ false → nothing_part ≡ (if b then refused_part form refusal number line piece.text else nothing_part)
+      go : (b : Bool) → b ≡ false → nothing_part ≡ (if b then refused_part form refusal remark number line piece.text else nothing_part)
       go true e = absurd cc
       go false e = refl
 
   pub checked-refusal : {E : Type 0} (line : List ℕ) (number next : ℕ) (bytes : List ℕ) (was : Bool) (r : Result Told E) (old new : Option (List ℕ))
       → IsReplyPiece line bytes was → was ≡ true → IfOk r (RefusalWritten (refusal number line bytes) old new)
-      → IfOk r (WritesPart (IsPartAs form refusal Checked number next line) old new)
+      → IfOk r (WritesPart (IsPartAs form refusal remark Checked number next line) old new)
   checked-refusal line number next bytes was r old new (piece, is, b, same) so h =
-      IfOk-weaker r (RefusalWritten (refusal number line bytes) old new) (WritesPart (IsPartAs form refusal Checked number next line) old new)
+      IfOk-weaker r (RefusalWritten (refusal number line bytes) old new) (WritesPart (IsPartAs form refusal remark Checked number next line) old new)
       (λ told (e, wrote). (
-        refused_part form refusal number line piece.text,
+        refused_part form refusal remark number line piece.text,
         (piece, is, checked-if number line piece (sym same ∙ so)),
         subst (λ (t : List ℕ). Appends old new (refusal number line t)) b wrote,
         e,
       )) h
 
   pub checked-silent : (line : List ℕ) (number next : ℕ) (bytes : List ℕ) (was : Bool) (out : Option (List ℕ))
-      → IsReplyPiece line bytes was → was ≡ false → WritesPart (IsPartAs form refusal Checked number next line) out out Nothing
+      → IsReplyPiece line bytes was → was ≡ false → WritesPart (IsPartAs form refusal remark Checked number next line) out out Nothing
   checked-silent line number next bytes was out (piece, is, b, same) so =
       (nothing_part, (piece, is, checked-not number line piece (sym same ∙ so)), Appends-nil out, refl)
 
   -- the study in the document is written
   pub study-in : (line : List ℕ) (number next : ℕ) (old new : Option (List ℕ)) → (text : List ℕ) × form next text × Appends old new text
-      → WritesPart (IsPartAs form refusal Study number next line) old new AStudy
+      → WritesPart (IsPartAs form refusal remark Study number next line) old new AStudy
   study-in line number next old new (text, is, wrote) = (study_part text, inr (text, is, refl), wrote, refl)
 
   -- the study is refused
   pub left-out-part : {E : Type 0} (line : List ℕ) (number next : ℕ) (why : Refusal) (r : Result Told E) (old mid new : Option (List ℕ)) → mid ≡ old
       → IfOk r (RefusalWritten (refusal number line (reply_line (codes "error ") (words_of why))) mid new)
-      → IfOk r (WritesPart (IsPartAs form refusal Study number next line) old new)
+      → IfOk r (WritesPart (IsPartAs form refusal remark Study number next line) old new)
   left-out-part line number next why r old mid new same h =
-      subst (λ (x : Option (List ℕ)). IfOk r (WritesPart (IsPartAs form refusal Study number next line) x new)) same
+      subst (λ (x : Option (List ℕ)). IfOk r (WritesPart (IsPartAs form refusal remark Study number next line) x new)) same
       (refusal-part line number next (words_of why) r mid new h)
 
   -- ---- lines
 
-  parts-more : (n k : ℕ) (lines : List (List ℕ)) (parts : List Part) (line : List ℕ) (part : Part) → AreParts form refusal n k lines parts
-      → IsPart form refusal (suc (n + length lines)) (suc (k + part_studies parts)) line part
-      → AreParts form refusal n k (lines ++ line ∷ []) (parts ++ part ∷ [])
+  parts-more : (n k : ℕ) (lines : List (List ℕ)) (parts : List Part) (line : List ℕ) (part : Part) → AreParts form refusal remark n k lines parts
+      → IsPart form refusal remark (suc (n + length lines)) (suc (k + part_studies parts)) line part
+      → AreParts form refusal remark n k (lines ++ line ∷ []) (parts ++ part ∷ [])
   parts-more n k [] [] line part h r =
       let e : suc (n + 0) ≡ suc n = omega arith in
       let f : suc (k + 0) ≡ suc k = omega arith in
-      (subst (λ i. IsPart form refusal (suc n) i line part) f (subst (λ i. IsPart form refusal i (suc (k + 0)) line part) e r), tt)
+      (subst (λ i. IsPart form refusal remark (suc n) i line part) f (subst (λ i. IsPart form refusal remark i (suc (k + 0)) line part) e r), tt)
   parts-more n k [] (x ∷ parts) line part h r = absurd h
   parts-more n k (l ∷ lines) [] line part h r = absurd h
   parts-more n k (l ∷ lines) (x ∷ parts) line part h r =
@@ -150,8 +158,8 @@ module _ (form : ℕ → List ℕ → Type 0) (refusal : ℕ → List ℕ → Li
       let f : suc (k + part_studies (x ∷ parts)) ≡ suc ((k + study_count x.told) + part_studies parts) = omega (arith, split) in (
         h.0,
         parts-more (suc n) (k + study_count x.told) lines parts line part h.1
-            (subst (λ i. IsPart form refusal (suc (suc n + length lines)) i line part) f
-            (subst (λ i. IsPart form refusal i (suc (k + part_studies (x ∷ parts))) line part) e r)),
+            (subst (λ i. IsPart form refusal remark (suc (suc n + length lines)) i line part) f
+            (subst (λ i. IsPart form refusal remark i (suc (k + part_studies (x ∷ parts))) line part) e r)),
       )
 
   text-more : (parts : List Part) (part : Part) → parts_text (parts ++ part ∷ []) ≡ parts_text parts ++ part.text
@@ -163,7 +171,7 @@ module _ (form : ℕ → List ℕ → Type 0) (refusal : ℕ → List ℕ → Li
     pub left_is : drop n all ≡ left
     pub within : n ≤ length all
     pub parts : List Part
-    pub are : AreParts form refusal 0 0 (take n all) parts
+    pub are : AreParts form refusal remark 0 0 (take n all) parts
     pub written : Appends old new (parts_text parts)
     pub refused_is : refused ≡ part_refusals parts
     pub studies_are : studies ≡ part_studies parts
@@ -184,7 +192,7 @@ module _ (form : ℕ → List ℕ → Type 0) (refusal : ℕ → List ℕ → Li
 
   pub parts_more : (script now next old mid new : Option (List ℕ)) (line : List ℕ) (n number refused refused' studies studies' : ℕ) (told : Told)
       → HasParts script now old mid n refused studies → TakesLine now next true line → number ≡ n + 1
-      → WritesPart (IsPart form refusal number (studies + 1) line) mid new told
+      → WritesPart (IsPart form refusal remark number (studies + 1) line) mid new told
       → refused' ≡ refused + refusal_count told → studies' ≡ studies + study_count told
       → HasParts script next old new (n + 1) refused' studies'
   parts_more None now next old mid new line n number refused refused' studies studies' told r t at w k j = record { known = tt }
@@ -201,8 +209,8 @@ module _ (form : ℕ → List ℕ → Type 0) (refusal : ℕ → List ℕ → Li
       let len : length (take n all) ≡ n = length-take-le n all le in
       let at-line : number ≡ suc (0 + length (take n all)) = omega (arith, at, len) in
       let at-study : studies + 1 ≡ suc (0 + part_studies v.parts) = omega (arith, v.studies_are) in
-      let there = subst (λ i. IsPart form refusal (suc (0 + length (take n all))) i line part) at-study
-      (subst (λ i. IsPart form refusal i (studies + 1) line part) at-line is) in
+      let there = subst (λ i. IsPart form refusal remark (suc (0 + length (take n all))) i line part) at-study
+      (subst (λ i. IsPart form refusal remark i (studies + 1) line part) at-line is) in
       record {
         known = record {
           left_is = ap (λ i. drop i all) e ∙ f.2;
@@ -221,17 +229,17 @@ module _ (form : ℕ → List ℕ → Type 0) (refusal : ℕ → List ℕ → Li
 
   pub parts_end : (left script now next old new : Option (List ℕ)) (line : List ℕ) (n refused studies : ℕ)
       → HasParts script now old new n refused studies → TakesLine now next false line
-      → IfSome script (λ bytes. Fits form refusal bytes left old new (Ok (record { lines = n; refused = refused })))
+      → IfSome script (λ bytes. Fits form refusal remark bytes left old new (Ok (record { lines = n; refused = refused })))
   parts_end left None now next old new line n refused studies r t = tt
   parts_end left (Some bs) None next old new line n refused studies r t = absurd r.known
   parts_end left (Some bs) (Some rest) None old new line n refused studies r t = absurd t
   parts_end left (Some bs) (Some rest) (Some rest') old new line n refused studies r t =
       let v = r.known in
       let d = none_left (script_lines bs) n v.within (v.left_is ∙ t) in
-      (v.parts, subst (λ (ls : List (List ℕ)). AreParts form refusal 0 0 ls v.parts) d.0 v.are, v.written, v.refused_is)
+      (v.parts, subst (λ (ls : List (List ℕ)). AreParts form refusal remark 0 0 ls v.parts) d.0 v.are, v.written, v.refused_is)
 
   pub parts_long : (left script now old new : Option (List ℕ)) (n refused studies : ℕ) → HasParts script now old new n refused studies
-      → IfSome script (λ bytes. Fits form refusal bytes left old new (Err (LineTooLong (n + 1))))
+      → IfSome script (λ bytes. Fits form refusal remark bytes left old new (Err (LineTooLong (n + 1))))
   parts_long left None now old new n refused studies r = tt
   parts_long left (Some bs) None old new n refused studies r = absurd r.known
   parts_long left (Some bs) (Some rest) old new n refused studies r =
@@ -240,14 +248,14 @@ module _ (form : ℕ → List ℕ → Type 0) (refusal : ℕ → List ℕ → Li
       (refused, (v.parts, rw e v.are, v.written, v.refused_is))
 
   pub parts_read : (left script now old new : Option (List ℕ)) (n refused studies : ℕ) → HasParts script now old new n refused studies
-      → GaveFeeds script left n → IfSome script (λ bytes. Fits form refusal bytes left old new (Err ReadDevice))
+      → GaveFeeds script left n → IfSome script (λ bytes. Fits form refusal remark bytes left old new (Err ReadDevice))
   parts_read left None now old new n refused studies r g = tt
   parts_read left (Some bs) None old new n refused studies r g = absurd r.known
   parts_read left (Some bs) (Some rest) old new n refused studies r g =
       let v = r.known in (n, v.within, g, refused, (v.parts, v.are, v.written, v.refused_is))
 
   pub parts_many : (left script now old new : Option (List ℕ)) (refused studies : ℕ) → HasParts script now old new 100000 refused studies
-      → IfSome script (λ bytes. Fits form refusal bytes left old new (Err TooManyLines))
+      → IfSome script (λ bytes. Fits form refusal remark bytes left old new (Err TooManyLines))
   parts_many left None now old new refused studies r = tt
   parts_many left (Some bs) None old new refused studies r = absurd r.known
   parts_many left (Some bs) (Some rest) old new refused studies r =
@@ -255,17 +263,17 @@ module _ (form : ℕ → List ℕ → Type 0) (refusal : ℕ → List ℕ → Li
 
   -- if the writer failed, or there was no memory, nothing is claimed
   pub parts_stop : (left old new script : Option (List ℕ)) (fault : RunFault) → (fault ≡ WriteDevice) ⊎ (fault ≡ OutOfMemory)
-      → IfSome script (λ bytes. Fits form refusal bytes left old new (Err fault))
+      → IfSome script (λ bytes. Fits form refusal remark bytes left old new (Err fault))
   parts_stop left old new script fault (inl e) =
-      subst (λ (f : RunFault). IfSome script (λ bytes. Fits form refusal bytes left old new (Err f))) (sym e) (of_writer script)
+      subst (λ (f : RunFault). IfSome script (λ bytes. Fits form refusal remark bytes left old new (Err f))) (sym e) (of_writer script)
     where
-      of_writer : (s : Option (List ℕ)) → IfSome s (λ bytes. Fits form refusal bytes left old new (Err WriteDevice))
+      of_writer : (s : Option (List ℕ)) → IfSome s (λ bytes. Fits form refusal remark bytes left old new (Err WriteDevice))
       of_writer None = tt
       of_writer (Some bytes) = tt
   parts_stop left old new script fault (inr e) =
-      subst (λ (f : RunFault). IfSome script (λ bytes. Fits form refusal bytes left old new (Err f))) (sym e) (of_memory script)
+      subst (λ (f : RunFault). IfSome script (λ bytes. Fits form refusal remark bytes left old new (Err f))) (sym e) (of_memory script)
     where
-      of_memory : (s : Option (List ℕ)) → IfSome s (λ bytes. Fits form refusal bytes left old new (Err OutOfMemory))
+      of_memory : (s : Option (List ℕ)) → IfSome s (λ bytes. Fits form refusal remark bytes left old new (Err OutOfMemory))
       of_memory None = tt
       of_memory (Some bytes) = tt
 

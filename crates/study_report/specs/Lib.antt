@@ -1,4 +1,5 @@
 pub mod Lines
+pub mod Remarks
 pub mod Told
 pub mod Written
 pub mod Outcome

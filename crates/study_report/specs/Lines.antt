@@ -1,5 +1,5 @@
 -- A report in lines of plain text.
-use Rattle.std.specs.Prelude.{ℕ, List, ◌++◌, drop, codes, decimal}
+use Rattle.std.specs.Prelude.{ℕ, List, [], ◌++◌, drop, codes, decimal}
 use Rattle.study_review.specs.Review.{BeginsReview}
 
 -- `refused 7 NoTable KRK`: the number of the line, and the script's reply without `error `
@@ -9,3 +9,7 @@ refusal_line number reply = codes "refused " ++ (decimal number ++ (codes " " ++
 -- each review begins with the number of its study, so no review is a refusal
 abbrev pub IsReviewForm : ℕ → List ℕ → Type 0
 IsReviewForm number text = BeginsReview number text
+
+-- a report of facts shows no remark
+abbrev pub no_remark : List ℕ → List ℕ
+no_remark line = []

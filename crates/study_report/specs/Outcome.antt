@@ -40,13 +40,13 @@ abbrev pub point_after : Point → List Added → Point
 point_after p [] = p
 point_after p (a ∷ more) = point_after a.after more
 
-module _ (tells : Plainly → ℕ → List ℕ → Type 0) (refusal : ℕ → List ℕ → List ℕ → List ℕ) where
+module _ (tells : Plainly → ℕ → List ℕ → Type 0) (refusal : ℕ → List ℕ → List ℕ → List ℕ) (remark : List ℕ → List ℕ) where
   -- the additions of lines, one for each; each line starts at the point after the one before it
   abbrev pub AreAdded : Point → List (List ℕ) → List Added → Type 0
   AreAdded p [] [] = Unit {0}
   AreAdded p [] (a ∷ more) = ⊥
   AreAdded p (line ∷ lines) [] = ⊥
-  AreAdded p (line ∷ lines) (a ∷ more) = IsAdded tells refusal p line a × AreAdded a.after lines more
+  AreAdded p (line ∷ lines) (a ∷ more) = IsAdded tells refusal remark p line a × AreAdded a.after lines more
 
   -- the text of the lines is written
   abbrev pub AreTold : Point → List (List ℕ) → Option (List ℕ) → Option (List ℕ) → Type 0
@@ -57,7 +57,7 @@ module _ (tells : Plainly → ℕ → List ℕ → Type 0) (refusal : ℕ → Li
   AreBrokenOff p lines line old new =
       AreShort lines × (length line ≤ 1024) × (added : List Added) × AreAdded p lines added
       × (mid : Option (List ℕ)) × Appends old mid (report_text added)
-      × (a : Added) × IsAdded tells refusal (point_after p added) line a × TakesPrefix mid new a.text
+      × (a : Added) × IsAdded tells refusal remark (point_after p added) line a × TakesPrefix mid new a.text
 
   -- the text of all lines of a script is written, and this holds of the state after them
   abbrev pub IsFollowed : State → List ℕ → Option (List ℕ) → Option (List ℕ) → (State → Type 0) → Type 0
@@ -74,7 +74,7 @@ module _ (tells : Plainly → ℕ → List ℕ → Type 0) (refusal : ℕ → Li
   abbrev pub StoppedAfter : Point → List (List ℕ) → ℕ → List Added → Option (List ℕ) → Option (List ℕ) → RunFault → Type 0
   StoppedAfter p lines n added old new WriteDevice =
       (mid : Option (List ℕ)) × Appends old mid (report_text added)
-      × IsSomeAnd (slice_get lines n) (λ line. (a : Added) × IsAdded tells refusal (point_after p added) line a × TakesPrefix mid new a.text)
+      × IsSomeAnd (slice_get lines n) (λ line. (a : Added) × IsAdded tells refusal remark (point_after p added) line a × TakesPrefix mid new a.text)
   StoppedAfter p lines n added old new (LineTooLong k) = (k ≡ n + 1) × Appends old new (report_text added)
   StoppedAfter p lines n added old new TooManyLines = (n ≡ 100000) × Appends old new (report_text added)
   StoppedAfter p lines n added old new fault = Appends old new (report_text added)

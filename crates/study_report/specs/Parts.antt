@@ -1,10 +1,9 @@
 -- What a report writes, whatever the state and its tables.
-use Rattle.std.specs.Prelude.{◌≡◌, ◌⊎◌, ℕ, suc, ◌+◌, ◌-◌, ◌≤◌, Bool, true, false, List, [], ◌∷◌, length, take}
+use Rattle.std.specs.Prelude.{◌≡◌, ◌⊎◌, ℕ, suc, ◌+◌, ◌-◌, ◌≤◌, Bool, List, [], ◌∷◌, length, take}
 use Rattle.std.specs.Prelude.{Option, Some, Result, Ok, Err, sum_by, if◌then◌else◌}
 use Rattle.std.specs.List.{flat_map}
 use Rattle.std.specs.Io.KnownBytes.{Appends}
 use Rattle.study_command.specs.Lines.{script_lines, GaveFeeds}
-use Rattle.study_command.specs.Parser.{command_of}
 use Rattle.study_reply.specs.declared.refusal.Refusal.TheVariants.{NotAClass}
 use Rattle.study_reply.specs.Names.{words_of}
 use Rattle.study_script.specs.declared.running.Summary.{Summary}
@@ -12,10 +11,10 @@ use Rattle.study_script.specs.declared.running.RunFault.{RunFault}
 use Rattle.study_script.specs.declared.running.RunFault.TheVariants.{ReadDevice, WriteDevice, LineTooLong, TooManyLines, OutOfMemory}
 use Rattle.study_script.specs.Written.{Piece, IsPiece, error_of}
 use Rattle.study_report.specs.declared.kind.Kind.{Kind}
-use Rattle.study_report.specs.declared.kind.Kind.TheVariants.{PassedOver, NoClass, Study, Checked}
+use Rattle.study_report.specs.declared.kind.Kind.TheVariants.{Remark, PassedOver, NoClass, Study, Checked}
 use Rattle.study_report.specs.declared.told.Told.{Told}
 use Rattle.study_report.specs.declared.told.Told.TheVariants.{Nothing, Study as AStudy, Refusal as ARefusal}
-use Rattle.study_report.specs.Told.{kind_in, study_count, refusal_count}
+use Rattle.study_report.specs.Told.{line_kind, study_count, refusal_count}
 
 -- the text written for a line, and what the line reports
 pub record Part : Type 0 where
@@ -46,17 +45,21 @@ WritesPart IsIt old new told = (part : Part) × IsIt part × Appends old new par
 abbrev pub IsReplyPiece : List ℕ → List ℕ → Bool → Type 0
 IsReplyPiece line bytes was_refused = (piece : Piece) × IsPiece line piece × (bytes ≡ piece.text) × (was_refused ≡ piece.refused)
 
-module _ (form : ℕ → List ℕ → Type 0) (refusal : ℕ → List ℕ → List ℕ → List ℕ) where
+module _ (form : ℕ → List ℕ → Type 0) (refusal : ℕ → List ℕ → List ℕ → List ℕ) (remark : List ℕ → List ℕ) where
   abbrev pub refused_part : ℕ → List ℕ → List ℕ → Part
   refused_part number line reply = record { text = refusal number line reply; told = ARefusal }
+
+  abbrev pub remark_part : List ℕ → Part
+  remark_part line = record { text = remark line; told = Nothing }
 
   -- an empty text if the script's reply is not an error
   abbrev pub checked_part : ℕ → List ℕ → Piece → Part
   checked_part number line piece = if piece.refused then refused_part number line piece.text else nothing_part
 
   -- The text for a line of this number, if the next study to be reported has that number: a `pgn` line reports a study, in the report's form, or is
-  -- refused; any other line reports nothing, or is refused.
+  -- refused; a remark is shown; any other line reports nothing, or is refused.
   abbrev pub IsPartAs : Kind → ℕ → ℕ → List ℕ → Part → Type 0
+  IsPartAs Remark number next line part = part ≡ remark_part line
   IsPartAs PassedOver number next line part = part ≡ nothing_part
   IsPartAs NoClass number next line part = part ≡ refused_part number line (error_of (words_of NotAClass)).text
   IsPartAs Study number next line part =
@@ -64,7 +67,7 @@ module _ (form : ℕ → List ℕ → Type 0) (refusal : ℕ → List ℕ → Li
   IsPartAs Checked number next line part = (piece : Piece) × IsPiece line piece × (part ≡ checked_part number line piece)
 
   abbrev pub IsPart : ℕ → ℕ → List ℕ → Part → Type 0
-  IsPart number next line part = IsPartAs (kind_in (command_of line)) number next line part
+  IsPart number next line part = IsPartAs (line_kind line) number next line part
 
   -- a part for each line, after so many lines and studies
   abbrev pub AreParts : ℕ → ℕ → List (List ℕ) → List Part → Type 0

@@ -1,5 +1,5 @@
 -- The report of the lines of a script.
-use Rattle.std.specs.Prelude.{◌≡◌, ◌⊎◌, ℕ, suc, Bool, true, false, List, [], ◌∷◌, ◌++◌, Option, Some, None, Ok}
+use Rattle.std.specs.Prelude.{◌≡◌, ◌⊎◌, ℕ, suc, Bool, true, false, List, [], ◌∷◌, ◌++◌, Option, Some, None, Ok, if◌then◌else◌}
 use Rattle.study_board.specs.Position.{Position}
 use Rattle.study_material.specs.declared.class.Class.{Class}
 use Rattle.study_material.specs.Needs.{NeedsClass}
@@ -14,10 +14,11 @@ use Rattle.study_reply.specs.Names.{of_probe}
 use Rattle.study_script.specs.State.{State, Document, empty, start, study, Outside, is_among}
 use Rattle.study_script.specs.Replies.{Reply, IsReplyIn, refused, class_told}
 use Rattle.study_report.specs.declared.kind.Kind.{Kind}
-use Rattle.study_report.specs.declared.kind.Kind.TheVariants.{PassedOver, NoClass, Study, Checked}
+use Rattle.study_report.specs.declared.kind.Kind.TheVariants.{Remark, PassedOver, NoClass, Study, Checked}
 use Rattle.study_report.specs.declared.told.Place.{Place}
 use Rattle.study_report.specs.declared.told.Told.{Told}
 use Rattle.study_report.specs.declared.told.Told.TheVariants.{Nothing, Study as AStudy, Refusal as ARefusal}
+use Rattle.study_report.specs.Remarks.{is_remark}
 
 -- ---- the kinds of lines
 
@@ -30,6 +31,10 @@ abbrev pub kind_in : Asks → Kind
 kind_in (Ok (Some (table_command word name))) = class_kind (class_told name)
 kind_in (Ok (Some pgn)) = Study
 kind_in _ = Checked
+
+-- a comment that is a remark is shown
+abbrev pub line_kind : List ℕ → Kind
+line_kind line = if is_remark line then Remark else kind_in (command_of line)
 
 -- ---- what a line adds
 
@@ -105,13 +110,21 @@ abbrev pub studies_in : List Added → List (Plainly × ℕ)
 studies_in [] = []
 studies_in (a ∷ more) = listed_in a.told a.after.state.document a.after.studies ++ studies_in more
 
-module _ (tells : Plainly → ℕ → List ℕ → Type 0) (refusal : ℕ → List ℕ → List ℕ → List ℕ) where
+module _ (tells : Plainly → ℕ → List ℕ → Type 0) (refusal : ℕ → List ℕ → List ℕ → List ℕ) (remark : List ℕ → List ℕ) where
   -- the line is refused: it uses no number of a study
   abbrev pub refusal_added : Point → List ℕ → Reply → Added
   refusal_added p line reply = record {
     text = refusal (suc p.lines) line reply.text;
     after = record { state = reply.state; lines = suc p.lines; studies = p.studies };
     told = ARefusal;
+  }
+
+  -- the remark is shown
+  abbrev pub remark_added : Point → List ℕ → Added
+  remark_added p line = record {
+    text = remark line;
+    after = record { state = p.state; lines = suc p.lines; studies = p.studies };
+    told = Nothing;
   }
 
   -- the study of the state is reported, or the line is refused
@@ -131,6 +144,7 @@ module _ (tells : Plainly → ℕ → List ℕ → Type 0) (refusal : ℕ → Li
 
   -- by its kind; a report keeps studies apart, so that no line after a refused `position` edits the study before
   abbrev pub IsAddedAs : Kind → Point → List ℕ → Added → Type 0
+  IsAddedAs Remark p line added = added ≡ remark_added p line
   IsAddedAs PassedOver p line added = added ≡ nothing_added p p.state
   IsAddedAs NoClass p line added = added ≡ refusal_added p line (refused p.state NotAClass)
   IsAddedAs Study p line added =
@@ -140,4 +154,4 @@ module _ (tells : Plainly → ℕ → List ℕ → Type 0) (refusal : ℕ → Li
 
   -- what a line adds
   abbrev pub IsAdded : Point → List ℕ → Added → Type 0
-  IsAdded p line added = IsAddedAs (kind_in (command_of line)) p line added
+  IsAdded p line added = IsAddedAs (line_kind line) p line added

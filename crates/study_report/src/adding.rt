@@ -2,7 +2,6 @@
 ghost use Rattle.std.specs.Prelude.{◌≡◌, ◌<◌, ◌+◌, ◌⊎◌, ℕ, suc, List, ◌++◌, IfOk, IfErr, codes};
 ghost use Rattle.std.specs.Io.KnownBytes.{Appends};
 ghost use Rattle.study_marks.specs.Edits.{Plainly};
-ghost use Rattle.study_command.specs.Parser.{command_of};
 ghost use Rattle.study_reply.specs.Names.{words_of};
 ghost use Rattle.study_reply.specs.Words.{reply_line};
 ghost use Rattle.study_script.specs.declared.running.RunFault.TheVariants.{WriteDevice, OutOfMemory};
@@ -10,7 +9,7 @@ ghost use Rattle.study_script.specs.State.{State, study};
 ghost use Rattle.study_script.specs.Held.{Holds, document_seen};
 ghost use Rattle.study_script.specs.Session.{SessionHolds};
 ghost use Rattle.study_script.specs.Stores.{HonestOn, IsTrusted};
-ghost use Rattle.study_report.specs.Told.{Point, kind_in, IsAdded, IsAddedAs, IsAt, IsStudyTold, study_count, listed_in};
+ghost use Rattle.study_report.specs.Told.{Point, line_kind, IsAdded, IsAddedAs, IsAt, IsStudyTold, study_count, listed_in};
 ghost use Rattle.study_report.specs.Written.{none_trusted, Adds, StopsIn, Stops, IsReplied};
 ghost use Rattle.study_report.specs.Parts.{IsReplyPiece, IsPart, IsPartAs, WritesPart};
 
@@ -100,6 +99,25 @@ fn refuse_line<'a, A: Allocator, W: Write, T: Report>(
     add_refusal(alloc, report, number, line, reply.taken.as_slice(), out)
 }
 
+/// Shows a remark.
+fn add_remark<'a, A: Allocator, W: Write, T: Report>(
+    alloc: &'a A,
+    report: &mut T,
+    line: &[u8],
+    out: &mut W,
+) -> Result<Told, RunFault>
+    ensures ok { IfOk result (λ told. (told ≡ Told.Nothing) × Appends (W.contents out.old) (W.contents out.new) (T.remark line.now)) }
+    ensures err { IfErr result (StopsIn (T.remark line.now) (W.contents out.old) (W.contents out.new)) }
+    ensures listed { (told : List (Plainly × ℕ)) → T.lists report.old told → T.lists report.new told }
+    ensures stops { IfErr result (λ e. (e ≡ WriteDevice) ⊎ (e ≡ OutOfMemory)) }
+{
+    match report.add_remark(alloc, line, out) {
+        Ok(()) => Ok(Told::Nothing),
+        Err(NotTold::OutOfMemory) => Err(RunFault::OutOfMemory),
+        Err(NotTold::Device) => Err(RunFault::WriteDevice),
+    }
+}
+
 /// Answers a line that reports nothing if it is accepted.
 fn add_checked<'a, 's, S: TableStore, A: Allocator, W: Write, T: Report>(
     session: &mut Session<'a, 's, S, A>,
@@ -112,7 +130,7 @@ fn add_checked<'a, 's, S: TableStore, A: Allocator, W: Write, T: Report>(
         SessionHolds S.Pages.honest S.Pages.gives (HonestOn none_trusted S.honest) S.files S.headers S.faults
         session.old.document session.old.tables session.old.store.now p.state
         → number ≡ suc p.lines
-        → IfOk result (Adds (IsAddedAs T.tells T.refusal Kind.Checked p line.now)
+        → IfOk result (Adds (IsAddedAs T.tells T.refusal T.remark Kind.Checked p line.now)
         (SessionHolds S.Pages.honest S.Pages.gives (HonestOn none_trusted S.honest) S.files S.headers S.faults
         session.new.document session.new.tables session.new.store.now)
         (W.contents out.old) (W.contents out.new)) }
@@ -120,10 +138,10 @@ fn add_checked<'a, 's, S: TableStore, A: Allocator, W: Write, T: Report>(
         SessionHolds S.Pages.honest S.Pages.gives (HonestOn none_trusted S.honest) S.files S.headers S.faults
         session.old.document session.old.tables session.old.store.now p.state
         → number ≡ suc p.lines
-        → IfErr result (Stops (IsAddedAs T.tells T.refusal Kind.Checked p line.now) (W.contents out.old) (W.contents out.new)) }
+        → IfErr result (Stops (IsAddedAs T.tells T.refusal T.remark Kind.Checked p line.now) (W.contents out.old) (W.contents out.new)) }
     ensures listed { (told : List (Plainly × ℕ)) → T.lists report.old told → T.lists report.new told }
     ensures told_none { IfOk result (λ t. study_count t ≡ 0) }
-    ensures written { (next : ℕ) → IfOk result (WritesPart (IsPartAs T.form T.refusal Kind.Checked number next line.now)
+    ensures written { (next : ℕ) → IfOk result (WritesPart (IsPartAs T.form T.refusal T.remark Kind.Checked number next line.now)
         (W.contents out.old) (W.contents out.new)) }
     ensures stops { IfErr result (λ e. (e ≡ WriteDevice) ⊎ (e ≡ OutOfMemory)) }
 {
@@ -148,15 +166,15 @@ fn tell_study<'a, P: PageSource, A: Allocator, W: Write, T: Report>(
     requires few { at.studies < 100000 }
     ensures ok { (p : Point) (s : State) (plain : Plainly) → Holds P.honest P.gives document.now tables.old s → s.document ≡ study plain
         → IsAt p at
-        → IfOk result (Adds (IsStudyTold T.tells T.refusal p s line.now) (λ t. (t ≡ s) × Holds P.honest P.gives document.now tables.new t)
+        → IfOk result (Adds (IsStudyTold T.tells T.refusal T.remark p s line.now) (λ t. (t ≡ s) × Holds P.honest P.gives document.now tables.new t)
         (W.contents out.old) (W.contents out.new)) }
     ensures err { (p : Point) (s : State) (plain : Plainly) → Holds P.honest P.gives document.now tables.old s → s.document ≡ study plain
         → IsAt p at
-        → IfErr result (Stops (IsStudyTold T.tells T.refusal p s line.now) (W.contents out.old) (W.contents out.new)) }
+        → IfErr result (Stops (IsStudyTold T.tells T.refusal T.remark p s line.now) (W.contents out.old) (W.contents out.new)) }
     ensures listed { (s : State) (told : List (Plainly × ℕ)) → Holds P.honest P.gives document.now tables.old s → T.lists report.old told
         → IfOk result (λ t. T.lists report.new (told ++ listed_in t s.document (at.studies + 1))) }
     ensures unlisted { (told : List (Plainly × ℕ)) → T.lists report.old told → IfErr result (λ e. T.lists report.new told) }
-    ensures written { IfOk result (WritesPart (IsPartAs T.form T.refusal Kind.Study at.line (at.studies + 1) line.now)
+    ensures written { IfOk result (WritesPart (IsPartAs T.form T.refusal T.remark Kind.Study at.line (at.studies + 1) line.now)
         (W.contents out.old) (W.contents out.new)) }
     ensures stops { IfErr result (λ e. (e ≡ WriteDevice) ⊎ (e ≡ OutOfMemory)) }
 {
@@ -184,26 +202,26 @@ fn add_pgn<'a, 's, S: TableStore, A: Allocator, W: Write, T: Report>(
     out: &mut W,
 ) -> Result<Told, RunFault>
     requires few { at.studies < 100000 }
-    ensures ok { (p : Point) → kind_in (command_of line.now) ≡ Kind.Study →
+    ensures ok { (p : Point) → line_kind line.now ≡ Kind.Study →
         SessionHolds S.Pages.honest S.Pages.gives (HonestOn none_trusted S.honest) S.files S.headers S.faults
         session.old.document session.old.tables session.old.store.now p.state
         → IsAt p at
-        → IfOk result (Adds (IsAddedAs T.tells T.refusal Kind.Study p line.now)
+        → IfOk result (Adds (IsAddedAs T.tells T.refusal T.remark Kind.Study p line.now)
         (SessionHolds S.Pages.honest S.Pages.gives (HonestOn none_trusted S.honest) S.files S.headers S.faults
         session.new.document session.new.tables session.new.store.now)
         (W.contents out.old) (W.contents out.new)) }
-    ensures err { (p : Point) → kind_in (command_of line.now) ≡ Kind.Study →
+    ensures err { (p : Point) → line_kind line.now ≡ Kind.Study →
         SessionHolds S.Pages.honest S.Pages.gives (HonestOn none_trusted S.honest) S.files S.headers S.faults
         session.old.document session.old.tables session.old.store.now p.state
         → IsAt p at
-        → IfErr result (Stops (IsAddedAs T.tells T.refusal Kind.Study p line.now) (W.contents out.old) (W.contents out.new)) }
-    ensures listed { (p : Point) (told : List (Plainly × ℕ)) → kind_in (command_of line.now) ≡ Kind.Study →
+        → IfErr result (Stops (IsAddedAs T.tells T.refusal T.remark Kind.Study p line.now) (W.contents out.old) (W.contents out.new)) }
+    ensures listed { (p : Point) (told : List (Plainly × ℕ)) → line_kind line.now ≡ Kind.Study →
         SessionHolds S.Pages.honest S.Pages.gives (HonestOn none_trusted S.honest) S.files S.headers S.faults
         session.old.document session.old.tables session.old.store.now p.state
         → T.lists report.old told
         → IfOk result (λ t. T.lists report.new (told ++ listed_in t (document_seen session.new.document) (at.studies + 1))) }
     ensures unlisted { (told : List (Plainly × ℕ)) → T.lists report.old told → IfErr result (λ e. T.lists report.new told) }
-    ensures written { IfOk result (WritesPart (IsPartAs T.form T.refusal Kind.Study at.line (at.studies + 1) line.now)
+    ensures written { IfOk result (WritesPart (IsPartAs T.form T.refusal T.remark Kind.Study at.line (at.studies + 1) line.now)
         (W.contents out.old) (W.contents out.new)) }
     ensures stops { IfErr result (λ e. (e ≡ WriteDevice) ⊎ (e ≡ OutOfMemory)) }
 {
@@ -237,7 +255,7 @@ pub fn add_line<'a, 's, S: TableStore, A: Allocator, W: Write, T: Report>(
         SessionHolds S.Pages.honest S.Pages.gives (HonestOn none_trusted S.honest) S.files S.headers S.faults
         session.old.document session.old.tables session.old.store.now p.state
         → IsAt p at
-        → IfOk result (Adds (IsAdded T.tells T.refusal p line.now)
+        → IfOk result (Adds (IsAdded T.tells T.refusal T.remark p line.now)
         (SessionHolds S.Pages.honest S.Pages.gives (HonestOn none_trusted S.honest) S.files S.headers S.faults
         session.new.document session.new.tables session.new.store.now)
         (W.contents out.old) (W.contents out.new)) }
@@ -245,18 +263,19 @@ pub fn add_line<'a, 's, S: TableStore, A: Allocator, W: Write, T: Report>(
         SessionHolds S.Pages.honest S.Pages.gives (HonestOn none_trusted S.honest) S.files S.headers S.faults
         session.old.document session.old.tables session.old.store.now p.state
         → IsAt p at
-        → IfErr result (Stops (IsAdded T.tells T.refusal p line.now) (W.contents out.old) (W.contents out.new)) }
+        → IfErr result (Stops (IsAdded T.tells T.refusal T.remark p line.now) (W.contents out.old) (W.contents out.new)) }
     ensures listed { (p : Point) (told : List (Plainly × ℕ)) →
         SessionHolds S.Pages.honest S.Pages.gives (HonestOn none_trusted S.honest) S.files S.headers S.faults
         session.old.document session.old.tables session.old.store.now p.state
         → T.lists report.old told
         → IfOk result (λ t. T.lists report.new (told ++ listed_in t (document_seen session.new.document) (at.studies + 1))) }
     ensures unlisted { (told : List (Plainly × ℕ)) → T.lists report.old told → IfErr result (λ e. T.lists report.new told) }
-    ensures written { IfOk result (WritesPart (IsPart T.form T.refusal at.line (at.studies + 1) line.now)
+    ensures written { IfOk result (WritesPart (IsPart T.form T.refusal T.remark at.line (at.studies + 1) line.now)
         (W.contents out.old) (W.contents out.new)) }
     ensures stops { IfErr result (λ e. (e ≡ WriteDevice) ⊎ (e ≡ OutOfMemory)) }
 {
     match kind_of(line) {
+        Kind::Remark => add_remark(session.alloc, report, line, out),
         Kind::PassedOver => Ok(Told::Nothing),
         Kind::NoClass => refuse_line(
             session.alloc,

@@ -33,25 +33,25 @@ pub fn follow<'a, 's, R: Read, W: Write, S: TableStore, A: Allocator, T: Report>
         session.old.document session.old.tables
         session.old.store.now first
         → IfSome (R.remaining script.old)
-        (λ bytes. Outcome T.tells T.refusal first bytes (R.remaining script.new) (W.contents out.old) (W.contents out.new) result) }
+        (λ bytes. Outcome T.tells T.refusal T.remark first bytes (R.remaining script.new) (W.contents out.old) (W.contents out.new) result) }
     ensures after { (first : State) → SessionHolds S.Pages.honest S.Pages.gives (HonestOn none_trusted S.honest) S.files S.headers S.faults
         session.old.document session.old.tables
         session.old.store.now first
-        → OnOk result (IfSome (R.remaining script.old) (λ bytes. IsFollowed T.tells T.refusal first bytes (W.contents out.old) (W.contents out.new)
+        → OnOk result (IfSome (R.remaining script.old) (λ bytes. IsFollowed T.tells T.refusal T.remark first bytes (W.contents out.old) (W.contents out.new)
         (SessionHolds S.Pages.honest S.Pages.gives (HonestOn none_trusted S.honest) S.files S.headers S.faults
         session.new.document session.new.tables session.new.store.now))) }
     ensures listed { (first : State) (told : List (Plainly × ℕ)) → SessionHolds S.Pages.honest S.Pages.gives (HonestOn none_trusted S.honest)
         S.files S.headers S.faults session.old.document session.old.tables session.old.store.now first
         → T.lists report.old told
-        → OnOk result (IfSome (R.remaining script.old) (λ bytes. AreListed T.tells T.refusal first bytes (W.contents out.old) (W.contents out.new)
+        → OnOk result (IfSome (R.remaining script.old) (λ bytes. AreListed T.tells T.refusal T.remark first bytes (W.contents out.old) (W.contents out.new)
         (λ more. T.lists report.new (told ++ more)))) }
     ensures listed_before { (first : State) (told : List (Plainly × ℕ)) → SessionHolds S.Pages.honest S.Pages.gives (HonestOn none_trusted S.honest)
         S.files S.headers S.faults session.old.document session.old.tables session.old.store.now first
         → T.lists report.old told
-        → IfErr result (λ fault. IfSome (R.remaining script.old) (λ bytes. AreListedBefore T.tells T.refusal first bytes
+        → IfErr result (λ fault. IfSome (R.remaining script.old) (λ bytes. AreListedBefore T.tells T.refusal T.remark first bytes
         (W.contents out.old) (W.contents out.new) (λ more. T.lists report.new (told ++ more)) fault)) }
     ensures shape { IfSome (R.remaining script.old) (λ bytes. Shape bytes (R.remaining script.new) result) }
-    ensures fits { IfSome (R.remaining script.old) (λ bytes. Fits T.form T.refusal bytes (R.remaining script.new)
+    ensures fits { IfSome (R.remaining script.old) (λ bytes. Fits T.form T.refusal T.remark bytes (R.remaining script.new)
         (W.contents out.old) (W.contents out.new) result) }
 {
     let mut refused = 0u32;
@@ -95,18 +95,19 @@ pub fn follow_script<'a, R: Read, W: Write, P: PageSource, A: Allocator, T: Repo
 ) -> Result<Summary, RunFault>
     ensures outcome { (classes : List AClass) → tables_honest P.honest tables.entry → ((c : AClass) → tables_held tables.entry c ≡ is_among classes c)
         → IfSome (R.remaining script.old)
-        (λ bytes. Outcome T.tells T.refusal (over_tables classes (are_paged tables.entry)) bytes (R.remaining script.new)
+        (λ bytes. Outcome T.tells T.refusal T.remark (over_tables classes (are_paged tables.entry)) bytes (R.remaining script.new)
         (W.contents out.old) (W.contents out.new) result) }
     ensures listed { (classes : List AClass) (told : List (Plainly × ℕ)) → tables_honest P.honest tables.entry
         → ((c : AClass) → tables_held tables.entry c ≡ is_among classes c) → T.lists report.old told
-        → OnOk result (IfSome (R.remaining script.old) (λ bytes. AreListed T.tells T.refusal (over_tables classes (are_paged tables.entry)) bytes
+        → OnOk result (IfSome (R.remaining script.old) (λ bytes. AreListed T.tells T.refusal T.remark (over_tables classes (are_paged tables.entry)) bytes
         (W.contents out.old) (W.contents out.new) (λ more. T.lists report.new (told ++ more)))) }
     ensures listed_before { (classes : List AClass) (told : List (Plainly × ℕ)) → tables_honest P.honest tables.entry
         → ((c : AClass) → tables_held tables.entry c ≡ is_among classes c) → T.lists report.old told
-        → IfErr result (λ fault. IfSome (R.remaining script.old) (λ bytes. AreListedBefore T.tells T.refusal (over_tables classes (are_paged tables.entry))
+        → IfErr result (λ fault. IfSome (R.remaining script.old) (λ bytes. AreListedBefore T.tells T.refusal T.remark (over_tables classes (are_paged
+        tables.entry))
         bytes (W.contents out.old) (W.contents out.new) (λ more. T.lists report.new (told ++ more)) fault)) }
     ensures shape { IfSome (R.remaining script.old) (λ bytes. Shape bytes (R.remaining script.new) result) }
-    ensures fits { IfSome (R.remaining script.old) (λ bytes. Fits T.form T.refusal bytes (R.remaining script.new)
+    ensures fits { IfSome (R.remaining script.old) (λ bytes. Fits T.form T.refusal T.remark bytes (R.remaining script.new)
         (W.contents out.old) (W.contents out.new) result) }
 {
     let mut store = NoFiles::new();
@@ -125,19 +126,19 @@ pub fn follow_over<'a, R: Read, W: Write, S: TableStore, A: Allocator, T: Report
     ensures outcome { (first : State) → SessionHolds S.Pages.honest S.Pages.gives (HonestOn none_trusted S.honest) S.files S.headers S.faults
         Document.Empty tables.entry store.old first
         → IfSome (R.remaining script.old)
-        (λ bytes. Outcome T.tells T.refusal first bytes (R.remaining script.new) (W.contents out.old) (W.contents out.new) result) }
+        (λ bytes. Outcome T.tells T.refusal T.remark first bytes (R.remaining script.new) (W.contents out.old) (W.contents out.new) result) }
     ensures listed { (first : State) (told : List (Plainly × ℕ)) → SessionHolds S.Pages.honest S.Pages.gives (HonestOn none_trusted S.honest)
         S.files S.headers S.faults Document.Empty tables.entry store.old first
         → T.lists report.old told
-        → OnOk result (IfSome (R.remaining script.old) (λ bytes. AreListed T.tells T.refusal first bytes (W.contents out.old) (W.contents out.new)
+        → OnOk result (IfSome (R.remaining script.old) (λ bytes. AreListed T.tells T.refusal T.remark first bytes (W.contents out.old) (W.contents out.new)
         (λ more. T.lists report.new (told ++ more)))) }
     ensures listed_before { (first : State) (told : List (Plainly × ℕ)) → SessionHolds S.Pages.honest S.Pages.gives (HonestOn none_trusted S.honest)
         S.files S.headers S.faults Document.Empty tables.entry store.old first
         → T.lists report.old told
-        → IfErr result (λ fault. IfSome (R.remaining script.old) (λ bytes. AreListedBefore T.tells T.refusal first bytes
+        → IfErr result (λ fault. IfSome (R.remaining script.old) (λ bytes. AreListedBefore T.tells T.refusal T.remark first bytes
         (W.contents out.old) (W.contents out.new) (λ more. T.lists report.new (told ++ more)) fault)) }
     ensures shape { IfSome (R.remaining script.old) (λ bytes. Shape bytes (R.remaining script.new) result) }
-    ensures fits { IfSome (R.remaining script.old) (λ bytes. Fits T.form T.refusal bytes (R.remaining script.new)
+    ensures fits { IfSome (R.remaining script.old) (λ bytes. Fits T.form T.refusal T.remark bytes (R.remaining script.new)
         (W.contents out.old) (W.contents out.new) result) }
 {
     let Ok(mut line) = Line::new(alloc) else {

@@ -2,14 +2,17 @@
 ghost use Rattle.std.specs.Prelude.{◌≡◌};
 ghost use Rattle.study_command.specs.Parser.{command_of};
 ghost use Rattle.study_script.specs.Replies.{class_told};
-ghost use Rattle.study_report.specs.Told.{kind_in, class_kind};
+ghost use Rattle.study_report.specs.Told.{kind_in, line_kind, class_kind};
 
+use crate::remarks::{is_left_out, is_original};
 use study_command::{Command, read_command};
 use study_material::Class;
 
 /// The kind of a line, by its form alone.
 #[derive(Clone, Copy, Debug, PartialEq, Eq)]
 pub enum Kind {
+    /// It is a comment that is shown.
+    Remark,
     /// It is of a table, and is skipped.
     PassedOver,
     /// It is of a table of an unknown class, and is refused.
@@ -22,6 +25,15 @@ pub enum Kind {
 
 /// The kind of the line.
 pub fn kind_of(line: &[u8]) -> Kind
+    ensures { result ≡ line_kind line.now }
+{
+    if is_left_out(line) || is_original(line) {
+        return Kind::Remark;
+    }
+    command_kind(line)
+}
+
+fn command_kind(line: &[u8]) -> Kind
     ensures { result ≡ kind_in (command_of line.now) }
 {
     match read_command(line) {

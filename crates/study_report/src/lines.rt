@@ -2,7 +2,7 @@
 ghost use Rattle.std.specs.Prelude.{◌≡◌, drop, OnOk, OnErr};
 ghost use Rattle.std.specs.Io.KnownBytes.{Appends};
 ghost use Rattle.study_text.specs.Taken.{TakesPrefix};
-ghost use Rattle.study_report.specs.Lines.{refusal_line};
+ghost use Rattle.study_report.specs.Lines.{refusal_line, no_remark};
 
 use crate::report::{NotTold, Report};
 use itoa::Buffer;
@@ -27,6 +27,8 @@ impl Report for Lines {
 
     ghost refusal = { λ number line reply. refusal_line number reply };
 
+    ghost remark = { λ line. no_remark line };
+
     // Nothing is kept.
     ghost lists = { λ lines told. Unit {0} };
 
@@ -50,6 +52,15 @@ impl Report for Lines {
         out: &mut W,
     ) -> Result<(), NotTold> {
         put_refusal(out, number, reply)?;
+        Ok(())
+    }
+
+    fn add_remark<'a, A: Allocator, W: Write>(
+        &mut self,
+        _alloc: &'a A,
+        _line: &[u8],
+        _out: &mut W,
+    ) -> Result<(), NotTold> {
         Ok(())
     }
 }

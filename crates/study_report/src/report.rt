@@ -37,7 +37,7 @@ impl From<DeviceFailed> for NotTold {
     }
 }
 
-/// The text of a report for a study, and for a refused line.
+/// The text of a report for a study, for a refused line, and for a remark.
 pub trait Report {
     /// The text reports the study of this number.
     ghost tells: { Plainly → ℕ → List ℕ → Type 0 };
@@ -47,6 +47,9 @@ pub trait Report {
 
     /// The report of a refused line: its number among all lines, its bytes, and the script's reply to it.
     ghost refusal: { ℕ → List ℕ → List ℕ → List ℕ };
+
+    /// The report of a remark.
+    ghost remark: { List ℕ → List ℕ };
 
     /// The summary that the report keeps for its end lists these studies, each with its number, in the order in which they were reported.
     ghost lists: { Self → List (Plainly × ℕ) → Type 0 };
@@ -84,6 +87,18 @@ pub trait Report {
     ) -> Result<(), NotTold>
         ensures told { OnOk result (Appends (W.contents out.old) (W.contents out.new) (refusal number line.now reply.now)) }
         ensures device { result ≡ Err NotTold.Device → TakesPrefix (W.contents out.old) (W.contents out.new) (refusal number line.now reply.now) }
+        ensures memory { result ≡ Err NotTold.OutOfMemory → out.new ≡ out.old }
+        ensures listed { (told : List (Plainly × ℕ)) → lists self.old told → lists self.new told };
+
+    /// Reports a remark: a comment that says why a game is left out, or that has the original text of a tag.
+    fn add_remark<'a, A: Allocator, W: Write>(
+        &mut self,
+        alloc: &'a A,
+        line: &[u8],
+        out: &mut W,
+    ) -> Result<(), NotTold>
+        ensures told { OnOk result (Appends (W.contents out.old) (W.contents out.new) (remark line.now)) }
+        ensures device { result ≡ Err NotTold.Device → TakesPrefix (W.contents out.old) (W.contents out.new) (remark line.now) }
         ensures memory { result ≡ Err NotTold.OutOfMemory → out.new ≡ out.old }
         ensures listed { (told : List (Plainly × ℕ)) → lists self.old told → lists self.new told };
 }

@@ -7,6 +7,7 @@ use Rattle.study_script.specs.declared.running.Summary.{Summary}
 use Rattle.study_script.specs.declared.running.RunFault.{RunFault}
 use Rattle.study_script.specs.declared.running.RunFault.TheVariants.{WriteDevice}
 use Rattle.study_script.specs.State.{State}
+use Rattle.study_report.specs.Lines.{no_remark}
 use Rattle.study_report.specs.Outcome.{Outcome, Shape}
 use Rattle.study_report.specs.Parts.{Fits}
 use Rattle.study_html.specs.Frame.{sheet_opening, closing}
@@ -17,13 +18,13 @@ use Rattle.study_sheet.specs.Sheet.{IsSheet, SheetFits}
 
 module _ (left old begun ended new : Option (List ℕ)) (answer : Result Summary RunFault) where
   pub whole_sheet : (first : State) (given : Option (List ℕ)) (ran : Result Summary RunFault) → Appends old begun sheet_opening
-      → IfSome given (λ bytes. Outcome IsPlaceOf refusal_text first bytes left begun ended ran) → IsEnded closing ended new ran answer
+      → IfSome given (λ bytes. Outcome IsPlaceOf refusal_text no_remark first bytes left begun ended ran) → IsEnded closing ended new ran answer
       → IfSome given (λ bytes. IsSheet first bytes left old new answer)
   whole_sheet first None ran opened told end = tt
   whole_sheet first (Some script) ran opened told end = inr (begun, ended, ran, opened, told, end)
 
   pub sheet_fits : (given : Option (List ℕ)) (ran : Result Summary RunFault) → Appends old begun sheet_opening
-      → IfSome given (λ bytes. Fits IsPlace refusal_text bytes left begun ended ran) → IsEnded closing ended new ran answer
+      → IfSome given (λ bytes. Fits IsPlace refusal_text no_remark bytes left begun ended ran) → IsEnded closing ended new ran answer
       → IfSome given (λ bytes. SheetFits bytes left old new answer)
   sheet_fits None ran opened fits end = tt
   sheet_fits (Some script) ran opened fits end = inr (begun, ended, ran, opened, fits, end)

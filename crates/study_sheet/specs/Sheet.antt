@@ -6,6 +6,7 @@ use Rattle.study_script.specs.declared.running.Summary.{Summary}
 use Rattle.study_script.specs.declared.running.RunFault.{RunFault}
 use Rattle.study_script.specs.declared.running.RunFault.TheVariants.{WriteDevice}
 use Rattle.study_script.specs.State.{State}
+use Rattle.study_report.specs.Lines.{no_remark}
 use Rattle.study_report.specs.Outcome.{Outcome}
 use Rattle.study_report.specs.Parts.{Fits}
 use Rattle.study_html.specs.Frame.{sheet_opening, closing}
@@ -18,7 +19,7 @@ abbrev pub IsSheet : State → List ℕ → Option (List ℕ) → Option (List �
 IsSheet first script left old new answer =
     ((answer ≡ Err WriteDevice) × (left ≡ Some script) × TakesPrefix old new sheet_opening)
     ⊎ ((begun ended : Option (List ℕ)) × (ran : Result Summary RunFault) × Appends old begun sheet_opening
-    × Outcome IsPlaceOf refusal_text first script left begun ended ran × IsEnded closing ended new ran answer)
+    × Outcome IsPlaceOf refusal_text no_remark first script left begun ended ran × IsEnded closing ended new ran answer)
 
 -- What is written of a sheet, whatever the state: the opening, the places and the refusals of the lines, with as many refusals as are counted, and the
 -- closing.
@@ -26,4 +27,4 @@ abbrev pub SheetFits : List ℕ → Option (List ℕ) → Option (List ℕ) → 
 SheetFits script left old new answer =
     ((answer ≡ Err WriteDevice) × TakesPrefix old new sheet_opening)
     ⊎ ((begun ended : Option (List ℕ)) × (ran : Result Summary RunFault) × Appends old begun sheet_opening
-    × Fits IsPlace refusal_text script left begun ended ran × IsEnded closing ended new ran answer)
+    × Fits IsPlace refusal_text no_remark script left begun ended ran × IsEnded closing ended new ran answer)

@@ -12,6 +12,7 @@ use study_values::Values;
 pub struct Sheet;
 
 impl Report for Sheet {
+    ghost use Rattle.study_report.specs.Lines.{no_remark};
     ghost use Rattle.study_print.specs.Pages.{refusal_text};
     ghost use Rattle.study_page.specs.Sheet.{IsPlaceOf, IsPlace};
 
@@ -20,6 +21,8 @@ impl Report for Sheet {
     ghost form = { λ number text. IsPlace number text };
 
     ghost refusal = { λ number line reply. refusal_text number line reply };
+
+    ghost remark = { λ line. no_remark line };
 
     // Nothing is kept.
     ghost lists = { λ sheet told. Unit {0} };
@@ -54,5 +57,14 @@ impl Report for Sheet {
             Err(PageFault::OutOfMemory) => Err(NotTold::OutOfMemory),
             Err(PageFault::Device) => Err(NotTold::Device),
         }
+    }
+
+    fn add_remark<'a, A: Allocator, W: Write>(
+        &mut self,
+        _alloc: &'a A,
+        _line: &[u8],
+        _out: &mut W,
+    ) -> Result<(), NotTold> {
+        Ok(())
     }
 }

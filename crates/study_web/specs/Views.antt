@@ -11,7 +11,7 @@ use Rattle.study_values.specs.declared.values.ProbeFault.{ProbeFault}
 use Rattle.study_review.specs.Asked.{Stopped, within}
 use Rattle.study_script.specs.declared.store.StoreFault.{StoreFault}
 use Rattle.study_script.specs.State.{Document, empty, start, study, Shelf, State, is_among}
-use Rattle.study_report.specs.Lines.{refusal_line}
+use Rattle.study_report.specs.Lines.{refusal_line, no_remark}
 use Rattle.study_report.specs.Outcome.{AreAdded, begun, point_after, report_text}
 use Rattle.study_report.specs.Told.{Added, IsUntoldIn}
 use Rattle.study_view.specs.View.{IsViewOf}
@@ -41,7 +41,7 @@ over_files classes shelf = record { document = empty; classes = classes; paged =
 -- the state that a script leaves over these tables, and the text of the lines that were refused
 abbrev pub IsLeft : List Class → Shelf → List ℕ → State → List ℕ → Type 0
 IsLeft classes shelf script state refused =
-    (added : List Added) × AreAdded tells_nothing refused_line (begun (over_files classes shelf)) (script_lines script) added
+    (added : List Added) × AreAdded tells_nothing refused_line no_remark (begun (over_files classes shelf)) (script_lines script) added
     × (state ≡ (point_after (begun (over_files classes shelf)) added).state) × (refused ≡ report_text added)
 
 -- the view at a path of the document that is left, followed by the refused lines

@@ -13,7 +13,7 @@ pub struct Refusals;
 
 impl Report for Refusals {
     ghost use Rattle.std.specs.Prelude.{◌≡◌, []};
-    ghost use Rattle.study_report.specs.Lines.{refusal_line};
+    ghost use Rattle.study_report.specs.Lines.{refusal_line, no_remark};
     ghost use Rattle.study_web.specs.Views.{tells_nothing};
 
     ghost tells = { λ plain number text. tells_nothing plain number text };
@@ -21,6 +21,8 @@ impl Report for Refusals {
     ghost form = { λ number text. text ≡ [] };
 
     ghost refusal = { λ number line reply. refusal_line number reply };
+
+    ghost remark = { λ line. no_remark line };
 
     // Nothing is kept.
     ghost lists = { λ refusals told. Unit {0} };
@@ -45,5 +47,14 @@ impl Report for Refusals {
         out: &mut W,
     ) -> Result<(), NotTold> {
         Lines.add_refusal(alloc, number, line, reply, out)
+    }
+
+    fn add_remark<'a, A: Allocator, W: Write>(
+        &mut self,
+        _alloc: &'a A,
+        _line: &[u8],
+        _out: &mut W,
+    ) -> Result<(), NotTold> {
+        Ok(())
     }
 }

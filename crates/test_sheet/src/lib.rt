@@ -1,10 +1,12 @@
-//! Tests of sheets of diagrams and of lists. The expected texts are laid out by hand, by their description in docs/REPORT.md; the drawing of a board is
-//! that of an independent program's pages. Only tests call these functions.
+//! Tests of sheets of diagrams, of lists, and of the remarks on printed pages. The expected texts are laid out by hand, by their description in
+//! docs/REPORT.md; the drawing of a board is that of an independent program's pages. Only tests call these functions.
 #![tactic(auto)]
 
 #[cfg(test)]
 mod kings;
 #[cfg(test)]
 mod list;
+#[cfg(test)]
+mod remarks;
 #[cfg(test)]
 mod sheet;

@@ -7,7 +7,7 @@ use study_list::follow_list;
 use study_script::{RunFault, Summary};
 use study_text::{MemoryReader, MemoryWriter, WhenFull};
 
-/// A study without a move, of which a field needs quotation marks, a refused line, and a study whose stipulation does not hold.
+/// A study without a move, of which a field needs quotation marks, a refused line, a study whose stipulation does not hold, and remarks of studyimport.
 const SCRIPT: &str = "position k7/8/8/8/8/8/8/K7 w - - 0 1
 stipulate white draw
 tag Event He said \"mate\", twice
@@ -19,12 +19,21 @@ stipulate white win
 tag Event ?
 tag White ?
 pgn
+
+# game 3, line 31: left out: 7 men
+
+# game 4, line 52, column 17: NoSuchMove at \"Kb6\"
+
+# game 5, line 60: stipulated by its comment
+# White was: \"R\"
 ";
 
 const LIST: &str = "Number,Title,Author,FEN,Stipulation,Verdict\r
 1,\"He said \"\"mate\"\", twice\",R & D,k7/8/8/8/8/8/8/K7 w - - 0 1,White to draw,holds\r
 ,\"line 6: delete 7, please\",,,,refused: BadArguments\r
 2,,,k7/8/8/8/8/8/8/K7 b - - 0 5,White to win,wrong\r
+,\"game 3, line 31\",,,,\"left out: 7 men\"\r
+,\"game 4, line 52, column 17\",,,,\"NoSuchMove at \"\"Kb6\"\"\"\r
 ";
 
 /// The list that is written to this writer, and the result.
@@ -48,7 +57,7 @@ fn each_study_has_its_record(rt: HostRuntime) -> Result<(), Fail> {
     let (text, answer) = list_to(&rt, &alloc, MemoryWriter::new(&alloc));
     assert!(rt; std::str::from_utf8(text.as_slice()).unwrap_or("no text") == LIST);
     let wanted = Summary {
-        lines: 11,
+        lines: 18,
         refused: 1,
     };
     assert_eq!(rt; answer, Ok(wanted));

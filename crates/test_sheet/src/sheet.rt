@@ -7,7 +7,8 @@ use study_script::{RunFault, Summary};
 use study_sheet::follow_sheet;
 use study_text::{MemoryReader, MemoryWriter, WhenFull};
 
-/// Two studies, of which the second begins with a move of Black and has no author, one without a move, and a refused line.
+/// Two studies, of which the second begins with a move of Black and has no author, one without a move, a refused line, and remarks of studyimport,
+/// which are not shown.
 const SCRIPT: &str = "position k7/8/8/8/8/8/8/K7 w - - 0 1
 stipulate white draw
 tag White R & D
@@ -22,8 +23,10 @@ tag White ?
 insert root Kb8
 pgn
 position k7/8/8/8/8/8/8/K7 b - - 0 1
+# White was: R
 stipulate white draw
 pgn
+# game 3, line 31: left out: 7 men
 ";
 
 /// The text between the opening and the closing.
@@ -67,7 +70,7 @@ fn each_study_has_its_place(rt: HostRuntime) -> Result<(), Fail> {
     assert!(rt; head.contains("body>figure{display:inline-block;"));
     assert!(rt; places == PLACES);
     let wanted = Summary {
-        lines: 16,
+        lines: 18,
         refused: 1,
     };
     assert_eq!(rt; answer, Ok(wanted));

@@ -13,23 +13,23 @@ use Rattle.study_report.proofs.PartsWritten.{on-err, refusal-of-reply}
 use Rattle.study_report.proofs.adding.add_pgn.Goals as goal
 
 pub returns-then-reply-clause-ok : goal.returns-then-reply-clause-ok
-returns-then-reply-clause-ok g c = λ p kind held at. replied-adds g.T.Report.tells g.T.Report.refusal
-    (IsAddedAs g.T.Report.tells g.T.Report.refusal Study p c.args.line.now)
+returns-then-reply-clause-ok g c = λ p kind held at. replied-adds g.T.Report.tells g.T.Report.refusal g.T.Report.remark
+    (IsAddedAs g.T.Report.tells g.T.Report.refusal g.T.Report.remark Study p c.args.line.now)
     (SessionHolds g.S.Pages.PageSource.honest g.S.Pages.PageSource.gives (HonestOn none_trusted g.S.TableStore.honest) g.S.TableStore.files
     g.S.TableStore.headers g.S.TableStore.faults c.reply_to.new.session.document c.reply_to.new.session.tables c.reply_to.new.session.store.now)
     p c.args.line.now c.args.at.line
     c.as_slice-bytes.result.now c.in_ok-reply.reply.refused c.add_refusal.result (g.W.Write.contents c.args.out.now) (g.W.Write.contents c.add_refusal.new.out)
-    (pgn-refused g.T.Report.tells g.T.Report.refusal p c.args.line.now) at.0 c.if-reply.true
+    (pgn-refused g.T.Report.tells g.T.Report.refusal g.T.Report.remark p c.args.line.now) at.0 c.if-reply.true
     (rw c.as_slice-bytes.ensures.value (c.in_ok-reply.ensures.ok p.state (trusted-study c.args.line.now kind) held)) c.add_refusal.ensures.ok
 
 pub returns-then-reply-clause-err : goal.returns-then-reply-clause-err
-returns-then-reply-clause-err g c = λ p kind held at. replied-stops g.T.Report.tells g.T.Report.refusal
-    (IsAddedAs g.T.Report.tells g.T.Report.refusal Study p c.args.line.now)
+returns-then-reply-clause-err g c = λ p kind held at. replied-stops g.T.Report.tells g.T.Report.refusal g.T.Report.remark
+    (IsAddedAs g.T.Report.tells g.T.Report.refusal g.T.Report.remark Study p c.args.line.now)
     (SessionHolds g.S.Pages.PageSource.honest g.S.Pages.PageSource.gives (HonestOn none_trusted g.S.TableStore.honest) g.S.TableStore.files
     g.S.TableStore.headers g.S.TableStore.faults c.reply_to.new.session.document c.reply_to.new.session.tables c.reply_to.new.session.store.now)
     p c.args.line.now c.args.at.line
     c.as_slice-bytes.result.now c.in_ok-reply.reply.refused c.add_refusal.result (g.W.Write.contents c.args.out.now) (g.W.Write.contents c.add_refusal.new.out)
-    (pgn-refused g.T.Report.tells g.T.Report.refusal p c.args.line.now) at.0 c.if-reply.true
+    (pgn-refused g.T.Report.tells g.T.Report.refusal g.T.Report.remark p c.args.line.now) at.0 c.if-reply.true
     (rw c.as_slice-bytes.ensures.value (c.in_ok-reply.ensures.ok p.state (trusted-study c.args.line.now kind) held)) c.add_refusal.ensures.err
 
 pub returns-clause-ok : goal.returns-clause-ok
@@ -37,14 +37,14 @@ returns-clause-ok g c = λ p kind held at.
     let r = c.in_ok-reply.ensures.ok p.state (trusted-study c.args.line.now kind) held in
     let no : r.1.refused ≡ false = sym r.5 ∙ c.if-reply.false in
     let found = study-finds p.state c.args.line.now r.0 r.1 kind r.2 no in
-    adds-weaker (IsStudyTold g.T.Report.tells g.T.Report.refusal p r.1.state c.args.line.now)
-    (IsAddedAs g.T.Report.tells g.T.Report.refusal Study p c.args.line.now)
+    adds-weaker (IsStudyTold g.T.Report.tells g.T.Report.refusal g.T.Report.remark p r.1.state c.args.line.now)
+    (IsAddedAs g.T.Report.tells g.T.Report.refusal g.T.Report.remark Study p c.args.line.now)
     (λ t. (t ≡ r.1.state) × Holds g.S.Pages.PageSource.honest g.S.Pages.PageSource.gives
     c.reply_to.new.session.document c.tell_study.new.tables t)
     (SessionHolds g.S.Pages.PageSource.honest g.S.Pages.PageSource.gives (HonestOn none_trusted g.S.TableStore.honest) g.S.TableStore.files
     g.S.TableStore.headers g.S.TableStore.faults c.reply_to.new.session.document c.tell_study.new.tables c.reply_to.new.session.store.now)
     c.tell_study.result (g.W.Write.contents c.args.out.now) (g.W.Write.contents c.tell_study.new.out)
-    (λ a h. pgn-told g.T.Report.tells g.T.Report.refusal p c.args.line.now r.0 r.1 a r.2 no h)
+    (λ a h. pgn-told g.T.Report.tells g.T.Report.refusal g.T.Report.remark p c.args.line.now r.0 r.1 a r.2 no h)
     (λ t (e, h). record {
       held = h;
       seen = subst (λ (x : State). StoreSeen (HonestOn none_trusted g.S.TableStore.honest) g.S.TableStore.files g.S.TableStore.headers
@@ -57,10 +57,10 @@ returns-clause-err g c = λ p kind held at.
     let r = c.in_ok-reply.ensures.ok p.state (trusted-study c.args.line.now kind) held in
     let no : r.1.refused ≡ false = sym r.5 ∙ c.if-reply.false in
     let found = study-finds p.state c.args.line.now r.0 r.1 kind r.2 no in
-    stops-weaker (IsStudyTold g.T.Report.tells g.T.Report.refusal p r.1.state c.args.line.now)
-    (IsAddedAs g.T.Report.tells g.T.Report.refusal Study p c.args.line.now)
+    stops-weaker (IsStudyTold g.T.Report.tells g.T.Report.refusal g.T.Report.remark p r.1.state c.args.line.now)
+    (IsAddedAs g.T.Report.tells g.T.Report.refusal g.T.Report.remark Study p c.args.line.now)
     c.tell_study.result (g.W.Write.contents c.args.out.now) (g.W.Write.contents c.tell_study.new.out)
-    (λ a h. pgn-told g.T.Report.tells g.T.Report.refusal p c.args.line.now r.0 r.1 a r.2 no h)
+    (λ a h. pgn-told g.T.Report.tells g.T.Report.refusal g.T.Report.remark p c.args.line.now r.0 r.1 a r.2 no h)
     (c.tell_study.ensures.err p r.1.state found.0.0 r.4.held (ap (λ (x : State). x.document) found.1 ∙ found.0.1) at)
 
 pub returns-then-reply-clause-listed : goal.returns-then-reply-clause-listed
@@ -77,7 +77,7 @@ returns-clause-listed g c = λ p told kind held kept.
 
 pub returns-then-reply-clause-written : goal.returns-then-reply-clause-written
 returns-then-reply-clause-written g c =
-    refusal-of-reply g.T.Report.form g.T.Report.refusal c.args.line.now c.args.at.line (c.args.at.studies + 1) c.as_slice-bytes.result.now
+    refusal-of-reply g.T.Report.form g.T.Report.refusal g.T.Report.remark c.args.line.now c.args.at.line (c.args.at.studies + 1) c.as_slice-bytes.result.now
     c.in_ok-reply.reply.refused c.add_refusal.result (g.W.Write.contents c.args.out.now) (g.W.Write.contents c.add_refusal.new.out)
     (rw c.as_slice-bytes.ensures.value c.in_ok-reply.ensures.written) c.if-reply.true c.add_refusal.ensures.ok
 

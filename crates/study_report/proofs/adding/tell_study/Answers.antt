@@ -14,35 +14,36 @@ use Rattle.study_reply.specs.declared.refusal.Refusal.TheVariants.{NoStudy}
 use Rattle.study_report.proofs.adding.tell_study.Goals as goal
 
 pub returns-in-Ok-clause-ok : goal.returns-in-Ok-clause-ok
-returns-in-Ok-clause-ok g c = λ p s plain held b at. section-adds g.T.Report.tells g.T.Report.refusal
+returns-in-Ok-clause-ok g c = λ p s plain held b at. section-adds g.T.Report.tells g.T.Report.refusal g.T.Report.remark
     (λ t. (t ≡ s) × Holds g.P.PageSource.honest g.P.PageSource.gives c.args.document.now c.add_section.new.tables t)
     p s c.args.line.now
     (c.args.at.studies + 1) c.args.at.studies plain (g.W.Write.contents c.args.out.now) (g.W.Write.contents c.add_section.new.out) b (omega arith) at.1
     (refl, c.add_section.ensures.holds s held) (c.in-Ok.ensures.told s held)
 
 pub returns-in-Err-Device-clause-err : goal.returns-in-Err-Device-clause-err
-returns-in-Err-Device-clause-err g c = λ p s plain held b at. section-stops g.T.Report.tells g.T.Report.refusal p s c.args.line.now
+returns-in-Err-Device-clause-err g c = λ p s plain held b at. section-stops g.T.Report.tells g.T.Report.refusal g.T.Report.remark p s c.args.line.now
     (c.args.at.studies + 1) c.args.at.studies plain (g.W.Write.contents c.args.out.now) (g.W.Write.contents c.add_section.new.out) b (omega arith) at.1
     (c.in-Err-Device.ensures.device s held cc)
 
 pub returns-in-Err-OutOfMemory-clause-ok : goal.returns-in-Err-OutOfMemory-clause-ok
 returns-in-Err-OutOfMemory-clause-ok g c = λ p s plain held b at.
     let bytes = reply_line (codes "error ") (words_of OutOfMemory) in
-    refusal-adds g.T.Report.tells g.T.Report.refusal (IsStudyTold g.T.Report.tells g.T.Report.refusal p s c.args.line.now)
+    refusal-adds g.T.Report.tells g.T.Report.refusal g.T.Report.remark (IsStudyTold g.T.Report.tells g.T.Report.refusal g.T.Report.remark p s c.args.line.now)
     (λ t. (t ≡ s) × Holds g.P.PageSource.honest g.P.PageSource.gives c.args.document.now c.add_section.new.tables t)
     p c.args.line.now (refused s OutOfMemory) c.args.at.line bytes c.refuse_line-in-Err-OutOfMemory.result
     (g.W.Write.contents c.args.out.now) (g.W.Write.contents c.refuse_line-in-Err-OutOfMemory.new.out) at.0 refl
-    (left-out g.T.Report.tells g.T.Report.refusal p s c.args.line.now plain OutOfMemory b (inl refl)) (refl, c.add_section.ensures.holds s held)
+    (left-out g.T.Report.tells g.T.Report.refusal g.T.Report.remark p s c.args.line.now plain OutOfMemory b (inl refl)) (refl,
+    c.add_section.ensures.holds s held)
     (subst (λ w. IfOk c.refuse_line-in-Err-OutOfMemory.result (RefusalWritten (g.T.Report.refusal c.args.at.line c.args.line.now bytes) (g.W.Write.contents w)
     (g.W.Write.contents c.refuse_line-in-Err-OutOfMemory.new.out))) (c.in-Err-OutOfMemory.ensures.memory cc) c.refuse_line-in-Err-OutOfMemory.ensures.ok)
 
 pub returns-in-Err-OutOfMemory-clause-err : goal.returns-in-Err-OutOfMemory-clause-err
 returns-in-Err-OutOfMemory-clause-err g c = λ p s plain held b at.
     let bytes = reply_line (codes "error ") (words_of OutOfMemory) in
-    refusal-stops g.T.Report.tells g.T.Report.refusal (IsStudyTold g.T.Report.tells g.T.Report.refusal p s c.args.line.now)
+    refusal-stops g.T.Report.tells g.T.Report.refusal g.T.Report.remark (IsStudyTold g.T.Report.tells g.T.Report.refusal g.T.Report.remark p s c.args.line.now)
     p c.args.line.now (refused s OutOfMemory) c.args.at.line bytes c.refuse_line-in-Err-OutOfMemory.result
     (g.W.Write.contents c.args.out.now) (g.W.Write.contents c.refuse_line-in-Err-OutOfMemory.new.out) at.0 refl
-    (left-out g.T.Report.tells g.T.Report.refusal p s c.args.line.now plain OutOfMemory b (inl refl))
+    (left-out g.T.Report.tells g.T.Report.refusal g.T.Report.remark p s c.args.line.now plain OutOfMemory b (inl refl))
     (subst (λ w. IfErr c.refuse_line-in-Err-OutOfMemory.result (StopsIn (g.T.Report.refusal c.args.at.line c.args.line.now bytes) (g.W.Write.contents w)
     (g.W.Write.contents c.refuse_line-in-Err-OutOfMemory.new.out))) (c.in-Err-OutOfMemory.ensures.memory cc) c.refuse_line-in-Err-OutOfMemory.ensures.err)
 
@@ -50,11 +51,11 @@ pub returns-in-Err-Values-clause-ok : goal.returns-in-Err-Values-clause-ok
 returns-in-Err-Values-clause-ok g c = λ p s plain held b at.
     let why = c.of_probe.result in
     let bytes = reply_line (codes "error ") (words_of why) in
-    refusal-adds g.T.Report.tells g.T.Report.refusal (IsStudyTold g.T.Report.tells g.T.Report.refusal p s c.args.line.now)
+    refusal-adds g.T.Report.tells g.T.Report.refusal g.T.Report.remark (IsStudyTold g.T.Report.tells g.T.Report.refusal g.T.Report.remark p s c.args.line.now)
     (λ t. (t ≡ s) × Holds g.P.PageSource.honest g.P.PageSource.gives c.args.document.now c.add_section.new.tables t)
     p c.args.line.now (refused s why) c.args.at.line bytes c.refuse_line-in-Err-Values.result
     (g.W.Write.contents c.args.out.now) (g.W.Write.contents c.refuse_line-in-Err-Values.new.out) at.0 refl
-    (left-out g.T.Report.tells g.T.Report.refusal p s c.args.line.now plain why b
+    (left-out g.T.Report.tells g.T.Report.refusal g.T.Report.remark p s c.args.line.now plain why b
     (inr (c.in-Err-Values.fault, c.in-Err-Values.ensures.why s plain c.in-Err-Values.fault held b cc, c.of_probe.ensures)))
     (refl, c.add_section.ensures.holds s held)
     (subst (λ w. IfOk c.refuse_line-in-Err-Values.result (RefusalWritten (g.T.Report.refusal c.args.at.line c.args.line.now bytes) (g.W.Write.contents w)
@@ -65,10 +66,10 @@ pub returns-in-Err-Values-clause-err : goal.returns-in-Err-Values-clause-err
 returns-in-Err-Values-clause-err g c = λ p s plain held b at.
     let why = c.of_probe.result in
     let bytes = reply_line (codes "error ") (words_of why) in
-    refusal-stops g.T.Report.tells g.T.Report.refusal (IsStudyTold g.T.Report.tells g.T.Report.refusal p s c.args.line.now)
+    refusal-stops g.T.Report.tells g.T.Report.refusal g.T.Report.remark (IsStudyTold g.T.Report.tells g.T.Report.refusal g.T.Report.remark p s c.args.line.now)
     p c.args.line.now (refused s why) c.args.at.line bytes c.refuse_line-in-Err-Values.result
     (g.W.Write.contents c.args.out.now) (g.W.Write.contents c.refuse_line-in-Err-Values.new.out) at.0 refl
-    (left-out g.T.Report.tells g.T.Report.refusal p s c.args.line.now plain why b
+    (left-out g.T.Report.tells g.T.Report.refusal g.T.Report.remark p s c.args.line.now plain why b
     (inr (c.in-Err-Values.fault, c.in-Err-Values.ensures.why s plain c.in-Err-Values.fault held b cc, c.of_probe.ensures)))
     (subst (λ w. IfErr c.refuse_line-in-Err-Values.result (StopsIn (g.T.Report.refusal c.args.at.line c.args.line.now bytes) (g.W.Write.contents w)
     (g.W.Write.contents c.refuse_line-in-Err-Values.new.out))) (c.in-Err-Values.ensures.untold c.in-Err-Values.fault cc)
@@ -103,24 +104,27 @@ returns-then-lacks_study-clause-listed g c s told held kept =
 
 pub returns-then-lacks_study-clause-written : goal.returns-then-lacks_study-clause-written
 returns-then-lacks_study-clause-written g c =
-    refusal-part g.T.Report.form g.T.Report.refusal c.args.line.now c.args.at.line (c.args.at.studies + 1) (words_of NoStudy) c.refuse_line.result
+    refusal-part g.T.Report.form g.T.Report.refusal g.T.Report.remark c.args.line.now c.args.at.line (c.args.at.studies + 1) (words_of NoStudy)
+    c.refuse_line.result
     (g.W.Write.contents c.args.out.now) (g.W.Write.contents c.refuse_line.new.out) c.refuse_line.ensures.ok
 
 pub returns-in-Ok-clause-written : goal.returns-in-Ok-clause-written
 returns-in-Ok-clause-written g c =
-    study-in g.T.Report.form g.T.Report.refusal c.args.line.now c.args.at.line (c.args.at.studies + 1)
+    study-in g.T.Report.form g.T.Report.refusal g.T.Report.remark c.args.line.now c.args.at.line (c.args.at.studies + 1)
     (g.W.Write.contents c.args.out.now) (g.W.Write.contents c.add_section.new.out)
     (c.in-Ok.ensures.formed (sym c.lacks_study.ensures ∙ c.if-lacks_study.false))
 
 pub returns-in-Err-OutOfMemory-clause-written : goal.returns-in-Err-OutOfMemory-clause-written
 returns-in-Err-OutOfMemory-clause-written g c =
-    left-out-part g.T.Report.form g.T.Report.refusal c.args.line.now c.args.at.line (c.args.at.studies + 1) OutOfMemory c.refuse_line-in-Err-OutOfMemory.result
+    left-out-part g.T.Report.form g.T.Report.refusal g.T.Report.remark c.args.line.now c.args.at.line (c.args.at.studies + 1) OutOfMemory
+    c.refuse_line-in-Err-OutOfMemory.result
     (g.W.Write.contents c.args.out.now) (g.W.Write.contents c.add_section.new.out) (g.W.Write.contents c.refuse_line-in-Err-OutOfMemory.new.out)
     (ap (λ w. g.W.Write.contents w) (c.in-Err-OutOfMemory.ensures.memory cc)) c.refuse_line-in-Err-OutOfMemory.ensures.ok
 
 pub returns-in-Err-Values-clause-written : goal.returns-in-Err-Values-clause-written
 returns-in-Err-Values-clause-written g c =
-    left-out-part g.T.Report.form g.T.Report.refusal c.args.line.now c.args.at.line (c.args.at.studies + 1) c.of_probe.result c.refuse_line-in-Err-Values.result
+    left-out-part g.T.Report.form g.T.Report.refusal g.T.Report.remark c.args.line.now c.args.at.line (c.args.at.studies + 1) c.of_probe.result
+    c.refuse_line-in-Err-Values.result
     (g.W.Write.contents c.args.out.now) (g.W.Write.contents c.add_section.new.out) (g.W.Write.contents c.refuse_line-in-Err-Values.new.out)
     (ap (λ w. g.W.Write.contents w) (c.in-Err-Values.ensures.untold c.in-Err-Values.fault cc)) c.refuse_line-in-Err-Values.ensures.ok
 

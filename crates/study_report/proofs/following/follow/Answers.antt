@@ -16,13 +16,12 @@ use Rattle.study_report.proofs.FirstAdded.{HasTold, ToldOn-more, few-told, told_
 use Rattle.study_report.proofs.FirstAdded.{told_ends, told_long, told_many, told_read, told_stops, gone_stops}
 use Rattle.study_report.proofs.FirstAdded.{told_before, told_before_stop}
 use Rattle.study_report.proofs.PartsWritten.{HasParts, parts_none, parts_more, parts_end, parts_long, parts_read, parts_many, parts_stop}
-use Rattle.study_report.specs.Parts.{WritesPart, IsPart}
 use Rattle.study_report.proofs.following.follow.Goals as goal
 
 pub returns-in-Err-TooLong-clause-outcome : goal.returns-in-Err-TooLong-clause-outcome
 returns-in-Err-TooLong-clause-outcome g c = λ first h.
     let on = c.loop-n.invariant.0 first h in
-    told_long g.T.Report.tells g.T.Report.refusal (g.R.Read.remaining c.read.new.script) (g.R.Read.remaining c.args.script.now)
+    told_long g.T.Report.tells g.T.Report.refusal g.T.Report.remark (g.R.Read.remaining c.read.new.script) (g.R.Read.remaining c.args.script.now)
     (g.R.Read.remaining c.loop-n.script) (g.W.Write.contents c.args.out.now) (g.W.Write.contents c.loop-n.out)
     first on.point c.loop-n.n c.loop-n.refused on.told (c.in-Err-TooLong.ensures.long cc) c.loop-n-test.true
 
@@ -30,7 +29,7 @@ pub returns-in-Ok-false-clause-outcome : goal.returns-in-Ok-false-clause-outcome
 returns-in-Ok-false-clause-outcome g c = λ first h.
     let on = c.loop-n.invariant.0 first h in
     let none = rw c.in-Ok-false.field-0-test at c.in-Ok-false.ensures.line in
-    told_ends g.T.Report.tells g.T.Report.refusal (g.R.Read.remaining c.read.new.script) (g.R.Read.remaining c.args.script.now)
+    told_ends g.T.Report.tells g.T.Report.refusal g.T.Report.remark (g.R.Read.remaining c.read.new.script) (g.R.Read.remaining c.args.script.now)
     (g.R.Read.remaining c.loop-n.script) (g.R.Read.remaining c.read.new.script)
     (g.W.Write.contents c.args.out.now) (g.W.Write.contents c.loop-n.out) first on.point c.read.new.self
     c.loop-n.n c.loop-n.refused on.told none (omega arith)
@@ -39,7 +38,7 @@ pub returns-in-Ok-false-clause-after : goal.returns-in-Ok-false-clause-after
 returns-in-Ok-false-clause-after g c = λ first h.
     let on = c.loop-n.invariant.0 first h in
     let none = rw c.in-Ok-false.field-0-test at c.in-Ok-false.ensures.line in
-    told_after g.T.Report.tells g.T.Report.refusal
+    told_after g.T.Report.tells g.T.Report.refusal g.T.Report.remark
     (SessionHolds g.S.Pages.PageSource.honest g.S.Pages.PageSource.gives (HonestOn none_trusted g.S.TableStore.honest) g.S.TableStore.files
     g.S.TableStore.headers g.S.TableStore.faults c.loop-n.session.document c.loop-n.session.tables c.loop-n.session.store.now)
     (g.R.Read.remaining c.args.script.now) (g.R.Read.remaining c.loop-n.script) (g.R.Read.remaining c.read.new.script)
@@ -51,7 +50,7 @@ returns-in-Ok-None-clause-after g c = λ first h.
     let on = c.loop-n.invariant.0 first h in
     let end = rw c.in-Ok-None.field-0-is at c.in-Ok-None.ensures.end in
     let now = g.R.Read.remaining c.loop-n.script in
-    told_after g.T.Report.tells g.T.Report.refusal
+    told_after g.T.Report.tells g.T.Report.refusal g.T.Report.remark
     (SessionHolds g.S.Pages.PageSource.honest g.S.Pages.PageSource.gives (HonestOn none_trusted g.S.TableStore.honest) g.S.TableStore.files
     g.S.TableStore.headers g.S.TableStore.faults c.loop-n.session.document c.loop-n.session.tables c.loop-n.session.store.now)
     (g.R.Read.remaining c.args.script.now) now (g.R.Read.remaining c.read_byte.new.script)
@@ -62,9 +61,9 @@ pub returns-in-Ok-false-clause-listed : goal.returns-in-Ok-false-clause-listed
 returns-in-Ok-false-clause-listed g c = λ first before h kept.
     let on = c.loop-n.invariant.0 first h in
     let none = rw c.in-Ok-false.field-0-test at c.in-Ok-false.ensures.line in
-    listed-before g.T.Report.tells g.T.Report.refusal (g.T.Report.lists c.args.report.now) (g.T.Report.lists c.loop-n.report) before kept
+    listed-before g.T.Report.tells g.T.Report.refusal g.T.Report.remark (g.T.Report.lists c.args.report.now) (g.T.Report.lists c.loop-n.report) before kept
     (g.R.Read.remaining c.args.script.now) first (g.W.Write.contents c.args.out.now) (g.W.Write.contents c.loop-n.out)
-    (told_listed g.T.Report.tells g.T.Report.refusal (λ more. (told : List (Plainly × ℕ))
+    (told_listed g.T.Report.tells g.T.Report.refusal g.T.Report.remark (λ more. (told : List (Plainly × ℕ))
     → g.T.Report.lists c.args.report.now told → g.T.Report.lists c.loop-n.report (told ++ more))
     (g.R.Read.remaining c.args.script.now) (g.R.Read.remaining c.loop-n.script) (g.R.Read.remaining c.read.new.script)
     (g.W.Write.contents c.args.out.now) (g.W.Write.contents c.loop-n.out) first on.point c.read.new.self
@@ -75,9 +74,9 @@ returns-in-Ok-None-clause-listed g c = λ first before h kept.
     let on = c.loop-n.invariant.0 first h in
     let end = rw c.in-Ok-None.field-0-is at c.in-Ok-None.ensures.end in
     let now = g.R.Read.remaining c.loop-n.script in
-    listed-before g.T.Report.tells g.T.Report.refusal (g.T.Report.lists c.args.report.now) (g.T.Report.lists c.loop-n.report) before kept
+    listed-before g.T.Report.tells g.T.Report.refusal g.T.Report.remark (g.T.Report.lists c.args.report.now) (g.T.Report.lists c.loop-n.report) before kept
     (g.R.Read.remaining c.args.script.now) first (g.W.Write.contents c.args.out.now) (g.W.Write.contents c.loop-n.out)
-    (told_listed g.T.Report.tells g.T.Report.refusal (λ more. (told : List (Plainly × ℕ))
+    (told_listed g.T.Report.tells g.T.Report.refusal g.T.Report.remark (λ more. (told : List (Plainly × ℕ))
     → g.T.Report.lists c.args.report.now told → g.T.Report.lists c.loop-n.report (told ++ more))
     (g.R.Read.remaining c.args.script.now) now (g.R.Read.remaining c.read_byte.new.script)
     (g.W.Write.contents c.args.out.now) (g.W.Write.contents c.loop-n.out) first on.point [] c.loop-n.n c.loop-n.refused on.told
@@ -89,7 +88,7 @@ returns-in-Err-Device-clause-outcome g c = λ first h.
     let script = g.R.Read.remaining c.args.script.now in
     let now = g.R.Read.remaining c.loop-n.script in
     let left = g.R.Read.remaining c.read.new.script in
-    told_read g.T.Report.tells g.T.Report.refusal left script now (g.W.Write.contents c.args.out.now) (g.W.Write.contents c.loop-n.out)
+    told_read g.T.Report.tells g.T.Report.refusal g.T.Report.remark left script now (g.W.Write.contents c.args.out.now) (g.W.Write.contents c.loop-n.out)
     first on.point c.loop-n.n c.loop-n.refused on.told (omega arith)
     (gave-same script now left c.loop-n.n c.loop-n.invariant.3 (c.in-Err-Device.ensures.no_feed cc)) (c.in-Err-Device.ensures.no_feed cc)
 
@@ -102,10 +101,10 @@ returns-in-Ok-None-clause-outcome g c = λ first h.
     let old = g.W.Write.contents c.args.out.now in
     let new = g.W.Write.contents c.loop-n.out in
     let at : c.loop-n.n ≡ 100000 = omega arith in
-    let told = subst (λ k. HasTold g.T.Report.tells g.T.Report.refusal (λ more. (before : List (Plainly × ℕ))
+    let told = subst (λ k. HasTold g.T.Report.tells g.T.Report.refusal g.T.Report.remark (λ more. (before : List (Plainly × ℕ))
     → g.T.Report.lists c.args.report.now before → g.T.Report.lists c.loop-n.report (before ++ more))
     script now old new first on.point k c.loop-n.refused) at on.told in
-    told_ends g.T.Report.tells g.T.Report.refusal (g.R.Read.remaining c.read_byte.new.script) script now
+    told_ends g.T.Report.tells g.T.Report.refusal g.T.Report.remark (g.R.Read.remaining c.read_byte.new.script) script now
     (g.R.Read.remaining c.read_byte.new.script) old new first on.point [] 100000 c.loop-n.refused told
     (has_none now (g.R.Read.remaining c.read_byte.new.script) end.0 end.1) (omega arith)
 
@@ -118,10 +117,10 @@ returns-in-Ok-Some-clause-outcome g c = λ first h.
     let old = g.W.Write.contents c.args.out.now in
     let new = g.W.Write.contents c.loop-n.out in
     let at : c.loop-n.n ≡ 100000 = omega arith in
-    let told = subst (λ k. HasTold g.T.Report.tells g.T.Report.refusal (λ more. (before : List (Plainly × ℕ))
+    let told = subst (λ k. HasTold g.T.Report.tells g.T.Report.refusal g.T.Report.remark (λ more. (before : List (Plainly × ℕ))
     → g.T.Report.lists c.args.report.now before → g.T.Report.lists c.loop-n.report (before ++ more))
     script now old new first on.point k c.loop-n.refused) at on.told in
-    told_many g.T.Report.tells g.T.Report.refusal (g.R.Read.remaining c.read_byte.new.script) script now old new first on.point
+    told_many g.T.Report.tells g.T.Report.refusal g.T.Report.remark (g.R.Read.remaining c.read_byte.new.script) script now old new first on.point
     c.loop-n.refused told (has_more now (g.R.Read.remaining c.read_byte.new.script) c.in-Ok-Some.field-0-0 some)
 
 pub returns-in-Err-read_byte-clause-outcome : goal.returns-in-Err-read_byte-clause-outcome
@@ -131,17 +130,17 @@ returns-in-Err-read_byte-clause-outcome g c = λ first h.
     let now = g.R.Read.remaining c.loop-n.script in
     let left = g.R.Read.remaining c.read_byte.new.script in
     let kept : GaveFeeds now left 0 = ([], Consumes-kept now now left [] (Consumes-nil now) c.in-Err-read_byte.ensures.err, omega arith) in
-    told_read g.T.Report.tells g.T.Report.refusal left script now (g.W.Write.contents c.args.out.now) (g.W.Write.contents c.loop-n.out)
+    told_read g.T.Report.tells g.T.Report.refusal g.T.Report.remark left script now (g.W.Write.contents c.args.out.now) (g.W.Write.contents c.loop-n.out)
     first on.point c.loop-n.n c.loop-n.refused on.told (omega arith) (gave-same script now left c.loop-n.n c.loop-n.invariant.3 kept) kept
 
 pub returns-in-Err-clause-outcome : goal.returns-in-Err-clause-outcome
 returns-in-Err-clause-outcome g c = λ first h.
     let on = c.loop-n.invariant.0 first h in
     let some = rw c.in-Ok-true.field-0-test at c.in-Ok-true.ensures.line in
-    let stop : Stops (IsAdded g.T.Report.tells g.T.Report.refusal on.point c.read.new.self) (g.W.Write.contents c.loop-n.out)
+    let stop : Stops (IsAdded g.T.Report.tells g.T.Report.refusal g.T.Report.remark on.point c.read.new.self) (g.W.Write.contents c.loop-n.out)
     (g.W.Write.contents c.add_line.new.out) c.in-Err.fault =
     rw c.as_slice.ensures at (c.in-Err.ensures.err on.point on.held (omega (arith, on.lines_are), on.studies_are)) in
-    (told_stops g.T.Report.tells g.T.Report.refusal (g.R.Read.remaining c.args.script.now) (g.R.Read.remaining c.loop-n.script)
+    (told_stops g.T.Report.tells g.T.Report.refusal g.T.Report.remark (g.R.Read.remaining c.args.script.now) (g.R.Read.remaining c.loop-n.script)
     (g.R.Read.remaining c.read.new.script) (g.W.Write.contents c.args.out.now) (g.W.Write.contents c.loop-n.out) (g.W.Write.contents c.add_line.new.out)
     first on.point c.read.new.self c.loop-n.n c.loop-n.refused c.in-Err.fault on.told some c.in-Ok-true.ensures.short c.loop-n-test.true
     (gave-more (g.R.Read.remaining c.args.script.now) (g.R.Read.remaining c.loop-n.script)
@@ -198,7 +197,7 @@ pub loop-n-init : goal.loop-n-init
 loop-n-init g c = (
   λ first h. record {
     point = begun first;
-    told = told_none g.T.Report.tells g.T.Report.refusal (λ more. (told : List (Plainly × ℕ))
+    told = told_none g.T.Report.tells g.T.Report.refusal g.T.Report.remark (λ more. (told : List (Plainly × ℕ))
         → g.T.Report.lists c.args.report.now told → g.T.Report.lists c.args.report.now (told ++ more))
         (λ told kept. subst (λ (l : List (Plainly × ℕ)). g.T.Report.lists c.args.report.now l) (sym (append-nil told)) kept)
         (g.R.Read.remaining c.args.script.now) (g.W.Write.contents c.args.out.now) first;
@@ -210,7 +209,7 @@ loop-n-init g c = (
   omega arith,
   ([], Consumes-nil (g.R.Read.remaining c.args.script.now), omega arith),
   gone_none (g.R.Read.remaining c.args.script.now),
-  parts_none g.T.Report.form g.T.Report.refusal (g.R.Read.remaining c.args.script.now) (g.W.Write.contents c.args.out.now),
+  parts_none g.T.Report.form g.T.Report.refusal g.T.Report.remark (g.R.Read.remaining c.args.script.now) (g.W.Write.contents c.args.out.now),
 )
 
 pub loop-n-preserved : goal.loop-n-preserved
@@ -227,12 +226,12 @@ loop-n-preserved g c =
     let numbered = c.studies-studies.ensures in (
       λ first h.
           let on = c.loop-n.invariant.0 first h in
-          let said : Adds (IsAdded g.T.Report.tells g.T.Report.refusal on.point line)
+          let said : Adds (IsAdded g.T.Report.tells g.T.Report.refusal g.T.Report.remark on.point line)
           (SessionHolds g.S.Pages.PageSource.honest g.S.Pages.PageSource.gives (HonestOn none_trusted g.S.TableStore.honest) g.S.TableStore.files
           g.S.TableStore.headers g.S.TableStore.faults c.add_line.new.session.document c.add_line.new.session.tables c.add_line.new.session.store.now)
           mid new told =
           rw c.as_slice.ensures at (c.in-Ok.ensures.ok on.point on.held (omega (arith, on.lines_are), on.studies_are)) in
-          ToldOn-more g.T.Report.tells g.T.Report.refusal
+          ToldOn-more g.T.Report.tells g.T.Report.refusal g.T.Report.remark
           (SessionHolds g.S.Pages.PageSource.honest g.S.Pages.PageSource.gives (HonestOn none_trusted g.S.TableStore.honest) g.S.TableStore.files
           g.S.TableStore.headers g.S.TableStore.faults c.loop-n.session.document c.loop-n.session.tables c.loop-n.session.store.now)
           (SessionHolds g.S.Pages.PageSource.honest g.S.Pages.PageSource.gives (HonestOn none_trusted g.S.TableStore.honest) g.S.TableStore.files
@@ -254,7 +253,7 @@ loop-n-preserved g c =
           (g.R.Read.remaining c.read.new.script) c.loop-n.n 1 c.loop-n.invariant.3 c.in-Ok-true.ensures.one_feed,
       gone_more (g.R.Read.remaining c.args.script.now) (g.R.Read.remaining c.loop-n.script)
           (g.R.Read.remaining c.read.new.script) line c.loop-n.n c.loop-n.invariant.4 some c.in-Ok-true.ensures.short,
-      parts_more g.T.Report.form g.T.Report.refusal (g.R.Read.remaining c.args.script.now) (g.R.Read.remaining c.loop-n.script)
+      parts_more g.T.Report.form g.T.Report.refusal g.T.Report.remark (g.R.Read.remaining c.args.script.now) (g.R.Read.remaining c.loop-n.script)
           (g.R.Read.remaining c.read.new.script) (g.W.Write.contents c.args.out.now) mid new line c.loop-n.n (c.loop-n.n + 1)
           c.loop-n.refused _ c.loop-n.studies _ told c.loop-n.invariant.5 some refl
           (rw c.as_slice.ensures at c.in-Ok.ensures.written)
@@ -265,20 +264,20 @@ loop-n-preserved g c =
 
 pub returns-in-Err-TooLong-clause-fits : goal.returns-in-Err-TooLong-clause-fits
 returns-in-Err-TooLong-clause-fits g c =
-    parts_long g.T.Report.form g.T.Report.refusal (g.R.Read.remaining c.read.new.script) (g.R.Read.remaining c.args.script.now)
+    parts_long g.T.Report.form g.T.Report.refusal g.T.Report.remark (g.R.Read.remaining c.read.new.script) (g.R.Read.remaining c.args.script.now)
     (g.R.Read.remaining c.loop-n.script) (g.W.Write.contents c.args.out.now) (g.W.Write.contents c.loop-n.out) c.loop-n.n c.loop-n.refused
     c.loop-n.studies c.loop-n.invariant.5
 
 pub returns-in-Ok-false-clause-fits : goal.returns-in-Ok-false-clause-fits
 returns-in-Ok-false-clause-fits g c =
     let none = rw c.in-Ok-false.field-0-test at c.in-Ok-false.ensures.line in
-    parts_end g.T.Report.form g.T.Report.refusal (g.R.Read.remaining c.read.new.script) (g.R.Read.remaining c.args.script.now)
+    parts_end g.T.Report.form g.T.Report.refusal g.T.Report.remark (g.R.Read.remaining c.read.new.script) (g.R.Read.remaining c.args.script.now)
     (g.R.Read.remaining c.loop-n.script) (g.R.Read.remaining c.read.new.script) (g.W.Write.contents c.args.out.now)
     (g.W.Write.contents c.loop-n.out) c.read.new.self c.loop-n.n c.loop-n.refused c.loop-n.studies c.loop-n.invariant.5 none
 
 pub returns-in-Err-clause-fits : goal.returns-in-Err-clause-fits
 returns-in-Err-clause-fits g c =
-    parts_stop g.T.Report.form g.T.Report.refusal (g.R.Read.remaining c.read.new.script) (g.W.Write.contents c.args.out.now)
+    parts_stop g.T.Report.form g.T.Report.refusal g.T.Report.remark (g.R.Read.remaining c.read.new.script) (g.W.Write.contents c.args.out.now)
     (g.W.Write.contents c.add_line.new.out) (g.R.Read.remaining c.args.script.now) c.in-Err.fault c.in-Err.ensures.stops
 
 pub returns-in-Ok-None-clause-fits : goal.returns-in-Ok-None-clause-fits
@@ -289,8 +288,10 @@ returns-in-Ok-None-clause-fits g c =
     let old = g.W.Write.contents c.args.out.now in
     let new = g.W.Write.contents c.loop-n.out in
     let at : c.loop-n.n ≡ 100000 = omega arith in
-    let parts = subst (λ k. HasParts g.T.Report.form g.T.Report.refusal script now old new k c.loop-n.refused c.loop-n.studies) at c.loop-n.invariant.5 in
-    parts_end g.T.Report.form g.T.Report.refusal (g.R.Read.remaining c.read_byte.new.script) script now (g.R.Read.remaining c.read_byte.new.script)
+    let parts = subst (λ k. HasParts g.T.Report.form g.T.Report.refusal g.T.Report.remark script now old new k c.loop-n.refused c.loop-n.studies) at
+    c.loop-n.invariant.5 in
+    parts_end g.T.Report.form g.T.Report.refusal g.T.Report.remark (g.R.Read.remaining c.read_byte.new.script) script now (g.R.Read.remaining
+    c.read_byte.new.script)
     old new [] 100000 c.loop-n.refused c.loop-n.studies parts (has_none now (g.R.Read.remaining c.read_byte.new.script) end.0 end.1)
 
 pub returns-in-Ok-Some-clause-fits : goal.returns-in-Ok-Some-clause-fits
@@ -300,15 +301,17 @@ returns-in-Ok-Some-clause-fits g c =
     let old = g.W.Write.contents c.args.out.now in
     let new = g.W.Write.contents c.loop-n.out in
     let at : c.loop-n.n ≡ 100000 = omega arith in
-    let parts = subst (λ k. HasParts g.T.Report.form g.T.Report.refusal script now old new k c.loop-n.refused c.loop-n.studies) at c.loop-n.invariant.5 in
-    parts_many g.T.Report.form g.T.Report.refusal (g.R.Read.remaining c.read_byte.new.script) script now old new c.loop-n.refused c.loop-n.studies parts
+    let parts = subst (λ k. HasParts g.T.Report.form g.T.Report.refusal g.T.Report.remark script now old new k c.loop-n.refused c.loop-n.studies) at
+    c.loop-n.invariant.5 in
+    parts_many g.T.Report.form g.T.Report.refusal g.T.Report.remark (g.R.Read.remaining c.read_byte.new.script) script now old new c.loop-n.refused
+    c.loop-n.studies parts
 
 pub returns-in-Err-Device-clause-fits : goal.returns-in-Err-Device-clause-fits
 returns-in-Err-Device-clause-fits g c =
     let script = g.R.Read.remaining c.args.script.now in
     let now = g.R.Read.remaining c.loop-n.script in
     let left = g.R.Read.remaining c.read.new.script in
-    parts_read g.T.Report.form g.T.Report.refusal left script now (g.W.Write.contents c.args.out.now) (g.W.Write.contents c.loop-n.out)
+    parts_read g.T.Report.form g.T.Report.refusal g.T.Report.remark left script now (g.W.Write.contents c.args.out.now) (g.W.Write.contents c.loop-n.out)
     c.loop-n.n c.loop-n.refused c.loop-n.studies c.loop-n.invariant.5
     (gave-same script now left c.loop-n.n c.loop-n.invariant.3 (c.in-Err-Device.ensures.no_feed cc))
 
@@ -318,7 +321,7 @@ returns-in-Err-read_byte-clause-fits g c =
     let now = g.R.Read.remaining c.loop-n.script in
     let left = g.R.Read.remaining c.read_byte.new.script in
     let kept : GaveFeeds now left 0 = ([], Consumes-kept now now left [] (Consumes-nil now) c.in-Err-read_byte.ensures.err, omega arith) in
-    parts_read g.T.Report.form g.T.Report.refusal left script now (g.W.Write.contents c.args.out.now) (g.W.Write.contents c.loop-n.out)
+    parts_read g.T.Report.form g.T.Report.refusal g.T.Report.remark left script now (g.W.Write.contents c.args.out.now) (g.W.Write.contents c.loop-n.out)
     c.loop-n.n c.loop-n.refused c.loop-n.studies c.loop-n.invariant.5 (gave-same script now left c.loop-n.n c.loop-n.invariant.3 kept)
 
 -- ---- the list of a run that stopped
@@ -326,7 +329,8 @@ returns-in-Err-read_byte-clause-fits g c =
 pub returns-in-Err-TooLong-clause-listed_before : goal.returns-in-Err-TooLong-clause-listed_before
 returns-in-Err-TooLong-clause-listed_before g c = λ first before h kept.
     let on = c.loop-n.invariant.0 first h in
-    told_before g.T.Report.tells g.T.Report.refusal (λ more. g.T.Report.lists c.loop-n.report (before ++ more)) (g.R.Read.remaining c.args.script.now)
+    told_before g.T.Report.tells g.T.Report.refusal g.T.Report.remark (λ more. g.T.Report.lists c.loop-n.report (before ++ more)) (g.R.Read.remaining
+    c.args.script.now)
     (g.R.Read.remaining c.loop-n.script) (g.W.Write.contents c.args.out.now) (g.W.Write.contents c.loop-n.out) first on.point
     c.loop-n.n c.loop-n.refused (LineTooLong (c.loop-n.n + 1)) on.told (λ more l. l before kept) (λ p all added w. (refl, w))
 
@@ -334,21 +338,24 @@ pub returns-in-Ok-Some-clause-listed_before : goal.returns-in-Ok-Some-clause-lis
 returns-in-Ok-Some-clause-listed_before g c = λ first before h kept.
     let on = c.loop-n.invariant.0 first h in
     let at : c.loop-n.n ≡ 100000 = omega arith in
-    told_before g.T.Report.tells g.T.Report.refusal (λ more. g.T.Report.lists c.loop-n.report (before ++ more)) (g.R.Read.remaining c.args.script.now)
+    told_before g.T.Report.tells g.T.Report.refusal g.T.Report.remark (λ more. g.T.Report.lists c.loop-n.report (before ++ more)) (g.R.Read.remaining
+    c.args.script.now)
     (g.R.Read.remaining c.loop-n.script) (g.W.Write.contents c.args.out.now) (g.W.Write.contents c.loop-n.out) first on.point
     c.loop-n.n c.loop-n.refused TooManyLines on.told (λ more l. l before kept) (λ p all added w. (at, w))
 
 pub returns-in-Err-Device-clause-listed_before : goal.returns-in-Err-Device-clause-listed_before
 returns-in-Err-Device-clause-listed_before g c = λ first before h kept.
     let on = c.loop-n.invariant.0 first h in
-    told_before g.T.Report.tells g.T.Report.refusal (λ more. g.T.Report.lists c.loop-n.report (before ++ more)) (g.R.Read.remaining c.args.script.now)
+    told_before g.T.Report.tells g.T.Report.refusal g.T.Report.remark (λ more. g.T.Report.lists c.loop-n.report (before ++ more)) (g.R.Read.remaining
+    c.args.script.now)
     (g.R.Read.remaining c.loop-n.script) (g.W.Write.contents c.args.out.now) (g.W.Write.contents c.loop-n.out) first on.point
     c.loop-n.n c.loop-n.refused ReadDevice on.told (λ more l. l before kept) (λ p all added w. w)
 
 pub returns-in-Err-read_byte-clause-listed_before : goal.returns-in-Err-read_byte-clause-listed_before
 returns-in-Err-read_byte-clause-listed_before g c = λ first before h kept.
     let on = c.loop-n.invariant.0 first h in
-    told_before g.T.Report.tells g.T.Report.refusal (λ more. g.T.Report.lists c.loop-n.report (before ++ more)) (g.R.Read.remaining c.args.script.now)
+    told_before g.T.Report.tells g.T.Report.refusal g.T.Report.remark (λ more. g.T.Report.lists c.loop-n.report (before ++ more)) (g.R.Read.remaining
+    c.args.script.now)
     (g.R.Read.remaining c.loop-n.script) (g.W.Write.contents c.args.out.now) (g.W.Write.contents c.loop-n.out) first on.point
     c.loop-n.n c.loop-n.refused ReadDevice on.told (λ more l. l before kept) (λ p all added w. w)
 
@@ -356,10 +363,10 @@ pub returns-in-Err-clause-listed_before : goal.returns-in-Err-clause-listed_befo
 returns-in-Err-clause-listed_before g c = λ first before h kept.
     let on = c.loop-n.invariant.0 first h in
     let some = rw c.in-Ok-true.field-0-test at c.in-Ok-true.ensures.line in
-    let stop : Stops (IsAdded g.T.Report.tells g.T.Report.refusal on.point c.read.new.self) (g.W.Write.contents c.loop-n.out)
+    let stop : Stops (IsAdded g.T.Report.tells g.T.Report.refusal g.T.Report.remark on.point c.read.new.self) (g.W.Write.contents c.loop-n.out)
     (g.W.Write.contents c.add_line.new.out) c.in-Err.fault =
     rw c.as_slice.ensures at (c.in-Err.ensures.err on.point on.held (omega (arith, on.lines_are), on.studies_are)) in
-    told_before_stop g.T.Report.tells g.T.Report.refusal (λ more. g.T.Report.lists c.add_line.new.report (before ++ more))
+    told_before_stop g.T.Report.tells g.T.Report.refusal g.T.Report.remark (λ more. g.T.Report.lists c.add_line.new.report (before ++ more))
     (g.R.Read.remaining c.args.script.now) (g.R.Read.remaining c.loop-n.script) (g.R.Read.remaining c.read.new.script)
     (g.W.Write.contents c.args.out.now) (g.W.Write.contents c.loop-n.out) (g.W.Write.contents c.add_line.new.out) first on.point c.read.new.self
     c.loop-n.n c.loop-n.refused c.in-Err.fault on.told some (λ more l. c.in-Err.ensures.unlisted (before ++ more) (l before kept)) stop

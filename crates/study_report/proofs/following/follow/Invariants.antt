@@ -15,7 +15,7 @@ invariant-loop-n g l =
     ((first : State) → SessionHolds g.S.Pages.PageSource.honest g.S.Pages.PageSource.gives (HonestOn none_trusted g.S.TableStore.honest) g.S.TableStore.files
     g.S.TableStore.headers g.S.TableStore.faults
     l.fn.session.document l.fn.session.tables l.fn.session.store.now first
-    → ToldOn g.T.Report.tells g.T.Report.refusal
+    → ToldOn g.T.Report.tells g.T.Report.refusal g.T.Report.remark
     (SessionHolds g.S.Pages.PageSource.honest g.S.Pages.PageSource.gives (HonestOn none_trusted g.S.TableStore.honest) g.S.TableStore.files
     g.S.TableStore.headers g.S.TableStore.faults
     l.session.document l.session.tables l.session.store.now)
@@ -24,5 +24,5 @@ invariant-loop-n g l =
     (g.W.Write.contents l.fn.out) (g.W.Write.contents l.out) first l.n l.refused l.studies)
     × (l.refused ≤ l.n) × (l.studies ≤ l.n) × GaveFeeds (g.R.Read.remaining l.fn.script) (g.R.Read.remaining l.script) l.n
     × Gone (g.R.Read.remaining l.fn.script) (g.R.Read.remaining l.script) l.n
-    × HasParts g.T.Report.form g.T.Report.refusal (g.R.Read.remaining l.fn.script) (g.R.Read.remaining l.script)
+    × HasParts g.T.Report.form g.T.Report.refusal g.T.Report.remark (g.R.Read.remaining l.fn.script) (g.R.Read.remaining l.script)
     (g.W.Write.contents l.fn.out) (g.W.Write.contents l.out) l.n l.refused l.studies

@@ -1,0 +1,171 @@
+//! The remarks of an imported script as paragraphs.
+ghost use Rattle.std.specs.Prelude.{◌≡◌, ◌∷◌, ◌++◌, [], Err, OnOk, IfOk};
+ghost use Rattle.std.specs.List.{flat_map};
+ghost use Rattle.std.specs.Io.KnownBytes.{Appends};
+ghost use Rattle.study_text.specs.Taken.{TakesPrefix};
+ghost use Rattle.study_html.specs.Escape.{said};
+ghost use Rattle.study_print.specs.Remarks.{left_out_part, letter, latin_letter, spelled, original_part, remark_text};
+
+use std::alloc::{AllocError, Allocator};
+use std::io::Write;
+use study_games::is_utf8;
+use study_html::{Element, Html};
+use study_page::PageFault;
+use study_report::{behind, is_left_out};
+use study_text::{Text, write_text};
+
+/// The paragraph of a game without a page.
+#[tactic(auto, unfolding(crate::specs::Remarks::left_out_part))]
+fn left_out_of<'a, A: Allocator>(alloc: &'a A, line: &[u8]) -> Result<Html<'a, A>, AllocError>
+    ensures { IfOk result (λ html. html ≡ left_out_part line.now) }
+{
+    let mut html = Html::new(alloc);
+    let mut part = Html::new(alloc);
+    part.say(b"No page for ")?;
+    part.say(behind(line, 2))?;
+    html.put(Element::Warning, &part)?;
+    Ok(html)
+}
+
+/// Writes the paragraph of a game without a page.
+fn write_left_out<'a, A: Allocator, W: Write>(
+    alloc: &'a A,
+    line: &[u8],
+    out: &mut W,
+) -> Result<(), PageFault>
+    ensures ok { OnOk result (Appends (W.contents out.old) (W.contents out.new) (left_out_part line.now)) }
+    ensures device { result ≡ Err PageFault.Device → TakesPrefix (W.contents out.old) (W.contents out.new) (left_out_part line.now) }
+    ensures memory { result ≡ Err PageFault.OutOfMemory → out.new ≡ out.old }
+{
+    let html = left_out_of(alloc, line)?;
+    write_text(out, html.as_slice())?;
+    Ok(())
+}
+
+/// Adds a byte as words, which are never read as markup.
+fn add_said<'a, A: Allocator>(
+    alloc: &'a A,
+    text: &mut Text<'_, A>,
+    byte: u8,
+) -> Result<(), AllocError>
+    ensures { OnOk result (text.new ≡ text.old ++ said (byte ∷ [])) }
+{
+    let mut html = Html::new(alloc);
+    html.say(&[byte])?;
+    text.add(html.as_slice())
+}
+
+/// Adds a byte of a text in UTF-8.
+fn add_letter<'a, A: Allocator>(
+    alloc: &'a A,
+    text: &mut Text<'_, A>,
+    byte: u8,
+) -> Result<(), AllocError>
+    ensures { OnOk result (text.new ≡ text.old ++ letter byte) }
+{
+    if 128 <= byte {
+        return text.add(&[byte]);
+    }
+    add_said(alloc, text, byte)
+}
+
+/// Adds a byte of a text in Latin 1, as UTF-8.
+fn add_latin_letter<'a, A: Allocator>(
+    alloc: &'a A,
+    text: &mut Text<'_, A>,
+    byte: u8,
+) -> Result<(), AllocError>
+    ensures { OnOk result (text.new ≡ text.old ++ latin_letter byte) }
+{
+    if 160 <= byte {
+        return text.add(&[192 + byte / 64, 128 + byte % 64]);
+    }
+    add_said(alloc, text, byte)
+}
+
+fn add_letters<'a, A: Allocator>(
+    alloc: &'a A,
+    text: &mut Text<'_, A>,
+    bytes: &[u8],
+) -> Result<(), AllocError>
+    ensures { OnOk result (text.new ≡ text.old ++ flat_map letter bytes.now) }
+{
+    for byte in bytes {
+        add_letter(alloc, text, *byte)?;
+    }
+    Ok(())
+}
+
+fn add_latin_letters<'a, A: Allocator>(
+    alloc: &'a A,
+    text: &mut Text<'_, A>,
+    bytes: &[u8],
+) -> Result<(), AllocError>
+    ensures { OnOk result (text.new ≡ text.old ++ flat_map latin_letter bytes.now) }
+{
+    for byte in bytes {
+        add_latin_letter(alloc, text, *byte)?;
+    }
+    Ok(())
+}
+
+/// Adds a text in its own letters.
+#[tactic(auto, unfolding(crate::specs::Remarks::spelled))]
+fn add_spelled<'a, A: Allocator>(
+    alloc: &'a A,
+    text: &mut Text<'_, A>,
+    bytes: &[u8],
+) -> Result<(), AllocError>
+    ensures { OnOk result (text.new ≡ text.old ++ spelled bytes.now) }
+{
+    if is_utf8(bytes) {
+        return add_letters(alloc, text, bytes);
+    }
+    add_latin_letters(alloc, text, bytes)
+}
+
+/// Adds the paragraph with the original text of a tag.
+#[tactic(auto, unfolding(crate::specs::Remarks::original_part))]
+fn add_original<'a, A: Allocator>(
+    alloc: &'a A,
+    text: &mut Text<'_, A>,
+    line: &[u8],
+) -> Result<(), AllocError>
+    ensures { OnOk result (text.new ≡ text.old ++ original_part line.now) }
+{
+    text.add(b"<p class=\"note\">")?;
+    add_spelled(alloc, text, behind(line, 2))?;
+    text.add(b"</p>")
+}
+
+/// Writes the paragraph with the original text of a tag.
+fn write_original<'a, A: Allocator, W: Write>(
+    alloc: &'a A,
+    line: &[u8],
+    out: &mut W,
+) -> Result<(), PageFault>
+    ensures ok { OnOk result (Appends (W.contents out.old) (W.contents out.new) (original_part line.now)) }
+    ensures device { result ≡ Err PageFault.Device → TakesPrefix (W.contents out.old) (W.contents out.new) (original_part line.now) }
+    ensures memory { result ≡ Err PageFault.OutOfMemory → out.new ≡ out.old }
+{
+    let mut text = Text::new(alloc);
+    add_original(alloc, &mut text, line)?;
+    write_text(out, text.as_slice())?;
+    Ok(())
+}
+
+/// Writes the paragraph of a remark.
+pub fn write_remark<'a, A: Allocator, W: Write>(
+    alloc: &'a A,
+    line: &[u8],
+    out: &mut W,
+) -> Result<(), PageFault>
+    ensures ok { OnOk result (Appends (W.contents out.old) (W.contents out.new) (remark_text line.now)) }
+    ensures device { result ≡ Err PageFault.Device → TakesPrefix (W.contents out.old) (W.contents out.new) (remark_text line.now) }
+    ensures memory { result ≡ Err PageFault.OutOfMemory → out.new ≡ out.old }
+{
+    if is_left_out(line) {
+        return write_left_out(alloc, line, out);
+    }
+    write_original(alloc, line, out)
+}

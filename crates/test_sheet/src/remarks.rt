@@ -1,0 +1,97 @@
+//! Remarks of studyimport on printed pages.
+use crate::kings::two_kings;
+use std::alloc::Global;
+use std::process::Abort;
+use std::test::Fail;
+use study_print::{Unwatched, follow_pages};
+use study_script::{RunFault, Summary};
+use study_text::{MemoryReader, MemoryWriter, WhenFull};
+
+/// Each remark that is shown, comments that are not, and a refused line.
+const SCRIPT: &str = "# game 1, line 1: stipulated by its tag Result
+# not taken over: comments 2
+# behind the result: line 9, column 4
+# White was: Réti, Richard
+# Event was: <b> & \"Ж\"
+ # Site was: Prague
+# Whites was: R
+delete 7
+
+# game 2, line 31: left out: 7 men
+
+# game 3, line 52, column 17: NoSuchMove at Kb6
+
+# game 4, line 60: NoStipulation
+
+# game plan: none
+# games 4, studies 0
+";
+
+/// The text between the opening and the closing.
+const REMARKS: &str =
+    "<p class=\"note\">White was: Réti, Richard</p><p class=\"note\">Event was: &lt;b&gt; &amp; &quot;Ж&quot;</p>\
+<p class=\"warn\">Line 8 was refused: <code>delete 7</code> <b>NoStudy</b>: no stipulation yet</p>\
+<p class=\"warn\">No page for game 2, line 31: left out: 7 men</p>\
+<p class=\"warn\">No page for game 3, line 52, column 17: NoSuchMove at Kb6</p>\
+<p class=\"warn\">No page for game 4, line 60: NoStipulation</p></body></html>\n";
+
+/// The pages that are written to this writer, and the result.
+fn pages_to<'a>(
+    rt: &impl Abort,
+    alloc: &'a Global,
+    script: &[u8],
+    mut writer: MemoryWriter<'a, Global>,
+) -> (Vec<u8, &'a Global>, Result<Summary, RunFault>) {
+    let answer = follow_pages(
+        alloc,
+        &mut MemoryReader::new(script),
+        &mut writer,
+        Unwatched,
+        two_kings(rt, alloc),
+    );
+    (writer.taken, answer)
+}
+
+#[test]
+fn remarks_are_printed(rt: HostRuntime) -> Result<(), Fail> {
+    let alloc = rt.alloc();
+    let writer = MemoryWriter::new(&alloc);
+    let (text, answer) = pages_to(&rt, &alloc, SCRIPT.as_bytes(), writer);
+    let text = std::str::from_utf8(text.as_slice()).unwrap_or("no text");
+    let (_, pages) = text.split_once("</defs></svg>\n").unwrap_or(("", ""));
+    assert!(rt; pages == REMARKS);
+    let wanted = Summary {
+        lines: 17,
+        refused: 1,
+    };
+    assert_eq!(rt; answer, Ok(wanted));
+    Ok(())
+}
+
+/// An original that is not UTF-8 is Latin 1, and a byte that is no letter is shown by its number.
+#[test]
+fn an_original_may_be_latin_1(rt: HostRuntime) -> Result<(), Fail> {
+    let alloc = rt.alloc();
+    let writer = MemoryWriter::new(&alloc);
+    let (text, _) = pages_to(&rt, &alloc, b"# White was: R\xE9ti \x80\xFF\n", writer);
+    let text = std::str::from_utf8(text.as_slice()).unwrap_or("no text");
+    let (_, pages) = text.split_once("</defs></svg>\n").unwrap_or(("", ""));
+    assert!(rt; pages == "<p class=\"note\">White was: Réti \\x80ÿ</p></body></html>\n");
+    Ok(())
+}
+
+/// A writer that is full in a remark has a prefix of the file.
+#[test]
+fn a_full_writer_has_the_front_of_the_pages(rt: HostRuntime) -> Result<(), Fail> {
+    let alloc = rt.alloc();
+    let (whole, _) = pages_to(&rt, &alloc, SCRIPT.as_bytes(), MemoryWriter::new(&alloc));
+    for left in [REMARKS.len() - 30, 100, 1] {
+        let room = whole.len().saturating_sub(left);
+        let writer = MemoryWriter::with_room(&alloc, room, WhenFull::Fail);
+        let (text, answer) = pages_to(&rt, &alloc, SCRIPT.as_bytes(), writer);
+        assert!(rt; answer == Err(RunFault::WriteDevice));
+        assert!(rt; text.len() == room);
+        assert!(rt; whole.as_slice().starts_with(text.as_slice()));
+    }
+    Ok(())
+}
