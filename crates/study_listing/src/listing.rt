@@ -18,6 +18,7 @@ use crate::text::Form;
 use std::io::Write;
 use study_board::Side;
 use study_material::Class;
+use study_prober::CellPages;
 use study_search::{Search, Theme, longest_mate, next_found};
 use study_text::write_text;
 use study_values::{ProbeFault, Values, cells};
@@ -59,7 +60,7 @@ fn piece_end(at: u32, to: u32) -> u32
 }
 
 /// The number of listed positions in a range of numbers.
-pub fn count_numbers<V: Values, H: Watch>(
+pub fn count_numbers<V: CellPages, H: Watch>(
     selection: &Selection,
     numbers: Numbers,
     values: &mut V,
@@ -96,7 +97,7 @@ pub fn count_numbers<V: Values, H: Watch>(
 /// Writes the listed positions of a range of numbers, as they are found, and returns their count.
 ///
 /// If a value cannot be read or the writer fails, what is found before that has been written.
-pub fn list_numbers<V: Values, W: Write, H: Watch>(
+pub fn list_numbers<V: CellPages, W: Write, H: Watch>(
     selection: &Selection,
     form: Form,
     numbers: Numbers,
@@ -142,7 +143,7 @@ pub fn list_numbers<V: Values, W: Write, H: Watch>(
 }
 
 /// The number of listed positions.
-pub fn count_found<V: Values, H: Watch>(
+pub fn count_found<V: CellPages, H: Watch>(
     selection: &Selection,
     values: &mut V,
     watch: &mut H,
@@ -160,7 +161,7 @@ pub fn count_found<V: Values, H: Watch>(
 }
 
 /// Writes the lines.
-fn list_lines<V: Values, W: Write, H: Watch>(
+fn list_lines<V: CellPages, W: Write, H: Watch>(
     selection: &Selection,
     values: &mut V,
     out: &mut W,
@@ -185,7 +186,7 @@ fn list_lines<V: Values, W: Write, H: Watch>(
 }
 
 /// Writes the studies as a script. They are counted first, so that a list with too many is refused before its first line.
-fn list_studies<V: Values, W: Write, H: Watch>(
+fn list_studies<V: CellPages, W: Write, H: Watch>(
     selection: &Selection,
     values: &mut V,
     out: &mut W,
@@ -221,7 +222,7 @@ fn list_studies<V: Values, W: Write, H: Watch>(
 }
 
 /// Writes the listed positions, as they are found, and returns their count. A script with too many studies is refused before its first line.
-pub fn list_found<V: Values, W: Write, H: Watch>(
+pub fn list_found<V: CellPages, W: Write, H: Watch>(
     selection: &Selection,
     form: Form,
     values: &mut V,

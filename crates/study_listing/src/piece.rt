@@ -19,6 +19,7 @@ use arrayvec::{ArrayString, ArrayVec};
 use itoa::Buffer;
 use std::io::Write;
 use study_material::{CLASS_COUNT, Class, order};
+use study_prober::CellPages;
 use study_text::write_text;
 use study_values::{ProbeFault, Values, cells};
 
@@ -63,7 +64,7 @@ fn end_of(piece: &Piece) -> u32
 }
 
 /// Writes the lines of the listed positions.
-fn write_lines<V: Values, W: Write>(
+fn write_lines<V: CellPages, W: Write>(
     selection: Option<Selection>,
     numbers: Numbers,
     values: &mut V,
@@ -112,7 +113,7 @@ fn write_how_far<W: Write>(out: &mut W, end: u32, all: u32) -> Result<(), Stop>
 }
 
 /// Writes the lines, and the progress of the list.
-fn write_selected<V: Values, W: Write>(
+fn write_selected<V: CellPages, W: Write>(
     piece: &Piece,
     selection: Option<Selection>,
     values: &mut V,
@@ -136,7 +137,7 @@ fn write_selected<V: Values, W: Write>(
 
 /// Writes the lines of the listed positions between the numbers, then the progress of the list: `to N of M`. All numbers of the class from the first
 /// and below N are searched, and M is how many numbers the class has. After an error, the content of `out` is not a piece.
-pub fn write_piece<V: Values, W: Write>(
+pub fn write_piece<V: CellPages, W: Write>(
     piece: &Piece,
     values: &mut V,
     out: &mut W,

@@ -8,4 +8,5 @@ pub mod ProbedSources
 pub mod Headers
 pub mod KeptCells
 pub mod PagedAnswers
+pub mod ReadPages
 mod LatestPage

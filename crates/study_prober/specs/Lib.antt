@@ -4,3 +4,4 @@ pub mod PagedTables
 pub mod HeaderAnswers
 pub mod PageCache
 pub mod FailingValues
+pub mod CellPages

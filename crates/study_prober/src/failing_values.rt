@@ -8,9 +8,10 @@ ghost use Rattle.study_values.specs.declared.fault.SourceFault.{SourceFault as A
 ghost use Rattle.study_values.specs.declared.fault.SourceFault.TheVariants.{Device};
 ghost use Rattle.study_values.specs.Values.{IsNotDamage, faults_after, page_number};
 
+use crate::cell_pages::{CellPages, failures_after_page};
 use study_board::Position;
 use study_material::{Class, class_of};
-use study_values::{ProbeFault, SourceFault, Value, Values, failures_after};
+use study_values::{PAGE_CELLS, ProbeFault, SourceFault, Value, Values, failures_after};
 
 /// The values of another source, except that the device of the table fails at one probe.
 #[derive(Drop)]
@@ -100,5 +101,24 @@ impl<V: Values> Values for FailingValues<V> {
 
     fn failures(&self) -> u64 {
         self.failures
+    }
+}
+
+impl<V: CellPages> CellPages for FailingValues<V> {
+    fn read_cells(
+        &mut self,
+        class: Class,
+        number: u32,
+        into: &mut [u8; PAGE_CELLS],
+    ) -> Result<(), ProbeFault> {
+        let asked = self.asked;
+        self.asked = self.asked.saturating_add(1);
+        let answer = if self.fails_at == Some(asked) && self.values.holds(class) {
+            Err(ProbeFault::TableRead(SourceFault::Device))
+        } else {
+            self.values.read_cells(class, number, into)
+        };
+        self.failures = failures_after_page(self.failures, &answer);
+        answer
     }
 }

@@ -6,6 +6,7 @@
 //! file of a right table, and the cache changes no answer. `failing_values` has values that fail at a probe that a test sets.
 #![tactic(auto)]
 
+mod cell_pages;
 mod failing_values;
 mod fault;
 mod open_table;
@@ -13,6 +14,7 @@ mod page_cache;
 mod paged_tables;
 mod whole_tables;
 
+pub use cell_pages::CellPages;
 pub use failing_values::FailingValues;
 pub use fault::PagedFault;
 pub use paged_tables::PagedTables;

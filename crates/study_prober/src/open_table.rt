@@ -70,6 +70,35 @@ impl<S: PageSource> OpenTable<S> {
             Err(ProbeFault::PageDamaged(self.header.class, number))
         }
     }
+
+    /// Reads the cells of a page.
+    pub fn cells(&mut self, number: u32, into: &mut [u8; PAGE_CELLS]) -> Result<(), ProbeFault>
+        requires header { IsHeaderOf self.old.header self.old.header.class }
+        requires number { number < pages_of self.old.header.class }
+        ensures header { self.new.header ≡ self.old.header }
+        ensures same { AreHonestAlike S.honest self.old.source self.new.source }
+        ensures ok { (t : Seen) → S.honest self.old.source t self.old.header.version → t.class ≡ self.old.header.class
+            → OnOk result (into.new ≡ cells_on_page t number) }
+        ensures whole { (t : Seen) → S.honest self.old.source t self.old.header.version → t.class ≡ self.old.header.class → IsComplete t
+            → (c : AClass) (n : ℕ) → IsErrOf result (ProbeFault.PageDamaged c n) → ⊥ }
+        ensures alike { GiveAlike S.gives self.old.source self.new.source }
+        ensures checked { OnOk result (IsGivenPage S.gives self.old number into.new) }
+        ensures unread { (f : ASourceFault) → IsErrOf result (ProbeFault.TableRead f) → S.gives self.old.source (of_page number) (Err f) }
+        ensures damaged { (c : AClass) (n : ℕ) → IsErrOf result (ProbeFault.PageDamaged c n) → (c ≡ self.old.header.class) × (n ≡ number) }
+        ensures no_table { (c : AClass) → IsErrOf result (ProbeFault.NoTable c) → ⊥ }
+    {
+        let mut page = [0; PAGE_BYTES];
+        self.page(number, &mut page)?;
+        copy_front(&page, into);
+        Ok(())
+    }
+}
+
+/// Copies the cells of a page.
+fn copy_front(page: &[u8; PAGE_BYTES], into: &mut [u8; PAGE_CELLS])
+    ensures { into.new ≡ take 4096 page.now }
+{
+    into.copy_from_slice(&page[..PAGE_CELLS]);
 }
 
 /// The value of a cell of a page, which is read from the source. A page for which there is no room in memory is used and not cached.

@@ -18,12 +18,15 @@ ghost use Rattle.study_values.specs.declared.fault.SourceFault.{SourceFault as A
 ghost use Rattle.study_prober.specs.PageCache.{kept_cell};
 ghost use Rattle.study_prober.specs.declared.open_table.OpenTable.{OpenTable as AHeld};
 ghost use Rattle.study_prober.specs.Sources.{AreHonestAlike, GiveAlike, HasBadPage, IsReadFrom, GivesRight};
+ghost use Rattle.study_prober.specs.Sources.{IsGivenPage, cells_on_page};
 ghost use Rattle.study_prober.specs.Sources.{IsHeaderOf, PutsNone, PutsOnly, failed_after};
 ghost use Rattle.study_prober.specs.PagedTables.{SourcesAreRight, AreGiven, IsKept, IsPageFor, IsPagedAnswer, IsSameSource, IsToldAgain, MayFail, held_of};
 ghost use Rattle.study_prober.specs.PagedTables.{places_for_classes};
 ghost use Rattle.study_values.specs.Values.{IsNotDamage, faults_after, page_number};
+ghost use Rattle.study_prober.specs.CellPages.{IsAskedOnly};
 ghost use Rattle.study_prober.specs.HeaderAnswers.{IsRefusedBy, MayAnswer, paged_fault};
 
+use crate::cell_pages::{CellPages, failures_after_page};
 use crate::fault::PagedFault;
 use crate::open_table::{OpenTable, header_of, value_of_number};
 use crate::page_cache::Pages;
@@ -35,7 +38,7 @@ use study_board::Position;
 use study_index::index;
 use study_material::{CLASS_COUNT, Class, class_of};
 use study_tablefile::PageSource;
-use study_values::{ProbeFault, Value, Values, failures_after};
+use study_values::{PAGE_CELLS, ProbeFault, Value, Values, failures_after};
 
 /// Tables whose pages are read as they are needed, and the last used pages.
 #[derive(Drop)]
@@ -294,5 +297,50 @@ impl<'a, S: PageSource, A: Allocator> Values for PagedTables<'a, S, A> {
 
     fn failures(&self) -> u64 {
         self.failed
+    }
+}
+
+/// The cells of a page of a class, read from its source.
+fn read_page<'a, S: PageSource, A: Allocator>(
+    sources: &mut Vec<Option<OpenTable<S>>, &'a A>,
+    class: Class,
+    number: u32,
+    into: &mut [u8; PAGE_CELLS],
+) -> Result<(), ProbeFault>
+    requires number { number < pages_of class }
+    requires headers { (c : AClass) (h : AHeld S) → held_of sources.old.items c ≡ Some h → IsHeaderOf h.header c }
+    ensures asked { IsAskedOnly S.gives S.honest class sources.old.items sources.new.items }
+    ensures told { (h : AHeld S) (t : Seen) → held_of sources.old.items class ≡ Some h → S.honest h.source t h.header.version → t.class ≡ class
+        → OnOk result (into.new ≡ cells_on_page t number) }
+    ensures whole { (h : AHeld S) (t : Seen) → held_of sources.old.items class ≡ Some h → S.honest h.source t h.header.version → t.class ≡ class
+        → IsComplete t → (c : AClass) (n : ℕ) → IsErrOf result (ProbeFault.PageDamaged c n) → ⊥ }
+    ensures checked { (h : AHeld S) → held_of sources.old.items class ≡ Some h → OnOk result (IsGivenPage S.gives h number into.new) }
+    ensures unread { (h : AHeld S) (f : ASourceFault) → held_of sources.old.items class ≡ Some h → IsErrOf result (ProbeFault.TableRead f)
+        → S.gives h.source (of_page number) (Err f) }
+    ensures no_table { (c : AClass) → IsErrOf result (ProbeFault.NoTable c) ↔ ((c ≡ class) × (held_of sources.old.items class ≡ None)) }
+    ensures damaged { (c : AClass) (n : ℕ) → IsErrOf result (ProbeFault.PageDamaged c n) → (c ≡ class) × (n ≡ number) }
+{
+    let at = class.number() as usize;
+    if sources.len() <= at {
+        return Err(ProbeFault::NoTable(class));
+    }
+    match &mut sources[at] {
+        None => Err(ProbeFault::NoTable(class)),
+        Some(held) => held.cells(number, into),
+    }
+}
+
+/// A page is read from its source each time, whether or not it is cached, and is not cached.
+impl<'a, S: PageSource, A: Allocator> CellPages for PagedTables<'a, S, A> {
+    fn read_cells(
+        &mut self,
+        class: Class,
+        number: u32,
+        into: &mut [u8; PAGE_CELLS],
+    ) -> Result<(), ProbeFault> {
+        self.asked = self.asked.saturating_add(1);
+        let answer = read_page(&mut self.sources, class, number, into);
+        self.failed = failures_after_page(self.failed, &answer);
+        answer
     }
 }

@@ -1,6 +1,6 @@
 //! Values from tables in memory.
 ghost use Rattle.std.specs.Prelude.{◌≡◌, ◌↔◌, ℕ, false, is_some, Some, Ok, IsOk, IfOk, OnOk, OnErr, IfErr};
-ghost use Rattle.std.specs.Prelude.{IsErrAnd, IsErrOf, MatchOption, slice_index, slice_set};
+ghost use Rattle.std.specs.Prelude.{◌*◌, ◌≤◌, drop, length, IsErrAnd, IsErrOf, MatchOption, slice_index, slice_set};
 ghost use Rattle.study_material.specs.declared.class.Class.{Class as AClass};
 ghost use Rattle.study_material.specs.Class.{IsOf};
 ghost use Rattle.study_values.specs.Index.{index_of};
@@ -13,14 +13,16 @@ ghost use Rattle.study_table.specs.Sound.{IsRight};
 ghost use Rattle.study_text.specs.Counts.{counted};
 ghost use Rattle.study_values.specs.declared.fault.SourceFault.{SourceFault as ASourceFault};
 ghost use Rattle.study_values.specs.Values.{IsNotDamage, faults_after, page_number};
+ghost use Rattle.study_tablefile.specs.File.{page_cells_of};
 ghost use Rattle.study_prober.specs.WholeTables.{TablesAreRight, IsCellAnswer, Whole};
 
+use crate::cell_pages::CellPages;
 use std::alloc::Allocator;
 use std::marker::Model;
 use study_board::Position;
 use study_material::{Class, class_of};
 use study_table::{AddRefused, Table, TableSet};
-use study_values::{ProbeFault, Value, Values};
+use study_values::{PAGE_CELLS, ProbeFault, Value, Values};
 
 /// Tables in memory.
 #[derive(Drop)]
@@ -114,5 +116,32 @@ impl<'a, A: Allocator> Values for WholeTables<'a, A> {
 
     fn failures(&self) -> u64 {
         0
+    }
+}
+
+/// The cells of a page of a table, and zeros after the last cell.
+fn copy_cells(cells: &[u8], number: u32, into: &mut [u8; PAGE_CELLS])
+    requires { 4096 * number ≤ length cells.now }
+    ensures { into.new ≡ page_cells_of (drop (4096 * number) cells.now) }
+{
+    let (_, rest) = cells.split_at(PAGE_CELLS * number as usize);
+    let count = rest.len().min(PAGE_CELLS);
+    *into = [0; PAGE_CELLS];
+    into[..count].copy_from_slice(&rest[..count]);
+}
+
+impl<'a, A: Allocator> CellPages for WholeTables<'a, A> {
+    fn read_cells(
+        &mut self,
+        class: Class,
+        number: u32,
+        into: &mut [u8; PAGE_CELLS],
+    ) -> Result<(), ProbeFault> {
+        self.asked = self.asked.saturating_add(1);
+        let Some(table) = self.tables.table(class) else {
+            return Err(ProbeFault::NoTable(class));
+        };
+        copy_cells(table.cells(), number, into);
+        Ok(())
     }
 }

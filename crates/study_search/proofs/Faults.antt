@@ -1,5 +1,5 @@
 -- What can come of a later evaluation could have come before the first.
-use Rattle.std.proofs.Common.{◌≡◌, Bool, false, Result, Ok, Err, IfErr, ◌↔◌, refl, sym, ◌∙◌}
+use Rattle.std.proofs.Common.{◌≡◌, Bool, false, Result, Ok, Err, IfErr, ◌↔◌, refl, sym, ap, ◌∙◌}
 use Rattle.std.specs.Prelude.{IsErrOf}
 use Rattle.study_board.specs.Position.{Position, IsValid}
 use Rattle.study_material.specs.declared.class.Class.{Class}
@@ -26,6 +26,16 @@ module _ {V : Type 0} (held : V → Class → Bool) (may_fail : V → Class → 
   probed p valid old (Err (NoTable c)) lacks fails right = ((lacks c).0 refl).1
   probed p valid old (Err (TableRead f)) lacks fails right = let own = class_exists p valid in (own.0, fails own.0 f own.1 refl)
   probed p valid old (Err (PageDamaged c n)) lacks fails right = right
+
+  -- what the reading of a page reports
+  pub read : (c : Class) (old : V) (r : Result (Unit {0}) ProbeFault)
+      → ((d : Class) → IsErrOf r (NoTable d) ↔ ((d ≡ c) × (held old c ≡ false)))
+      → ((f : SourceFault) → IsErrOf r (TableRead f) → may_fail old c f) → (is_honest old → IfErr r IsNotDamage)
+      → IfErr r (CanReport held may_fail is_honest old)
+  read c old (Ok x) lacks fails right = tt
+  read c old (Err (NoTable d)) lacks fails right = let h = (lacks d).0 refl in ap (λ (k : Class). held old k) h.0 ∙ h.1
+  read c old (Err (TableRead f)) lacks fails right = (c, fails f refl)
+  read c old (Err (PageDamaged d n)) lacks fails right = right
 
   pub can_report : (old new : V) (f : ProbeFault) → CanReport held may_fail is_honest new f → HasSameTables held may_fail old new
       → (is_honest old → is_honest new) → CanReport held may_fail is_honest old f

@@ -5,6 +5,8 @@ mod OneMove
 mod Promotions
 mod HalfPoints
 mod SideTold
+mod OtherSide
+mod ZugzwangCells
 mod ThemeImages
 pub mod AllFound
 mod LongestFound

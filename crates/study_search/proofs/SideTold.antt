@@ -11,7 +11,7 @@ use Rattle.study_search.specs.declared.finding.Search.{Search}
 use Rattle.study_search.specs.Finding.{is_for, IsFound}
 use Rattle.study_search.specs.Longest.{MatesAt}
 
-side-told : (c : Class) (n : ℕ) (p : Position) → position_numbered c n ≡ Some p → p.to_move ≡ told_side (slots_of c) (without_bit n)
+pub side-told : (c : Class) (n : ℕ) (p : Position) → position_numbered c n ≡ Some p → p.to_move ≡ told_side (slots_of c) (without_bit n)
 unfolding position_numbered
 side-told c n p e = by_test (is_entry c n) e
   where

@@ -6,3 +6,4 @@ pub mod Finding
 pub mod Longest
 pub mod Laws
 pub mod Pairs
+pub mod ByCells

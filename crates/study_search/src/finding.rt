@@ -8,11 +8,13 @@ ghost use Rattle.study_search.specs.Faults.{CanReport, HasSameTables};
 ghost use Rattle.study_search.specs.OnlyMoves.{IsMost};
 ghost use Rattle.study_search.specs.Finding.{is_for, IsLookedFor, IsFound, IsNext};
 
+use crate::by_cells::{is_by_cells, next_zugzwang};
 use crate::only_moves::{Outcome, has_only_moves};
 use crate::themes::{Theme, has_theme};
 use study_board::{Position, Side};
 use study_index::{decode, told};
 use study_material::Class;
+use study_prober::CellPages;
 use study_values::{ProbeFault, Values};
 
 /// A search: the positions of a class that have a theme, with one side to move or with either.
@@ -77,8 +79,8 @@ fn is_found<V: Values>(search: &Search, number: u32, values: &mut V) -> Result<b
     }
 }
 
-/// The first number from `from` on and below `to` of a matching position.
-pub fn next_found<V: Values>(
+/// The first number from `from` on and below `to` of a matching position, each position evaluated by itself.
+fn next_by_values<V: Values>(
     search: &Search,
     from: u32,
     to: u32,
@@ -98,6 +100,27 @@ pub fn next_found<V: Values>(
         }
     }
     Ok(None)
+}
+
+/// The first number from `from` on and below `to` of a matching position. Mutual zugzwangs are found by the pages of the tables.
+pub fn next_found<V: CellPages>(
+    search: &Search,
+    from: u32,
+    to: u32,
+    values: &mut V,
+) -> Result<Option<u32>, ProbeFault>
+    ensures game { V.is_honest values.old → IfOk result (IsNext (IsFound search.now) from to) }
+    ensures within { IfOk result (λ next. IfSome next (λ n. (from ≤ n) × (n < to))) }
+    ensures faults { IfErr result (CanReport V.held V.may_fail V.is_honest values.old) }
+    ensures honest { V.is_honest values.old → V.is_honest values.new }
+    ensures tables { HasSameTables V.held V.may_fail values.old values.new }
+{
+    let by_cells = is_by_cells(search);
+    if by_cells {
+        next_zugzwang(search, from, to, values)
+    } else {
+        next_by_values(search, from, to, values)
+    }
 }
 
 /// The number of only moves in a row that the defender can make the hero find, up to a limit; `None` if the hero lacks the outcome.

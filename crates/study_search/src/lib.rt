@@ -6,6 +6,7 @@
 //! exactly one image is among them.
 #![tactic(auto)]
 
+mod by_cells;
 mod finding;
 mod laws;
 mod longest;

@@ -13,9 +13,10 @@ use crate::reply::NoText;
 use crate::tables::open_tables;
 use std::alloc::Allocator;
 use study_listing::{Piece, Stop, write_piece};
+use study_prober::CellPages;
 use study_reply::{Refusal, of_probe};
 use study_script::TableStore;
-use study_values::{ProbeFault, Values};
+use study_values::ProbeFault;
 
 /// Why a search fails. Writing into memory fails only for want of it.
 fn of_stop(stop: Stop) -> Denial
@@ -29,7 +30,7 @@ fn of_stop(stop: Stop) -> Denial
 }
 
 /// A piece of a list, or why it cannot be made.
-fn piece_text<'a, V: Values, A: Allocator>(
+fn piece_text<'a, V: CellPages, A: Allocator>(
     alloc: &'a A,
     piece: &Piece,
     values: &mut V,

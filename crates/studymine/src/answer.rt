@@ -8,6 +8,7 @@ use crate::status::put_count;
 use std::io::Write;
 use study_listing::{Form, Request, Selection, Stop, Watch, count_found, list_found, selection_of};
 use study_material::order;
+use study_prober::CellPages;
 use study_values::{ProbeFault, Values};
 
 /// Refuses a request, before the first line, if the table of the class is missing, or of a class that its moves lead to.
@@ -24,7 +25,7 @@ fn need_tables<V: Values>(request: &Request, values: &V) -> Result<(), ProbeFaul
 }
 
 /// The number of listed positions: zero if the request selects none.
-fn count_of<V: Values, H: Watch>(
+fn count_of<V: CellPages, H: Watch>(
     selection: Option<Selection>,
     values: &mut V,
     watch: &mut H,
@@ -38,7 +39,7 @@ fn count_of<V: Values, H: Watch>(
 }
 
 /// Writes the number of listed positions.
-fn write_count<V: Values, W: Write, H: Watch>(
+fn write_count<V: CellPages, W: Write, H: Watch>(
     selection: Option<Selection>,
     values: &mut V,
     out: &mut W,
@@ -56,7 +57,7 @@ fn write_count<V: Values, W: Write, H: Watch>(
 }
 
 /// Writes the list.
-fn write_list<V: Values, W: Write, H: Watch>(
+fn write_list<V: CellPages, W: Write, H: Watch>(
     form: Form,
     selection: Option<Selection>,
     values: &mut V,
@@ -74,7 +75,7 @@ fn write_list<V: Values, W: Write, H: Watch>(
     }
 }
 
-fn write<V: Values, W: Write, H: Watch>(
+fn write<V: CellPages, W: Write, H: Watch>(
     output: Output,
     selection: Option<Selection>,
     values: &mut V,
@@ -90,7 +91,7 @@ fn write<V: Values, W: Write, H: Watch>(
 }
 
 /// Writes the positions of a request. If a table is missing nothing is written.
-pub fn answer<V: Values, W: Write, H: Watch>(
+pub fn answer<V: CellPages, W: Write, H: Watch>(
     request: &Request,
     output: Output,
     values: &mut V,

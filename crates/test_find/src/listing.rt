@@ -10,12 +10,12 @@ use study_listing::{
 };
 use study_material::Class;
 use study_notation::read_fen;
-use study_prober::{FailingValues, WholeTables};
+use study_prober::{CellPages, FailingValues, WholeTables};
 use study_retro::{BuildRoom, build};
 use study_search::{Outcome, Search, Theme};
 use study_table::TableSet;
 use study_text::{MemoryWriter, WhenFull};
-use study_values::{ProbeFault, SourceFault, Values, cells};
+use study_values::{ProbeFault, SourceFault, cells};
 
 /// By an independent program: the first of the three positions of KPK in which only an underpromotion wins.
 const STUDY: &[u8] = b"position 8/1P6/k7/8/K7/8/8/8 w - - 0 1
@@ -61,7 +61,7 @@ fn search(theme: Theme, side: Option<Side>) -> Selection {
 }
 
 /// Whether the list of a position alone is the text.
-fn is_said<V: Values>(
+fn is_said<V: CellPages>(
     rt: &impl Abort,
     alloc: &Global,
     form: Form,
@@ -166,7 +166,7 @@ fn a_table_is_not_there_or_not_read(rt: HostRuntime) {
     let mut out = MemoryWriter::new(&alloc);
     let stopped = list_found(&wanted, Form::Lines, &mut none, &mut out, &mut NoWatch);
     assert!(rt; stopped == Err(Stop::Values(ProbeFault::NoTable(Class::KPK))));
-    let mut failing = FailingValues::new(tables(&rt, &alloc), 1000);
+    let mut failing = FailingValues::new(tables(&rt, &alloc), 1);
     let stopped = list_found(&wanted, Form::Lines, &mut failing, &mut out, &mut NoWatch);
     assert!(rt; stopped == Err(Stop::Values(ProbeFault::TableRead(SourceFault::Device))));
     assert!(rt; out.taken.is_empty());

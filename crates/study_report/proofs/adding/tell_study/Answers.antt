@@ -32,8 +32,10 @@ returns-in-Err-OutOfMemory-clause-ok g c = λ p s plain held b at.
     (λ t. (t ≡ s) × Holds g.P.PageSource.honest g.P.PageSource.gives c.args.document.now c.add_section.new.tables t)
     p c.args.line.now (refused s OutOfMemory) c.args.at.line bytes c.refuse_line-in-Err-OutOfMemory.result
     (g.W.Write.contents c.args.out.now) (g.W.Write.contents c.refuse_line-in-Err-OutOfMemory.new.out) at.0 refl
-    (left-out g.T.Report.tells g.T.Report.refusal g.T.Report.remark p s c.args.line.now plain OutOfMemory b (inl refl)) (refl,
-    c.add_section.ensures.holds s held)
+    (left-out g.T.Report.tells g.T.Report.refusal g.T.Report.remark p s c.args.line.now plain OutOfMemory b (inl refl)) (
+      refl,
+      c.add_section.ensures.holds s held,
+    )
     (subst (λ w. IfOk c.refuse_line-in-Err-OutOfMemory.result (RefusalWritten (g.T.Report.refusal c.args.at.line c.args.line.now bytes) (g.W.Write.contents w)
     (g.W.Write.contents c.refuse_line-in-Err-OutOfMemory.new.out))) (c.in-Err-OutOfMemory.ensures.memory cc) c.refuse_line-in-Err-OutOfMemory.ensures.ok)
 

@@ -1,7 +1,7 @@
 use Rattle.std.proofs.Common.{ℕ, ◌<◌, ◌≤◌}
 use Rattle.study_search.specs.Faults.{HasSameTables}
 use Rattle.study_search.specs.Finding.{IsFound}
-use Rattle.study_search.proofs.finding.next_found.Given as goal
+use Rattle.study_search.proofs.finding.next_by_values.Given as goal
 
 abbrev pub invariant-loop-number : goal.invariant-loop-number
 invariant-loop-number g l = record {

@@ -2,7 +2,7 @@ use Rattle.std.proofs.Common.{rules, arith, ◌≤◌, ◌<◌}
 use Rattle.study_search.specs.Finding.{IsFound}
 use Rattle.study_search.proofs.Faults.{same_on}
 use Rattle.study_search.proofs.AllFound.{none-more}
-use Rattle.study_search.proofs.finding.next_found.Goals as goal
+use Rattle.study_search.proofs.finding.next_by_values.Goals as goal
 
 pub returns-in-Ok-true-clause-game : goal.returns-in-Ok-true-clause-game
 returns-in-Ok-true-clause-game g c h =
