@@ -11,9 +11,9 @@ pgn=${1:-$top/examples/import/three_games.pgn}
 program=${STUDYIMPORT:-$top/crates/studyimport/out/studyimport}
 work=$(mktemp -d); trap 'rm -rf "$work"' EXIT
 stripped=$top/tools/speed/stripped
-"$stripped/strip_import.py" "$top" "$work"
-cp "$stripped/import_shim.rs" "$work/shim.rs"; cp "$stripped/arrayvec.rs" "$work/"
+cp "$stripped/program_shim.rs" "$work/shim.rs"; cp "$stripped/arrayvec.rs" "$work/"
 cp "$stripped/import_main.rs" "$work/main.rs"
+"$stripped/strip_program.py" "$top" "$work"
 rustc --edition 2024 -A warnings -C opt-level=3 -C target-cpu=x86-64-v2 -C panic=abort "$work/main.rs" -o "$work/plain"
 while [ "$(stat -c %s "$work/games.pgn" 2>/dev/null || echo 0)" -lt 10000000 ]; do
     for _ in {1..500}; do cat "$pgn"; echo; done >> "$work/games.pgn"

@@ -1,17 +1,16 @@
 #!/usr/bin/env python3
-"""Writes the crates that read PGN as modules of one crate of plain Rust, without their contracts.
+"""Writes the crates of a program as modules of one crate of plain Rust, without their contracts.
 
-    strip_import.py TOP OUT    the crates of the checkout TOP; the modules go to the folder OUT
+    strip_program.py TOP OUT    the crates of the checkout TOP that OUT/main.rs has as modules; the modules go to the folder OUT
 
-import_shim.rs stands for the kit's containers and for memory that is asked of an allocator.
+program_shim.rs stands for the kit's containers and for memory that is asked of an allocator, lru.rs and sha2.rs for the crates of these names.
 """
+import pathlib
 import re
 import sys
 
 from strip import without_ghosts, write_modules
 
-CRATES = ["study_text", "study_board", "study_moves", "study_material", "study_values", "study_notation", "study_tree", "study_marks",
-          "study_command", "study_reply", "study_games", "study_import"]
 DERIVE = re.compile(r"#\[derive\(([^)]*)\)\]")
 
 
@@ -23,13 +22,12 @@ def derived(found):
 def as_plain(text, crate, is_root):
     text = DERIVE.sub(derived, without_ghosts(text))
     text = re.sub(r"\n\s*#\[error\((.|\n)*?\)\]\n", "\n", text)
-    text = re.sub(r"use (std::alloc|arrayvec|smallvec|itoa|thiserror|std::marker)::[^;]*;", "", text)
+    text = re.sub(r"use (std::alloc|arrayvec|byteorder|smallvec|itoa|thiserror|std::marker)::[^;]*;", "", text)
     text = text.replace("T: Drop", "T")
     text = re.sub(r": Drop\b(?=[,>])", ": Sized", text)
     text = re.sub(r"\btrait (\w+): Drop\b", r"trait \1", text)
     text = text.replace("crate::", f"crate::{crate}::")
-    for other in CRATES:
-        text = re.sub(rf"(?<![:\w]){other}::", f"crate::{other}::", text)
+    text = re.sub(r"(?<![:\w])(study_\w+|lru|sha2)::", r"crate::\1::", text)
     text = text.replace("unreachable!()", "crate::shim::never()")
     if is_root:
         text = re.sub(r"pub use (?!crate::)(\w+)::", r"pub use self::\1::", text)
@@ -38,4 +36,6 @@ def as_plain(text, crate, is_root):
 
 
 if __name__ == "__main__":
-    write_modules(*sys.argv[1:], CRATES, as_plain)
+    top, out = sys.argv[1:]
+    crates = re.findall(r"^mod (study_\w+);", (pathlib.Path(out) / "main.rs").read_text(), re.M)
+    write_modules(top, out, crates, as_plain)

@@ -1,4 +1,4 @@
-//! The kit's containers as far as the crates that read PGN call them, and memory that is asked of an allocator.
+//! The kit's containers as far as the crates of the programs call them, and memory that is asked of an allocator.
 pub use crate::arrayvec::ArrayVec;
 use std::io;
 use std::marker::PhantomData;
@@ -51,6 +51,13 @@ impl<T, A> Vec<T, A> {
 
     pub fn with_capacity(_alloc: A, count: usize) -> Result<Self, AllocError> {
         Ok(Vec(List::with_capacity(count), PhantomData))
+    }
+
+    pub fn from_slice(_alloc: A, items: &[T]) -> Result<Self, AllocError>
+    where
+        T: Clone,
+    {
+        Ok(Vec(items.to_vec(), PhantomData))
     }
 
     pub fn push(&mut self, item: T) -> Result<(), AllocFailed<T>> {
@@ -167,5 +174,21 @@ impl Buffer {
             }
         }
         unsafe { std::str::from_utf8_unchecked(&self.0[at..]) }
+    }
+}
+
+pub struct LittleEndian;
+
+impl LittleEndian {
+    pub fn read_u16(bytes: &[u8]) -> u16 {
+        u16::from_le_bytes([bytes[0], bytes[1]])
+    }
+
+    pub fn write_u16(bytes: &mut [u8], number: u16) {
+        bytes[..2].copy_from_slice(&number.to_le_bytes())
+    }
+
+    pub fn write_u32(bytes: &mut [u8], number: u32) {
+        bytes[..4].copy_from_slice(&number.to_le_bytes())
     }
 }
