@@ -285,6 +285,7 @@ def test_removed_for_good(user):
     user.click("documentsButton")
     button = "//*[@id='documents']//button[contains(., 'Remove')]"
     for _ in range(2):
+        user.until("[...document.querySelectorAll('#documents button')].some(it => it.textContent.includes('Remove'))", 10)
         user.d.find_element(By.XPATH, button).click()
     user.keys(Keys.ESCAPE)
     assert [row[0] for row in documents(user)] == ["Second"]
