@@ -116,6 +116,11 @@ export function entriesOf(doc, reviews = []) {
   const unread = doc.lines.flatMap((_, line) => leftOutAt(doc.lines, line));
   return [...studies, ...refused, ...unread].sort((x, y) => x.line - y.line);
 }
+/**
+ * The number of each study's row: entries that were left out have theirs too.
+ * @param {Doc} doc
+ */
+export const numbersOf = doc => new Map(entriesOf(doc).map(({ at }, i) => [at, i + 1]));
 const KINDS = ['sound', 'time', 'unsound', 'wrong', 'holds', 'not read', 'left out', 'not judged'];
 /** @type {Record<string, string>} */
 export const KIND_WORDS = { time: 'sound but for loss of time', unsound: 'unsound' };

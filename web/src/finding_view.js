@@ -57,6 +57,10 @@ function formView() {
     state.going ? button('Stop', 'keep what was found', stop, { id: 'findStop', class: 'main' }) : button('Find', 'search the table', find, { id: 'findGo', class: 'main' }));
 }
 function find() {
+  if (form.theme.endsWith('N') && !/^([1-9]|1[0-2])$/.test(form.n.trim())) {
+    Object.assign(state, { search: null, fault: 'the number of only moves in a row is 1 to 12' });
+    return showFinding();
+  }
   const quiet = form.quiet && form.theme !== 'zugzwang' && !form.theme.startsWith('longest') ? 'no-capture no-check' : '';
   const wanted = { name: form.name, theme: form.theme.replace('N', form.n), filters: [form.side, quiet, form.squares.trim()].filter(Boolean).join(' '), most: MOST };
   Object.assign(state, { search: null, going: true, fault: '', shown: `${wanted.name} ${wanted.theme}` });

@@ -51,7 +51,8 @@ const FAULTS = /** @type {Record<string, string>} */ ({
  * @param {LeftOut} game
  */
 export function whyLeftOut({ why, text }) {
-  const words = FAULTS[why] || (/^[A-Z]\w+$/.test(why) ? reason('error ' + why) : why);
+  const words = why === 'NotSan' && /^[DTSLCFAV][a-h1-8x:]/.test(text) ? 'not a move with the letters K Q R B N, as a PGN has them' :
+    FAULTS[why] || (/^[A-Z]\w+$/.test(why) ? reason('error ' + why) : why);
   return text ? `${text}: ${words}` : words;
 }
 /** @param {LeftOut} game */

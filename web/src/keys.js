@@ -63,7 +63,9 @@ function escaped() {
 function pressed(e) {
   const target = /** @type {Element} */ (e.target), ctrl = e.ctrlKey || e.metaKey, n = node();
   if (e.key === 'Escape' && (close() || closeFinding() || closeEarlier())) return;
-  if (/INPUT|TEXTAREA|SELECT/.test(target.tagName)) return inField(e, target);
+  // The field for moves is empty after its moves were taken: Ctrl-Z there means them.
+  const taken = ctrl && target.id === 'san' && !(/** @type {HTMLInputElement} */ (target).value);
+  if (!taken && /INPUT|TEXTAREA|SELECT/.test(target.tagName)) return inField(e, target);
   if (ctrl && /^[zy]$/i.test(e.key)) {
     e.preventDefault();
     return void (e.key.toLowerCase() === 'y' || e.shiftKey ? forth() : back());

@@ -11,7 +11,8 @@ const TOKEN = /\{([^}]*)\}|;([^\n]*)|(\$\d+)|([()])|([!?]{1,2})|([^\s(){};$!?]+)
 const oneLine = text => text.replace(/\s+/g, ' ').trim();
 /** @param {string} symbol */
 const plain = symbol => symbol.replace(/^\d+\.+/, '').replace(/[+#]+$/, '').replace(/[x:=]/g, '').replace(/e\.?p\.?$/, '');
-const RESULT = /^(1-0|0-1|1\/2-1\/2|1\/2|\*)$/, SIGNS = /** @type {Record<string, string>} */ ({ '!': '$1', '?': '$2', '!!': '$3', '??': '$4', '!?': '$5', '?!': '$6' });
+const RESULT = /^(1-0|0-1|1\/2-1\/2|1\/2|\*)$/, SIGNS = /** @type {Record<string, string>} */ ({ '!': '$1', '?': '$2', '!!': '$3', '??': '$4', '!?': '$5', '?!': '$6',
+  '=': '$10', '+-': '$18', '-+': '$19' });
 /**
  * The moves of a game, one after the other: for each token the moves from the start that lead to it.
  * @param {string} movetext
@@ -25,6 +26,7 @@ function walk(movetext, tell) {
     if (bracket === '(') { outer.push([at, before]); at = before; } else if (bracket === ')') [at, before] = outer.pop() || [at, before];
     else if (nag || sign) tell('nag', nag || SIGNS[sign] || '', at, end);
     else if (brace !== undefined || line !== undefined) tell('comment', oneLine(brace ?? line), at, end);
+    else if (symbol && SIGNS[symbol]) tell('nag', SIGNS[symbol], at, end);
     else if (symbol && RESULT.test(symbol)) { if (!outer.length) return; } else if (symbol && /[a-hO0]/.test(plain(symbol))) {
       [before, at] = [at, [...at, plain(symbol)]];
       tell('move', symbol, at, end);
@@ -70,6 +72,24 @@ export function gamesIn(text) {
  */
 const short = line => line.slice(0, new TextEncoder().encode(line).length > MOST ? MOST / 3 : MOST);
 /**
+ * A long comment in parts, between words, so that nothing of it is cut off.
+ * @param {string} text
+ */
+function partsOf(text) {
+  const most = /^[ -~]*$/.test(text) ? MOST / 2 : MOST / 6, out = [''];
+  for (const word of text.split(' ')) {
+    const last = out[out.length - 1];
+    if (last && last.length + 1 + word.length > most) out.push(word); else out[out.length - 1] = last ? `${last} ${word}` : word;
+  }
+  return out;
+}
+/**
+ * The moves of a path without what only some notations say: where a man comes from, figurines, the dash of `Kh2-g3`.
+ * @param {string} path
+ */
+const loose = path => path.split(' ').map(san => san.replace(/[♔♚]/, 'K').replace(/[♕♛]/, 'Q').replace(/[♖♜]/, 'R')
+  .replace(/[♗♝]/, 'B').replace(/[♘♞]/, 'N').replace(/[♙♟P]/, '').replace(/^([KQRBN]?)[a-h]?[1-8]?[-–]?([a-h][1-8])/, '$1$2')).join(' ');
+/**
  * What a game says beside its moves, as remarks: `# tag NAME TEXT`, `# note MOVES: TEXT`.
  * @param {string} game
  */
@@ -78,7 +98,7 @@ export function remarksOf(game) {
   for (const [name, text] of Object.entries(tags)) if (!OWN_TAGS.has(name)) out.push(`# tag ${name} ${text}`);
   walk(movetext, (kind, text, path) => {
     if (kind === 'move' || !text || (own && (kind === 'nag' ? /^\$[14]$/.test(text) : isOurs(text)))) return;
-    out.push(`# note ${path.join(' ') || '-'}: ${text}`);
+    for (const part of partsOf(text)) out.push(`# note ${path.join(' ') || '-'}: ${part}`);
   });
   return out.map(short);
 }
@@ -104,7 +124,11 @@ export function withNotes(game, remarks) {
   let last = '\n';
   const ends = /** @type {Map<string, number>} */ (new Map());
   walk(movetext, (kind, _, path, end) => { last = path.join(' '); if (kind === 'move' || ends.has(last) || !last) ends.set(last, end); });
-  for (const [key, list] of notes) if (ends.has(key)) puts.set(/** @type {number} */ (ends.get(key)), list);
+  const nearly = new Map([...ends].reverse().map(([key, end]) => [loose(key), end]));
+  for (const [key, list] of notes) {
+    const end = ends.get(key) ?? nearly.get(loose(key));
+    if (end !== undefined) puts.set(end, [...(puts.get(end) || []), ...list]);
+  }
   const text = [...puts].sort(([x], [y]) => y - x).reduce((done, [at, list]) => `${done.slice(0, at)} ${list.join(' ')}${done.slice(at)}`, movetext);
   const lines = tags.map(m => `[${/** @type {any} */ (m)[1]} "${/** @type {any} */ (m)[2]}"]\n`).join('');
   return head + lines + '\n' + wrapped(text) + '\n\n';

@@ -151,7 +151,8 @@ export function importView() {
   return [
     note && (!again || mine) &&
         h('p', { class: 'note', id: 'notKept' },
-            `${note} Save PGN writes ${doc().name || 'a file of another name'}${doc().name && '.pgn'}.`),
+            `${note} Save PGN writes ${doc().name || 'a file of another name'}${doc().name && '.pgn'}${
+                / Left out: /.test(note) ? ', without the games that were left out' : ''}.`),
     again && waiting > 0 &&
         h('p', { class: 'row', id: 'aims', role: 'group', 'aria-label': 'The stipulation of games that say none' },
             `${counted(waiting, 'game')} of this PGN ${waiting === 1 ? 'does' : 'do'} not say what is to be done. Read ${

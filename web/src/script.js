@@ -228,11 +228,14 @@ export function savedScript(script, classes) {
  * @param {Script} script
  */
 export const gamesOf = script => script.studies.flatMap(study => study.games).join('');
+/** Remarks of an import that a report prints: games that were left out, and names in their own letters. */
+const PRINTED = /^# (game \d+, line |(Event|Site|Date|Round|White|Black) was: )/;
 /**
- * The lines of the saved script that tell them.
+ * The lines of the saved script that tell them, with the remarks that a report prints.
  * @param {Script} script
  */
-export const gameLines = script => linesOf(savedScript(script, [])).filter(line => isEdit(line) || isGame(line));
+export const gameLines = script =>
+    linesOf(savedScript(script, [])).filter(line => isEdit(line) || isGame(line) || PRINTED.test(line));
 /**
  * Remarks and questions of a study that is written anew: the last `pgn` is enough.
  * @param {string[]} lines

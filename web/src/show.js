@@ -16,7 +16,7 @@ import { redrawJudged, setupView } from './setup_view.js';
 import { checkWhole, importView, openText } from './opening.js';
 import { listFrom, listView as entriesView } from './list_view.js';
 import { later, listed } from './list_facts.js';
-import { stampOf, studyName } from './entries.js';
+import { numbersOf, stampOf, studyName } from './entries.js';
 import { textsView } from './texts_view.js';
 import { keyView, listenToTree, markCurrent, showTree } from './tree_view.js';
 
@@ -143,7 +143,11 @@ function drawFacts() {
   part('review', [s, app.view !== null, app.review, app.noReview], () => s && reviewView(s));
   part('list', listFrom(), entriesView);
 }
-export const showFacts = () => lately(drawFacts);
+function drawKnown() {
+  drawFacts();
+  showBar();
+}
+export const showFacts = () => lately(drawKnown);
 function drawJudged() {
   showBoard();
   redrawJudged();
@@ -165,8 +169,8 @@ function showBar() {
   $('after').disabled = d.at + 1 >= d.studies.length;
   const reviews = listed(d);
   if (many)
-    part('studies', [d.studies, reviews],
-         () => d.studies.map((s, i) => h('option', {value: i}, `${i + 1}. ${studyName(s)}: ${stampOf(d, s, reviews[i]).text}`)));
+    part('studies', [d.studies, d.refused, reviews],
+         () => { const numbers = numbersOf(d); return d.studies.map((s, i) => h('option', {value: i}, `${numbers.get(i)}. ${studyName(s)}: ${stampOf(d, s, reviews[i]).text}`)); });
   if (many) $('studies').value = d.at;
   $('more').disabled = !d.studies.length;
   for (const id of ['saveScript', 'savePgn', 'saveReport', 'print']) $(id).disabled = !d.lines.length;

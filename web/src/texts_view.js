@@ -4,6 +4,7 @@ import { button, h } from './dom.js';
 import { app, change, doc, goStudy } from './app.js';
 import { dropStudy, tidy } from './edits.js';
 import { copyStudy, moveStudy } from './study_edits.js';
+import { numbersOf } from './entries.js';
 import { table } from './facts_view.js';
 import { told } from './head_view.js';
 import { diagramView } from './diagram.js';
@@ -77,4 +78,4 @@ function refusedView() {
   ];
 }
 /** @param {number} i */
-const studyLink = i => button(`${i + 1}`, 'show it', () => goStudy(i), { class: 'link', 'aria-current': i === doc().at && 'true' });
+const studyLink = i => button(`${numbersOf(doc()).get(i)}`, 'show it', () => goStudy(i), { class: 'link', 'aria-current': i === doc().at && 'true' });
