@@ -104,7 +104,7 @@ export function documentOf(lines) {
   while (kept.length && kept[kept.length - 1] === '') kept.pop();
   return kept;
 }
-const ORIGINAL = /^# (Event|White|Black|Site|Date|Round) was: (.*)$/;
+const ORIGINAL = /^# (?:its )?(Event|White|Black|Site|Date|Round) was: (.*)$/;
 /**
  * The texts of tags in their own letters, as remarks above a position have them.
  * @param {string[]} remarks

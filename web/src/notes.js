@@ -43,12 +43,13 @@ function parts(game) {
   return [tags, game.replace(/^\[\w+ ".*"\]\s*$/gm, '').replace(/^%.*$/gm, '')];
 }
 /**
- * The title and the author of a game that is left out, as remarks to stand behind its own.
+ * The title and the author of a game that is left out, as remarks to stand behind its own; `its` keeps them apart from
+ * those of the next study.
  * @param {string} game
  */
 export function namesOf(game) {
   const [tags] = parts(game), text = (/** @type {string} */ name) => (tags[name] || '').replace(/\\(["\\])/g, '$1').trim();
-  return ['Event', 'White'].filter(name => isKnown(text(name))).map(name => `# ${name} was: ${text(name).slice(0, 80)}`);
+  return ['Event', 'White'].filter(name => isKnown(text(name))).map(name => `# its ${name} was: ${text(name).slice(0, 80)}`);
 }
 /**
  * The games of a PGN, cut as the program cuts them: a line of a tag begins one behind a line of moves, and a second Event.

@@ -22,8 +22,8 @@ const OURS = `[Event "Rigaer Tageblatt"]
 
 `;
 test('title and author of a game that is left out', () => {
-  assert.deepEqual(namesOf(GAME), ['# Event was: Rigaer Tageblatt', '# White was: Reti']);
-  assert.deepEqual(namesOf('[Event "?"]\n[White "A \\"B\\" C"]\n\n1. e4 *\n'), ['# White was: A "B" C']);
+  assert.deepEqual(namesOf(GAME), ['# its Event was: Rigaer Tageblatt', '# its White was: Reti']);
+  assert.deepEqual(namesOf('[Event "?"]\n[White "A \\"B\\" C"]\n\n1. e4 *\n'), ['# its White was: A "B" C']);
 });
 test('remarks of a game, at the moves that lead to them', () => {
   assert.deepEqual(remarksOf(GAME), [
