@@ -128,7 +128,7 @@ def test_another_document_and_a_closed_browser(user):
     assert "Undo brings it back" in user.text("sayBoard")
     user.end()
     user.__init__(flags=(profile,))
-    assert "Another" in user.text("head")
+    user.until("document.getElementById('head').innerText.includes('Another')", 30)
     open_document(user, "My own")
     assert script(user) == own and user.text("stamp") == "sound"
     steps = [own]
