@@ -26,3 +26,4 @@ pub mod FaultsOfBlocks
 pub mod DualCounts
 pub mod FaultsTold
 pub mod TrialMoves
+pub mod PathWalks

@@ -6,10 +6,11 @@ use Rattle.study_tree.specs.Tree.{spot_at, twig_spot}
 use Rattle.study_marks.specs.Bench.{played_by}
 use Rattle.study_marks.specs.declared.mark.Mark.{Mark}
 use Rattle.study_marks.specs.Study.{Study}
-use Rattle.study_review.specs.declared.line.Made.{Made}
-use Rattle.study_review.specs.Line.{IsMadeIn}
+use Rattle.study_facts.specs.declared.line.Made.{Made}
+use Rattle.study_facts.specs.Line.{IsMadeIn}
 use Rattle.study_page.specs.Sheet.{key_words, key_of}
-use Rattle.study_page.specs.Words.{label, label_to}
+use Rattle.study_head.specs.Words.{label}
+use Rattle.study_page.specs.Words.{label_to}
 use Rattle.study_page.proofs.MadeRows.{label-made}
 
 module _ {L : Type 0} where

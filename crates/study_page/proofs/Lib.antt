@@ -1,4 +1,3 @@
-pub mod Asking
 pub mod MadeRows
 pub mod WholePage
 pub mod GroupsFound

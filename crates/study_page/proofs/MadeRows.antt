@@ -15,23 +15,24 @@ use Rattle.study_marks.specs.Bench.{played_by}
 use Rattle.study_marks.specs.FaultSums.{below_at}
 use Rattle.study_marks.specs.Study.{Study, position_at}
 use Rattle.study_marks.specs.Goals.{aim_of}
-use Rattle.study_review.specs.declared.continuation.Continuation.{Continuation}
-use Rattle.study_review.specs.declared.line.Made.{Made}
-use Rattle.study_review.specs.declared.line.Place.{Place}
-use Rattle.study_review.specs.declared.missing.Defence.{Defence}
-use Rattle.study_review.specs.declared.time.Alternative.{Alternative}
-use Rattle.study_review.specs.Time.{AreTimedAlternatives}
-use Rattle.study_review.specs.Continuations.{AreRefutations}
-use Rattle.study_review.specs.Defences.{AreDefences}
-use Rattle.study_review.specs.Line.{line_to, moves_of, IsPlaceOf, IsMadeIn}
-use Rattle.study_review.specs.Nodes.{OnlyWhere, front_of, is_try, is_defended, is_open_end, is_solution_move, mark_at, value_at}
-use Rattle.study_review.specs.Made.{Grew, Rose}
-use Rattle.study_review.specs.TimeFaults.{CountWhere, IsTimeDual, IsTimeFaultOf, IsTimeFault, all_lose_time}
-use Rattle.study_review.proofs.NodesShown.{front-is, are-there, not-there}
-use Rattle.study_page.specs.Words.{where_words, label, label_to}
+use Rattle.study_facts.specs.declared.continuation.Continuation.{Continuation}
+use Rattle.study_facts.specs.declared.line.Made.{Made}
+use Rattle.study_facts.specs.declared.line.Place.{Place}
+use Rattle.study_facts.specs.declared.missing.Defence.{Defence}
+use Rattle.study_facts.specs.declared.time.Alternative.{Alternative}
+use Rattle.study_facts.specs.Time.{AreTimedAlternatives}
+use Rattle.study_facts.specs.Continuations.{AreRefutations}
+use Rattle.study_facts.specs.Defences.{AreDefences}
+use Rattle.study_facts.specs.Line.{line_to, moves_of, IsPlaceOf, IsMadeIn}
+use Rattle.study_facts.specs.Nodes.{OnlyWhere, front_of, is_try, is_defended, is_open_end, is_solution_move, mark_at, value_at}
+use Rattle.study_facts.specs.Made.{Grew, Rose}
+use Rattle.study_facts.specs.TimeFaults.{CountWhere, IsTimeDual, IsTimeFaultOf, IsTimeFault, all_lose_time}
+use Rattle.study_facts.proofs.NodesShown.{front-is, are-there, not-there}
+use Rattle.study_page.specs.Words.{where_words, label_to}
+use Rattle.study_head.specs.Words.{label}
 use Rattle.study_page.specs.Rows.{IsFaultOf, FaultItems, IsCardOf, Cards, TryRows, DefenceRows, IsEnd, EndRows, try_row, defence_row, zugzwang_rows, ZugzwangRows, mistake_item, dual_item, card}
-use Rattle.study_review.specs.declared.zugzwang.Zugzwang.{Zugzwang}
-use Rattle.study_review.specs.Zugzwang.{IsZugzwangOf}
+use Rattle.study_facts.specs.declared.zugzwang.Zugzwang.{Zugzwang}
+use Rattle.study_facts.specs.Zugzwang.{IsZugzwangOf}
 
 -- a text to which nothing was added
 pub nothing-grew : (Lines : List ℕ → Type 0) (text : List ℕ) → Lines [] → Grew Lines text text

@@ -16,16 +16,15 @@ use Rattle.study_marks.specs.Bench.{played_by}
 use Rattle.study_marks.specs.FaultSums.{below_at}
 use Rattle.study_marks.specs.Study.{Study, position_at}
 use Rattle.study_marks.specs.Goals.{aim_of, holds}
-use Rattle.study_review.specs.Line.{line_to, moves_of}
-use Rattle.study_review.specs.Nodes.{front_of, mark_at, value_at, is_try, is_defended, is_open_end, is_solution_move}
-use Rattle.study_review.proofs.OneReview.{One, one-chosen, one-alternatives, one-defences, one-play, one-where, one-match, one-each, one-time-count}
+use Rattle.study_facts.specs.Line.{line_to, moves_of}
+use Rattle.study_facts.specs.Nodes.{front_of, mark_at, value_at, is_try, is_defended, is_open_end, is_solution_move}
+use Rattle.study_facts.proofs.OneFacts.{One, one-chosen, one-alternatives, one-defences, one-play, one-where, one-match, one-each, one-time-count}
 use Rattle.study_page.specs.Words.{where_words}
 use Rattle.study_page.specs.Rows.{IsFaultOf, FaultItems, IsCardOf, Cards, TryRows, DefenceRows, IsPlay, IsEnd, EndRows}
-use Rattle.study_page.specs.Rows.{dual_item, card, try_row, defence_row, end_row, play_words, keep_words}
-use Rattle.study_page.specs.Rows.{zugzwang_rows, ZugzwangRows}
-use Rattle.study_review.proofs.ZugzwangTold.{one-kind}
+use Rattle.study_page.specs.Rows.{dual_item, card, try_row, defence_row, end_row, play_words, keep_words, zugzwang_rows, ZugzwangRows}
+use Rattle.study_facts.proofs.ZugzwangTold.{one-kind}
 use Rattle.study_page.specs.Page.{page_text, PagesAreUnique}
-use Rattle.study_review.specs.Review.{written_order}
+use Rattle.study_facts.specs.Order.{written_order}
 
 module _ (law : EachHasAtMostOneValue) (start : Start) (a : Aim) (d : ℕ) (line : List Position) (p : Position) (m : Move) (v : Value) where
   one-fault : (mark : Option MoveMark) → One (IsFaultOf start a d line p m v mark)

@@ -7,8 +7,8 @@ use Rattle.study_marks.specs.declared.tag.TagName.TheVariants.{White}
 use Rattle.study_moves.specs.declared.moves.Move.{Move}
 use Rattle.study_html.specs.declared.element.Element.TheVariants.{Figure}
 use Rattle.study_html.specs.Elements.{inside}
-use Rattle.study_page.specs.Diagram.{board}
-use Rattle.study_page.specs.Known.{known}
+use Rattle.study_head.specs.Diagram.{board}
+use Rattle.study_head.specs.Known.{known}
 use Rattle.study_page.specs.Sheet.{key_of, place, place_caption}
 
 key_plain : (f : Forest Mark) → key_of (mapped (λ (_ : Mark). tt {0}) f) ≡ key_of f

@@ -10,8 +10,8 @@ use Rattle.study_notation.specs.Played.{start_after}
 use Rattle.study_tree.specs.Forest.{Forest, none, more, Twig}
 use Rattle.study_tree.specs.Edits.{node_in, width}
 use Rattle.study_marks.specs.declared.mark.Mark.{Mark}
-use Rattle.study_pgn.proofs.PathWalks.{skip}
-use Rattle.study_review.specs.Nodes.{has_none}
+use Rattle.study_marks.proofs.PathWalks.{skip}
+use Rattle.study_facts.specs.Nodes.{has_none}
 use Rattle.study_html.specs.declared.element.Element.TheVariants.{Item}
 use Rattle.study_html.specs.Elements.{inside}
 use Rattle.study_page.specs.Tree.{made_words, list_where, others_of, tree_words, item_words}

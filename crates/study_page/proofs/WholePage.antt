@@ -4,10 +4,10 @@ use Rattle.study_marks.specs.declared.mark.Mark.{Mark}
 use Rattle.study_marks.specs.FaultSums.{below_at}
 use Rattle.study_marks.specs.Study.{Study}
 use Rattle.study_tree.specs.Tree.{size_of}
-use Rattle.study_review.specs.Made.{Grew, Rose}
-use Rattle.study_review.specs.Review.{paths_from, LinesOfEach, SumOfEach, AreTimeFaults, written_order}
-use Rattle.study_review.specs.TimeFaults.{IsTimeFault}
-use Rattle.study_review.proofs.WholeReview.{time-counted}
+use Rattle.study_facts.specs.Made.{Grew, Rose}
+use Rattle.study_facts.specs.Order.{paths_from, LinesOfEach, SumOfEach, AreTimeFaults, written_order}
+use Rattle.study_facts.specs.TimeFaults.{IsTimeFault}
+use Rattle.study_facts.proofs.TimeCounted.{time-counted}
 use Rattle.study_page.specs.Page.{AreRows}
 
 pub all-rows : (Rows : Study Mark → List ℕ → List ℕ → Type 0) (s : Study Mark) (p old new : List ℕ) → p ≡ [] → old ≡ []

@@ -7,8 +7,8 @@ use Rattle.study_marks.specs.declared.tag.TagName.TheVariants.{Event, White}
 use Rattle.study_marks.specs.Study.{Study, tag_of, plain_study}
 use Rattle.study_marks.specs.Annotated.{IsAnnotated}
 use Rattle.study_pgn.specs.Pgn.{stipulation_text}
-use Rattle.study_review.specs.Review.{AreTimeFaults}
-use Rattle.study_page.specs.Known.{known}
+use Rattle.study_facts.specs.Order.{AreTimeFaults}
+use Rattle.study_head.specs.Known.{known}
 use Rattle.study_page.specs.Verdict.{stamp_words, judged}
 
 -- a comma, a quotation mark or an end of line: a field with one of them stands in quotation marks

@@ -1,12 +1,7 @@
 pub mod Words
-pub mod Diagram
-pub mod Known
-pub mod Counts
-pub mod Head
 pub mod Verdict
 pub mod Rows
 pub mod Tree
-pub mod Made
 pub mod Lists
 pub mod Sheet
 pub mod Page

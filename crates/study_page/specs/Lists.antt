@@ -7,8 +7,8 @@ use Rattle.study_pgn.specs.Pgn.{stipulation_text}
 use Rattle.study_html.specs.declared.element.Element.TheVariants.{Cell, Code, Head, Heads, Header, Link, Row, Rows, Strong, Summary, Table, Title, Warning}
 use Rattle.study_html.specs.Escape.{said}
 use Rattle.study_html.specs.Elements.{inside}
-use Rattle.study_page.specs.Known.{known}
-use Rattle.study_page.specs.Head.{title_words}
+use Rattle.study_head.specs.Known.{known}
+use Rattle.study_head.specs.Head.{title_words}
 use Rattle.study_page.specs.Verdict.{stamp_words, judged}
 
 -- a refused line: its number, its text, the name of the refusal, and the reason in words

@@ -3,12 +3,12 @@ use Rattle.std.specs.Prelude.{◌≡◌, ◌==◌, ℕ, List, [], ◌++◌, leng
 use Rattle.study_marks.specs.declared.mark.Mark.{Mark}
 use Rattle.study_marks.specs.Study.{Study, plain_study}
 use Rattle.study_marks.specs.Annotated.{IsAnnotated}
-use Rattle.study_review.specs.Review.{LinesOfEach, AreTimeFaults, written_order}
+use Rattle.study_facts.specs.Order.{LinesOfEach, AreTimeFaults, written_order}
 use Rattle.study_html.specs.declared.element.Element.TheVariants as element
 use Rattle.study_html.specs.Escape.{said}
 use Rattle.study_html.specs.Elements.{inside}
 use Rattle.study_html.specs.Markup.{IsWellNested}
-use Rattle.study_page.specs.Head.{head, figure}
+use Rattle.study_head.specs.Head.{head, figure}
 use Rattle.study_page.specs.Verdict.{verdict_part, judged}
 use Rattle.study_page.specs.Tree.{solution_words}
 use Rattle.study_page.specs.Lists.{summary_row}

@@ -24,27 +24,28 @@ use Rattle.study_marks.specs.FaultSums.{below_at}
 use Rattle.study_marks.specs.Study.{Study, position_at}
 use Rattle.study_marks.specs.Goals.{aim_of}
 use Rattle.study_pgn.specs.Values.{value_text}
-use Rattle.study_review.specs.declared.continuation.Continuation.{Continuation}
-use Rattle.study_review.specs.declared.time.Alternative.{Alternative}
-use Rattle.study_review.specs.declared.missing.Defence.{Defence}
-use Rattle.study_review.specs.Continuations.{AreRefutations, AreDrawingMoves}
-use Rattle.study_review.specs.Time.{AreTimedAlternatives}
-use Rattle.study_review.specs.Defences.{AreDefences}
-use Rattle.study_review.specs.Best.{IsBestPlay}
-use Rattle.study_review.specs.Line.{line_to, moves_of}
-use Rattle.study_review.specs.Words.{move_words}
-use Rattle.study_review.specs.declared.zugzwang.Zugzwang.{Zugzwang}
-use Rattle.study_review.specs.declared.zugzwang.Zugzwang.TheVariants.{Full, Half}
-use Rattle.study_review.specs.Zugzwang.{IsZugzwangOf}
-use Rattle.study_review.specs.Nodes.{front_of, OnlyWhere, mark_at, value_at, is_stalemate, is_try, is_defended, is_open_end, is_solution_move}
+use Rattle.study_facts.specs.declared.continuation.Continuation.{Continuation}
+use Rattle.study_facts.specs.declared.time.Alternative.{Alternative}
+use Rattle.study_facts.specs.declared.missing.Defence.{Defence}
+use Rattle.study_facts.specs.Continuations.{AreRefutations, AreDrawingMoves}
+use Rattle.study_facts.specs.Time.{AreTimedAlternatives}
+use Rattle.study_facts.specs.Defences.{AreDefences}
+use Rattle.study_facts.specs.Best.{IsBestPlay}
+use Rattle.study_facts.specs.Line.{line_to, moves_of}
+use Rattle.study_facts.specs.Words.{move_words}
+use Rattle.study_facts.specs.declared.zugzwang.Zugzwang.{Zugzwang}
+use Rattle.study_facts.specs.declared.zugzwang.Zugzwang.TheVariants.{Full, Half}
+use Rattle.study_facts.specs.Zugzwang.{IsZugzwangOf}
+use Rattle.study_facts.specs.Nodes.{front_of, OnlyWhere, mark_at, value_at, is_stalemate, is_try, is_defended, is_open_end, is_solution_move}
 use Rattle.study_html.specs.declared.element.Element.TheVariants.{Strong, Small, Below, Item, Card, Beside, CardTitle, Label, Also}
 use Rattle.study_html.specs.declared.element.Element.TheVariants.{Paragraph, Row, Cell, Whole, Group, Answer}
 use Rattle.study_html.specs.declared.drawing.Drawing.TheVariants.{Break}
 use Rattle.study_html.specs.Escape.{said}
 use Rattle.study_html.specs.Elements.{inside}
 use Rattle.study_html.specs.Drawings.{drawn}
-use Rattle.study_page.specs.Diagram.{mini}
-use Rattle.study_page.specs.Words.{front_words, short_words, label, where_words}
+use Rattle.study_head.specs.Diagram.{mini}
+use Rattle.study_head.specs.Words.{front_words, short_words, label}
+use Rattle.study_page.specs.Words.{where_words}
 
 -- ---- other moves
 

@@ -13,10 +13,10 @@ use Rattle.study_html.specs.declared.drawing.Drawing.TheVariants.{Break}
 use Rattle.study_html.specs.Escape.{said}
 use Rattle.study_html.specs.Elements.{inside}
 use Rattle.study_html.specs.Drawings.{drawn}
-use Rattle.study_page.specs.Diagram.{board}
-use Rattle.study_page.specs.Head.{moves_first}
-use Rattle.study_page.specs.Known.{known}
-use Rattle.study_page.specs.Words.{label}
+use Rattle.study_head.specs.Diagram.{board}
+use Rattle.study_head.specs.Head.{moves_first}
+use Rattle.study_head.specs.Known.{known}
+use Rattle.study_head.specs.Words.{label}
 
 -- `5. White wins`
 unfoldable pub number_words : ℕ → List ℕ → List ℕ

@@ -13,12 +13,12 @@ use Rattle.study_marks.specs.declared.mark.MoveMark.{MoveMark}
 use Rattle.study_marks.specs.declared.mark.MoveMark.TheVariants.{Only, Dual, Mistake, Idle}
 use Rattle.study_marks.specs.Study.{Study}
 use Rattle.study_pgn.specs.Moves.{number_text}
-use Rattle.study_review.specs.Nodes.{has_none}
+use Rattle.study_facts.specs.Nodes.{has_none}
 use Rattle.study_html.specs.declared.element.Element.{Element}
 use Rattle.study_html.specs.declared.element.Element.TheVariants as element
 use Rattle.study_html.specs.Escape.{said}
 use Rattle.study_html.specs.Elements.{inside}
-use Rattle.study_page.specs.Words.{short_words}
+use Rattle.study_head.specs.Words.{short_words}
 use Rattle.study_page.specs.Rows.{is_white}
 
 -- a move by its mark

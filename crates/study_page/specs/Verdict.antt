@@ -7,8 +7,8 @@ use Rattle.study_marks.specs.Study.{Study}
 use Rattle.study_marks.specs.Goals.{aim_of}
 use Rattle.study_marks.specs.Verdict.{Verdict, wrong, sound, unsound, verdict}
 use Rattle.study_pgn.specs.Values.{value_text}
-use Rattle.study_review.specs.Review.{is_empty}
-use Rattle.study_review.specs.Words.{alone_words, time_verdict}
+use Rattle.study_facts.specs.Order.{is_empty}
+use Rattle.study_facts.specs.Words.{alone_words, time_verdict}
 use Rattle.study_html.specs.declared.element.Element.{Element}
 use Rattle.study_html.specs.declared.element.Element.TheVariants as element
 use Rattle.study_html.specs.Escape.{said}

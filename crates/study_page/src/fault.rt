@@ -1,9 +1,7 @@
 //! Why nothing is written.
 
-use std::alloc::{AllocError, AllocFailed};
-use study_review::ReviewFault;
+use std::alloc::AllocError;
 use study_text::DeviceFailed;
-use study_values::ProbeFault;
 use thiserror::Error;
 
 /// Why a part of the pages is not written, or not whole.
@@ -34,48 +32,5 @@ impl From<DeviceFailed> for PageFault {
 
     fn from(_failed: DeviceFailed) -> PageFault {
         PageFault::Device
-    }
-}
-
-/// Why the text of a page is not made.
-#[derive(Clone, Copy, Debug, PartialEq, Eq)]
-pub enum NotMade {
-    OutOfMemory,
-    Untold(ProbeFault),
-}
-
-impl From<NotMade> for ReviewFault {
-    ghost use Rattle.std.specs.Prelude.{◌≡◌};
-    ghost use Rattle.study_page.specs.Made.{fault_of};
-
-    ghost from_gives = { λ reason fault. fault ≡ fault_of reason };
-
-    fn from(reason: NotMade) -> ReviewFault {
-        match reason {
-            NotMade::OutOfMemory => ReviewFault::OutOfMemory,
-            NotMade::Untold(untold) => ReviewFault::Values(untold),
-        }
-    }
-}
-
-impl From<AllocError> for NotMade {
-    ghost use Rattle.std.specs.Prelude.{◌≡◌};
-    ghost use Rattle.study_page.specs.declared.fault.NotMade.TheVariants.{OutOfMemory};
-
-    ghost from_gives = { λ _ reason. reason ≡ OutOfMemory };
-
-    fn from(_error: AllocError) -> NotMade {
-        NotMade::OutOfMemory
-    }
-}
-
-impl<T: Drop> From<AllocFailed<T>> for NotMade {
-    ghost use Rattle.std.specs.Prelude.{◌≡◌};
-    ghost use Rattle.study_page.specs.declared.fault.NotMade.TheVariants.{OutOfMemory};
-
-    ghost from_gives = { λ _ reason. reason ≡ OutOfMemory };
-
-    fn from(_failed: AllocFailed<T>) -> NotMade {
-        NotMade::OutOfMemory
     }
 }

@@ -2,18 +2,18 @@
 ghost use Rattle.std.specs.Prelude.{◌≡◌, ◌++◌, ◌<◌, ◌≤◌, ◌^◌, true, length, take, drop, OnOk, IfSome};
 ghost use Rattle.std.specs.List.{All, flat_map};
 ghost use Rattle.study_moves.specs.Rules.{is_legal, after};
-ghost use Rattle.study_review.specs.Play.{IsPlayed};
+ghost use Rattle.study_facts.specs.Play.{IsPlayed};
 ghost use Rattle.study_page.specs.Rows.{several_words, several_item, each_several, is_answer, has_answer, defence_item, with_answer};
 ghost use Rattle.study_page.specs.Rows.{group, any_has, group_of, group_at, groups_from, answered_words, answered_cell, defence_row};
 
 use crate::items::put_told;
 use std::alloc::{AllocError, Allocator};
 use study_board::Position;
+use study_facts::Defence;
 use study_html::{Drawing, Element, Html, put_words};
 use study_moves::{Move, legal_moves, played};
 use study_notation::write_san;
 use study_pgn::add_san;
-use study_review::Defence;
 use study_text::Text;
 
 fn add_several<A: Allocator>(text: &mut Text<'_, A>, answers: u16) -> Result<(), AllocError>

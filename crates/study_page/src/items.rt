@@ -2,7 +2,7 @@
 ghost use Rattle.std.specs.Prelude.{◌≡◌, ◌++◌, ◌<◌, ◌^◌, true, length, OnOk, codes};
 ghost use Rattle.std.specs.List.{All, flat_map};
 ghost use Rattle.study_moves.specs.Rules.{is_legal};
-ghost use Rattle.study_review.specs.Nodes.{is_stalemate};
+ghost use Rattle.study_facts.specs.Nodes.{is_stalemate};
 ghost use Rattle.study_notation.specs.Written.{move_text};
 ghost use Rattle.study_pgn.specs.Values.{value_text};
 ghost use Rattle.study_html.specs.Escape.{said};
@@ -11,16 +11,16 @@ ghost use Rattle.study_page.specs.Rows.{loses_time, forced_words, time_words, mo
 ghost use Rattle.study_page.specs.Rows.{card_title, card_words, card, front_cells, told_move, refuted_item, refuted_items, of_all, refuted_count, try_row};
 ghost use Rattle.study_page.specs.Rows.{points_words, to_move_words, zugzwang_row};
 
-use crate::diagram::draw_mini;
+use study_head::draw_mini;
 use crate::signs::is_stalemate;
-use crate::words::{Ply, add_label, add_short};
+use study_head::{Ply, add_label, add_short};
 use std::alloc::{AllocError, Allocator};
 use study_board::{Position, Side};
+use study_facts::{Alternative, Continuation, Zugzwang};
 use study_html::{Element, Html, put_words};
 use study_moves::{Move, legal_moves};
 use study_notation::Start;
 use study_pgn::{add_san, add_value};
-use study_review::{Alternative, Continuation, Zugzwang};
 use study_text::Text;
 use study_values::Value;
 

@@ -4,16 +4,12 @@
 //! and the words of a study are never read as markup.
 #![tactic(auto)]
 
-mod counts;
 mod csv;
-mod diagram;
 mod draft;
 mod fault;
 mod faults;
 mod groups;
-mod head;
 mod items;
-mod known;
 mod laws;
 mod lists;
 mod page;

@@ -8,14 +8,14 @@ ghost use Rattle.study_marks.specs.declared.tag.TagName.TheVariants as tag;
 ghost use Rattle.study_pgn.specs.Pgn.{stipulation_text};
 ghost use Rattle.study_html.specs.Elements.{inside};
 ghost use Rattle.study_html.specs.Escape.{said};
-ghost use Rattle.study_page.specs.Known.{known};
-ghost use Rattle.study_page.specs.Head.{title_words};
+ghost use Rattle.study_head.specs.Known.{known};
+ghost use Rattle.study_head.specs.Head.{title_words};
 ghost use Rattle.study_page.specs.Verdict.{stamp_words, judged};
 ghost use Rattle.study_page.specs.Lists.{refusal_part, summary_row, two_heads, three_heads, summary_heads, summary_part};
 
 use crate::fault::PageFault;
-use crate::head::title_words;
-use crate::known::known_tag;
+use study_head::title_words;
+use study_head::known_tag;
 use crate::verdict::{add_stamp_words, judge};
 use std::alloc::{AllocError, Allocator};
 use std::io::Write;

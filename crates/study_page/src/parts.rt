@@ -4,37 +4,35 @@ ghost use Rattle.std.specs.List.{All};
 ghost use Rattle.study_moves.specs.Rules.{is_legal};
 ghost use Rattle.study_tree.specs.Tree.{has_spot};
 ghost use Rattle.study_marks.specs.BenchState.{marked};
-ghost use Rattle.study_review.specs.Asked.{within};
-ghost use Rattle.study_review.specs.Made.{Grew, Rose};
-ghost use Rattle.study_review.specs.TimeFaults.{CountWhere, IsTimeDual, IsTimeFault, all_lose_time};
-ghost use Rattle.study_review.specs.Line.{IsPlaceOf};
-ghost use Rattle.study_page.specs.Made.{HasAsked};
+ghost use Rattle.study_facts.specs.Asked.{within};
+ghost use Rattle.study_facts.specs.Made.{Grew, Rose, HasAsked};
+ghost use Rattle.study_facts.specs.TimeFaults.{CountWhere, IsTimeDual, IsTimeFault, all_lose_time};
+ghost use Rattle.study_facts.specs.Line.{IsPlaceOf};
 ghost use Rattle.study_page.specs.Rows.{IsFaultOf, FaultItems, IsCardOf, Cards, try_row, TryRows, defence_row, DefenceRows};
-ghost use Rattle.study_page.specs.Rows.{dual_item, mistake_item, card, zugzwang_rows, ZugzwangRows};
-ghost use Rattle.study_page.specs.Rows.{play_words, keep_words, end_row, IsEnd, EndRows};
+ghost use Rattle.study_page.specs.Rows.{dual_item, mistake_item, card, zugzwang_rows, ZugzwangRows, play_words, keep_words, end_row, IsEnd, EndRows};
 ghost use Rattle.study_page.specs.Words.{where_words};
-ghost use Rattle.study_review.specs.Play.{IsPlayed, ArePlayed};
-ghost use Rattle.study_review.specs.Nodes.{OnlyWhere, value_at};
+ghost use Rattle.study_facts.specs.Play.{IsPlayed, ArePlayed};
+ghost use Rattle.study_facts.specs.Nodes.{OnlyWhere, value_at};
 
 use crate::draft::Parts;
-use crate::fault::NotMade;
 use crate::faults::{put_dual, put_mistake};
 use crate::groups::put_defences;
 use crate::items::{put_card, put_try, put_zugzwang};
 use crate::rows::{add_keep, add_moves, put_end};
 use crate::signs::{is_defended, is_open_end, is_solution_move, is_try, mark_at};
-use crate::words::{Ply, add_where};
+use crate::words::add_where;
+use study_head::Ply;
 use std::alloc::{AllocError, Allocator};
 use study_board::Position;
+use study_facts::{
+    Alternative, Continuation, Defence, Made, Node, NotMade, Place, Zugzwang, all_lose_time,
+    best_play, children_in, count_where, defences, drawing_moves, made_in, refutations,
+    timed_alternatives, value_at, zugzwang_at,
+};
 use study_html::Html;
 use study_marks::{Bench, MoveMark};
 use study_moves::Move;
 use study_notation::Start;
-use study_review::{
-    Alternative, Continuation, Defence, Made, Node, Place, Zugzwang, all_lose_time, best_play,
-    children_in, count_where, defences, drawing_moves, made_in, refutations, timed_alternatives,
-    value_at, zugzwang_at,
-};
 use study_text::Text;
 use study_values::{Value, Values};
 

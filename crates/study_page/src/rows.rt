@@ -2,19 +2,19 @@
 ghost use Rattle.std.specs.Prelude.{◌≡◌, ◌++◌, ◌<◌, ◌+◌, ◌^◌, true, length, OnOk};
 ghost use Rattle.std.specs.List.{All, flat_map};
 ghost use Rattle.study_moves.specs.Rules.{is_legal};
-ghost use Rattle.study_review.specs.Play.{ArePlayed};
-ghost use Rattle.study_review.specs.Words.{move_words};
+ghost use Rattle.study_facts.specs.Play.{ArePlayed};
+ghost use Rattle.study_facts.specs.Words.{move_words};
 ghost use Rattle.study_page.specs.Rows.{is_white, number_words, play_words, keep_it, keep_words, end_row};
 
 use crate::items::put_front_cells;
-use crate::words::add_front;
+use study_head::add_front;
 use std::alloc::{AllocError, Allocator};
 use study_board::{Position, Side};
+use study_facts::{Continuation, add_move};
 use study_html::{Element, Html, put_words};
 use study_moves::{legal_moves, played};
 use study_notation::Start;
 use study_pgn::add_san;
-use study_review::{Continuation, add_move};
 use study_text::Text;
 use study_values::Value;
 

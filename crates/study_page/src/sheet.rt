@@ -5,21 +5,21 @@ ghost use Rattle.study_text.specs.Taken.{TakesPrefix};
 ghost use Rattle.study_marks.specs.BenchState.{marked};
 ghost use Rattle.study_marks.specs.Study.{tag_of, plain_study};
 ghost use Rattle.study_marks.specs.declared.tag.TagName.TheVariants as tag;
-ghost use Rattle.study_page.specs.Known.{known};
+ghost use Rattle.study_head.specs.Known.{known};
 ghost use Rattle.study_pgn.specs.Pgn.{stipulation_text};
 ghost use Rattle.study_page.specs.Sheet.{number_words, author_line, key_words, key_of, place_caption, place, IsPlaceOf, IsPlace};
 
-use crate::diagram::draw_board;
+use study_head::draw_board;
 use crate::fault::PageFault;
-use crate::head::moves_first;
-use crate::known::known_tag;
-use crate::words::add_label;
+use study_head::moves_first;
+use study_head::known_tag;
+use study_head::add_label;
 use std::alloc::{AllocError, Allocator};
 use std::io::Write;
+use study_facts::made_in;
 use study_html::{Drawing, Element, Html, put_words};
 use study_marks::{Bench, TagName};
 use study_pgn::add_stipulation;
-use study_review::made_in;
 use study_text::{Text, write_text};
 
 /// The number and the stipulation.

@@ -3,14 +3,14 @@ ghost use Rattle.std.specs.Prelude.{◌≡◌};
 ghost use Rattle.study_marks.specs.BenchState.{marked};
 ghost use Rattle.study_marks.specs.FaultSums.{below_at};
 ghost use Rattle.study_marks.specs.Study.{position_at};
-ghost use Rattle.study_review.specs.Nodes.{none_idle, hero_made, is_stalemate, mark_at};
-ghost use Rattle.study_review.specs.Nodes.{front_of, is_try, is_defended, is_open_end, is_solution_move, is_first_idle, has_none};
+ghost use Rattle.study_facts.specs.Nodes.{none_idle, hero_made, is_stalemate, mark_at};
+ghost use Rattle.study_facts.specs.Nodes.{front_of, is_try, is_defended, is_open_end, is_solution_move, is_first_idle, has_none};
 
 use std::alloc::Allocator;
 use study_board::Position;
+use study_facts::{aim_in, is_idle, is_in_solution, is_mistake, value_at};
 use study_marks::{Aim, Bench, MoveMark, hero_moves, holds};
 use study_moves::{in_check, legal_moves};
-use study_review::{aim_in, is_idle, is_in_solution, is_mistake, value_at};
 
 /// The mark of the move that led to the node.
 pub fn mark_at<'b, B: Allocator>(bench: &Bench<'b, B>, steps: &[u16]) -> Option<MoveMark>
@@ -41,7 +41,7 @@ fn hero_made(aim: &Aim, steps: &[u16]) -> bool
     }
 }
 
-#[tactic(auto, unfolding(study_review::specs::Nodes::is_stalemate))]
+#[tactic(auto, unfolding(study_facts::specs::Nodes::is_stalemate))]
 pub fn is_stalemate(p: &Position) -> bool
     ensures { result ≡ is_stalemate p.now }
 {

@@ -4,16 +4,16 @@ ghost use Rattle.study_marks.specs.BenchState.{marked};
 ghost use Rattle.study_marks.specs.Verdict.{verdict};
 ghost use Rattle.study_marks.specs.Study.{Study};
 ghost use Rattle.study_marks.specs.declared.mark.Mark.{Mark as AMark};
-ghost use Rattle.study_review.specs.Review.{is_empty};
+ghost use Rattle.study_facts.specs.Order.{is_empty};
 ghost use Rattle.study_page.specs.Verdict.{stamp_of, stamp_element, stamp_words, stamp_part, none_given, number_words, which_words, lost_words, faults_words};
 ghost use Rattle.study_page.specs.Verdict.{holds_words, count_words, sentence, at_start, start_words, fault_list, verdict_part, judged};
 
 use std::alloc::{AllocError, Allocator};
 use study_board::Side;
+use study_facts::{add_alone, add_time_verdict, is_empty};
 use study_html::{Element, Html, put_words};
 use study_marks::{Bench, Mark, Stipulation};
 use study_pgn::{add_value, is_right, root_mark};
-use study_review::{add_alone, add_time_verdict, is_empty};
 use study_text::Text;
 use study_values::Value;
 

@@ -3,19 +3,18 @@ ghost use Rattle.std.specs.Prelude.{◌≡◌, ◌∷◌, IsTrue, OnOk};
 ghost use Rattle.study_tree.specs.Tree.{has_spot};
 ghost use Rattle.study_marks.specs.BenchState.{marked};
 ghost use Rattle.study_marks.specs.FaultSums.{below_at};
-ghost use Rattle.study_review.specs.Asked.{within};
-ghost use Rattle.study_review.specs.Made.{Grew, Rose};
-ghost use Rattle.study_review.specs.Review.{paths_from, LinesOfEach, SumOfEach};
-ghost use Rattle.study_review.specs.TimeFaults.{IsTimeFault};
-ghost use Rattle.study_page.specs.Made.{HasAsked};
+ghost use Rattle.study_facts.specs.Asked.{within};
+ghost use Rattle.study_facts.specs.Made.{Grew, Rose};
+ghost use Rattle.study_facts.specs.Order.{paths_from, LinesOfEach, SumOfEach};
+ghost use Rattle.study_facts.specs.TimeFaults.{IsTimeFault};
+ghost use Rattle.study_facts.specs.Made.{HasAsked};
 ghost use Rattle.study_page.specs.Rows.{FaultItems, Cards, TryRows, ZugzwangRows, DefenceRows, EndRows};
 
 use crate::draft::Parts;
-use crate::fault::NotMade;
 use crate::parts::{add_move, add_position};
 use std::alloc::Allocator;
+use study_facts::{NotMade, count_at, place_in};
 use study_marks::Bench;
-use study_review::{count_at, place_in};
 use study_values::Values;
 
 /// What the parts have of the node at the path. It is a call of its own, so that a ply of `add_each` takes little of the stack.

@@ -1,115 +1,13 @@
-//! Words of moves and values, as plain text.
-ghost use Rattle.std.specs.Prelude.{◌≡◌, ◌++◌, ◌<◌, true, OnOk};
-ghost use Rattle.study_moves.specs.Rules.{is_legal};
+//! The words for a node of a study.
+ghost use Rattle.std.specs.Prelude.{◌≡◌, ◌++◌, OnOk};
 ghost use Rattle.study_marks.specs.BenchState.{marked};
-ghost use Rattle.study_page.specs.Words.{plies_of, half_of, number_at, front_words, minus_where, short_words, label, where_words};
+ghost use Rattle.study_page.specs.Words.{where_words};
 
 use std::alloc::{AllocError, Allocator};
-use study_board::{Position, Side};
+use study_facts::made_in;
+use study_head::add_label;
 use study_marks::Bench;
-use study_moves::Move;
-use study_notation::Start;
-use study_pgn::{add_san, move_dots};
-use study_review::made_in;
 use study_text::Text;
-use study_values::Value;
-
-/// Where a move of a study is made: the study's start, by which moves are numbered, how many plies are before it, and the position.
-#[derive(Clone, Copy)]
-pub struct Ply<'n> {
-    pub start: &'n Start,
-    pub depth: usize,
-    pub position: &'n Position,
-}
-
-fn add_minus<A: Allocator>(text: &mut Text<'_, A>, minus: bool) -> Result<(), AllocError>
-    ensures { OnOk result (text.new ≡ text.old ++ minus_where minus) }
-{
-    if minus {
-        return text.add(b"-");
-    }
-    Ok(())
-}
-
-/// In how many moves the hero mates, or is mated after a minus; `=` where it is drawn, and `#` where it is mate. `hero` tells whether
-/// he is to move.
-pub fn add_short<A: Allocator>(
-    text: &mut Text<'_, A>,
-    hero: bool,
-    value: Value,
-) -> Result<(), AllocError>
-    ensures { OnOk result (text.new ≡ text.old ++ short_words hero value) }
-{
-    match value {
-        Value::Draw => text.add(b"="),
-        Value::Loss(0) => text.add(b"#"),
-        Value::Win(plies) => {
-            add_minus(text, !hero)?;
-            text.add_number((plies / 2 + plies % 2) as u32)
-        }
-        Value::Loss(plies) => {
-            add_minus(text, hero)?;
-            text.add_number((plies / 2) as u32)
-        }
-    }
-}
-
-fn plies_of(depth: usize) -> u32
-    ensures plies { result ≡ plies_of depth }
-    ensures few { result < 257 }
-{
-    if depth < 257 { depth as u32 } else { 256 }
-}
-
-/// One ply where Black moves first.
-fn half_of(side: Side) -> u32
-    ensures half { result ≡ half_of side }
-    ensures few { result < 2 }
-{
-    match side {
-        Side::White => 0,
-        Side::Black => 1,
-    }
-}
-
-/// The number of the move that is made at this depth of a study with this start.
-#[tactic(auto, unfolding(crate::specs::Words::number_at))]
-fn number_at(start: &Start, depth: usize) -> u32
-    ensures { result ≡ number_at start.now depth }
-{
-    start.number as u32 + (plies_of(depth) + half_of(start.position.to_move())) / 2
-}
-
-/// A number with what follows it, for a move of this side.
-#[tactic(auto, unfolding(crate::specs::Words::front_words))]
-pub fn add_front<A: Allocator>(
-    text: &mut Text<'_, A>,
-    start: &Start,
-    depth: usize,
-    side: Side,
-) -> Result<(), AllocError>
-    ensures { OnOk result (text.new ≡ text.old ++ front_words start.now depth side) }
-{
-    text.add_number(number_at(start, depth))?;
-    text.add(move_dots(side))?;
-    text.add(b" ")
-}
-
-/// A move that is made at this depth, with its number.
-#[tactic(auto, unfolding(crate::specs::Words::label))]
-pub fn add_label<A: Allocator>(
-    text: &mut Text<'_, A>,
-    start: &Start,
-    depth: usize,
-    p: &Position,
-    m: Move,
-) -> Result<(), AllocError>
-    requires { is_legal p.now m ≡ true }
-    ensures { OnOk result (text.new ≡ text.old ++ label start.now depth p.now m) }
-{
-    add_front(text, start, depth, p.to_move())?;
-    add_san(text, p, m)
-}
 
 /// The move to the node at the path, or that it is the start.
 pub fn add_where<'b, A: Allocator, B: Allocator>(

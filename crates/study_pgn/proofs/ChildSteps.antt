@@ -13,7 +13,8 @@ use Rattle.study_tree.specs.Edits.{node_in, width}
 use Rattle.study_marks.specs.declared.mark.Mark.{Mark}
 use Rattle.study_marks.specs.Study.{IsPlayable}
 use Rattle.study_pgn.specs.Moves.{words_of_move, following, variations}
-use Rattle.study_pgn.proofs.PathWalks.{skip, playable_at, following_none, following_first, others_first, others_done}
+use Rattle.study_marks.proofs.PathWalks.{skip, playable_at}
+use Rattle.study_pgn.proofs.PathWalks.{following_none, following_first, others_first, others_done}
 
 -- ---- the step
 

@@ -8,11 +8,11 @@ use Rattle.study_values.specs.declared.values.ProbeFault.{ProbeFault}
 use Rattle.study_values.specs.declared.values.ProbeFault.TheVariants.{NoTable, TableRead, PageDamaged}
 use Rattle.study_marks.specs.Answers.{WereTold, IsFirstFault}
 use Rattle.study_marks.specs.Told.{failures_told}
-use Rattle.study_review.specs.declared.fault.ReviewFault.{ReviewFault}
-use Rattle.study_review.specs.declared.fault.ReviewFault.TheVariants.{OutOfMemory, Device, Values}
-use Rattle.study_review.specs.Asked.{Stopped, within}
-use Rattle.study_review.specs.Review.{HasReviewed}
-use Rattle.study_review.proofs.Within.{missed-needed, unread-needed}
+use Rattle.study_facts.specs.declared.fault.ReviewFault.{ReviewFault}
+use Rattle.study_facts.specs.declared.fault.ReviewFault.TheVariants.{OutOfMemory, Device, Values}
+use Rattle.study_facts.specs.Asked.{Stopped, within}
+use Rattle.study_facts.specs.Order.{HasReviewed}
+use Rattle.study_facts.proofs.Within.{missed-needed, unread-needed}
 use Rattle.study_report.specs.Told.{IsUntoldBy}
 
 module _ {V : Type 0} (held : V → Class → Bool) (gives : V → Position → ProbeAnswer → Type 0)

@@ -9,10 +9,10 @@ use Rattle.study_prober.specs.Sources.{GivesOf}
 use Rattle.study_values.specs.declared.values.ProbeFault.{ProbeFault}
 use Rattle.study_prober.specs.WholeTables.{Whole, TablesAreRight, IsCellAnswer}
 use Rattle.study_prober.specs.PagedTables.{Paged, SourcesAreRight, IsPagedAnswer, MayFail, held_of}
-use Rattle.study_review.specs.declared.fault.ReviewFault.{ReviewFault}
-use Rattle.study_review.specs.declared.fault.ReviewFault.TheVariants.{Values}
-use Rattle.study_review.specs.Asked.{within}
-use Rattle.study_review.specs.Review.{HasReviewed}
+use Rattle.study_facts.specs.declared.fault.ReviewFault.{ReviewFault}
+use Rattle.study_facts.specs.declared.fault.ReviewFault.TheVariants.{Values}
+use Rattle.study_facts.specs.Asked.{within}
+use Rattle.study_facts.specs.Order.{HasReviewed}
 use Rattle.study_script.specs.declared.tables.Tables.{Tables}
 use Rattle.study_script.specs.declared.tables.Tables.TheVariants as held
 use Rattle.study_script.specs.Held.{tables_honest, tables_held, tables_may_fail, are_paged}

@@ -21,4 +21,4 @@ pub use lines::{Lines, without_error};
 pub use no_files::NoFiles;
 pub use remarks::{behind, is_left_out, is_original, statement, subject};
 pub use report::{NotTold, Report};
-pub use study_review::ReviewFault;
+pub use study_facts::ReviewFault;

@@ -8,8 +8,9 @@ use crate::report::{NotTold, Report};
 use itoa::Buffer;
 use std::alloc::Allocator;
 use std::io::Write;
+use study_facts::ReviewFault;
 use study_marks::Bench;
-use study_review::{ReviewFault, write_review};
+use study_review::write_review;
 use study_text::{DeviceFailed, write_text};
 use study_values::Values;
 

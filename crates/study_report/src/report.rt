@@ -6,13 +6,13 @@ ghost use Rattle.study_text.specs.Taken.{TakesPrefix};
 ghost use Rattle.study_marks.specs.Edits.{Plainly};
 ghost use Rattle.study_marks.specs.BenchState.{marked, IsKeptRight};
 ghost use Rattle.study_marks.specs.Study.{plain_study};
-ghost use Rattle.study_review.specs.Asked.{within};
-ghost use Rattle.study_review.specs.Review.{HasReviewed};
+ghost use Rattle.study_facts.specs.Asked.{within};
+ghost use Rattle.study_facts.specs.Order.{HasReviewed};
 
 use std::alloc::Allocator;
 use std::io::Write;
+use study_facts::ReviewFault;
 use study_marks::Bench;
-use study_review::ReviewFault;
 use study_text::DeviceFailed;
 use study_values::Values;
 use thiserror::Error;

@@ -20,7 +20,7 @@ use Rattle.study_marks.specs.Annotated.{AreValuesAfter}
 use Rattle.study_marks.specs.Laws.{others_that_hold, DualCountsOthers}
 use Rattle.study_marks.proofs.OneAnnotation.{one-value}
 use Rattle.study_marks.proofs.DualCounts.{same_move-one}
-use Rattle.study_review.specs.Continuations.{is_among, chosen}
+use Rattle.study_facts.specs.Continuations.{is_among, chosen}
 use Rattle.study_review.specs.Laws.{AlternativesAreCounted}
 
 -- ---- marks of moves that hold

@@ -16,18 +16,18 @@ use Rattle.study_values.specs.Game.{IsValueOf}
 use Rattle.study_marks.specs.declared.mark_rules.Aim.{Aim}
 use Rattle.study_marks.specs.declared.stipulation.Goal.{Goal}
 use Rattle.study_marks.specs.Goals.{holds}
-use Rattle.study_review.specs.declared.continuation.Continuation.{Continuation}
-use Rattle.study_review.specs.declared.time.Alternative.{Alternative}
-use Rattle.study_review.specs.declared.missing.Defence.{Defence}
+use Rattle.study_facts.specs.declared.continuation.Continuation.{Continuation}
+use Rattle.study_facts.specs.declared.time.Alternative.{Alternative}
+use Rattle.study_facts.specs.declared.missing.Defence.{Defence}
 use Rattle.study_review.specs.declared.answers.Answers.{Answers}
-use Rattle.study_review.specs.Continuations.{chosen, is_among}
-use Rattle.study_review.specs.Defences.{the_only, AreAnswered, IsAnswered}
-use Rattle.study_review.specs.Made.{Grew}
-use Rattle.study_review.specs.Time.{IsTimeTold, AreTimed}
+use Rattle.study_facts.specs.Continuations.{chosen, is_among}
+use Rattle.study_facts.specs.Defences.{the_only, AreAnswered, IsAnswered}
+use Rattle.study_facts.specs.Made.{Grew}
+use Rattle.study_facts.specs.Time.{IsTimeTold, AreTimed}
 use Rattle.study_review.specs.Told.{AreAlsoLines, AreMissingLines, AreAnswers, besides, apart}
-use Rattle.study_review.specs.Words.{also_line, missing_line, times_lost}
-use Rattle.study_review.specs.TimeFaults.{all_lose_time}
-use Rattle.study_review.proofs.NodesShown.{not-zero}
+use Rattle.study_facts.specs.Words.{also_line, missing_line, times_lost}
+use Rattle.study_facts.specs.TimeFaults.{all_lose_time}
+use Rattle.study_facts.proofs.NodesShown.{not-zero}
 
 -- ---- alternatives
 

@@ -18,23 +18,23 @@ use Rattle.study_marks.specs.Bench.{played_by}
 use Rattle.study_marks.specs.FaultSums.{below_at}
 use Rattle.study_marks.specs.Study.{Study, position_at}
 use Rattle.study_marks.specs.Goals.{aim_of, hero_moves, holds}
-use Rattle.study_review.specs.declared.continuation.Continuation.{Continuation}
-use Rattle.study_review.specs.declared.time.Alternative.{Alternative}
-use Rattle.study_review.specs.Continuations.{AreRefutations, AreChosen}
-use Rattle.study_review.specs.Faults.{in_solution}
-use Rattle.study_review.specs.Time.{AreTimedAlternatives}
-use Rattle.study_review.specs.Defences.{AreDefences}
-use Rattle.study_review.specs.Line.{line_to, moves_of}
-use Rattle.study_review.specs.Words.{also_line, missing_line, keep_line, dual_line, mistake_line, times_lost}
-use Rattle.study_review.specs.Nodes.{front_of, has_none, is_dual, is_try, is_defended, is_open_end, is_solution_move, mark_at, value_at}
-use Rattle.study_review.specs.Nodes.{refuted_text, AreAlso, AlsoLines, RefutedLines, MissingLines, IsEnd, EndLines, NodeLines, IsFaultOf, FaultLines}
-use Rattle.study_review.specs.Made.{Grew, Rose}
-use Rattle.study_review.specs.TimeFaults.{CountWhere, IsTimeFaultOf, IsTimeFault, all_lose_time}
-use Rattle.study_review.specs.Stand.{IsNodeAt, IsStep}
+use Rattle.study_facts.specs.declared.continuation.Continuation.{Continuation}
+use Rattle.study_facts.specs.declared.time.Alternative.{Alternative}
+use Rattle.study_facts.specs.Continuations.{AreRefutations, AreChosen}
+use Rattle.study_facts.specs.Faults.{in_solution}
+use Rattle.study_facts.specs.Time.{AreTimedAlternatives}
+use Rattle.study_facts.specs.Defences.{AreDefences}
+use Rattle.study_facts.specs.Line.{line_to, moves_of}
+use Rattle.study_facts.specs.Words.{also_line, missing_line, keep_line, dual_line, mistake_line, times_lost}
+use Rattle.study_facts.specs.Nodes.{front_of, has_none, is_dual, is_try, is_defended, is_open_end, is_solution_move, mark_at, value_at}
+use Rattle.study_facts.specs.Nodes.{refuted_text, AreAlso, AlsoLines, RefutedLines, MissingLines, IsEnd, EndLines, NodeLines, IsFaultOf, FaultLines}
+use Rattle.study_facts.specs.Made.{Grew, Rose}
+use Rattle.study_facts.specs.TimeFaults.{CountWhere, IsTimeFaultOf, IsTimeFault, all_lose_time}
+use Rattle.study_facts.specs.Stand.{IsNodeAt, IsStep}
 use Rattle.study_review.specs.Told.{AreAlsoLines, AreMissingLines, OwnLines, HereLines, besides, failing, drawing}
-use Rattle.study_review.specs.declared.zugzwang.Zugzwang.{Zugzwang}
-use Rattle.study_review.specs.Zugzwang.{IsZugzwangOf, zugzwang_line}
-use Rattle.study_review.proofs.NodesShown.{are-there, not-there, none-counted}
+use Rattle.study_facts.specs.declared.zugzwang.Zugzwang.{Zugzwang}
+use Rattle.study_facts.specs.Zugzwang.{IsZugzwangOf, zugzwang_line}
+use Rattle.study_facts.proofs.NodesShown.{are-there, not-there, none-counted}
 use Rattle.study_review.proofs.MovesTold.{timed-length, all-counted}
 use Rattle.study_review.proofs.ToldMoves.{failing-told, drawing-told, apart-told, besides-told}
 

@@ -4,7 +4,7 @@ use Rattle.study_board.specs.Position.{Position}
 use Rattle.study_moves.specs.declared.moves.Move.{Move}
 use Rattle.study_moves.specs.Rules.{after}
 use Rattle.study_marks.specs.Study.{position_after}
-use Rattle.study_review.specs.Back.{IsNear, stands_in}
+use Rattle.study_facts.specs.Back.{IsNear, stands_in}
 use Rattle.study_review.specs.Laws.{IsPlayAgainst, TimeLossIsForced}
 
 abbrev Reaches : (Position → Move) → List Position → ℕ → Position → Type 0

@@ -16,7 +16,7 @@ use Rattle.study_marks.specs.declared.stipulation.Goal.{Goal}
 use Rattle.study_marks.specs.declared.stipulation.Goal.TheVariants.{Win, Draw, MateIn}
 use Rattle.study_marks.specs.Goals.{hero_moves, hero_mates, hero_loses, keeps_goal, plies_of, mates_by, holds}
 use Rattle.study_marks.specs.Annotated.{AreValuesAfter}
-use Rattle.study_review.specs.Continuations.{chosen}
+use Rattle.study_facts.specs.Continuations.{chosen}
 use Rattle.study_review.specs.Laws.{FailuresAreRefuted}
 
 -- the value after each of these moves is one of those

@@ -17,17 +17,17 @@ use Rattle.study_marks.specs.FaultSums.{below_at, skipped}
 use Rattle.study_marks.specs.Study.{Study, position_at}
 use Rattle.study_marks.specs.Goals.{aim_of, hero_moves}
 use Rattle.study_marks.specs.Marks.{is_fault, own_faults, faults_in}
-use Rattle.study_pgn.proofs.PathWalks.{spot_last, below_entered}
-use Rattle.study_review.specs.declared.time.Alternative.{Alternative}
-use Rattle.study_review.specs.Faults.{in_solution}
-use Rattle.study_review.specs.Line.{line_to}
-use Rattle.study_review.specs.Nodes.{front_of, hero_made, is_dual, mark_at, is_solution_move}
-use Rattle.study_review.specs.Review.{paths_from, SumOfEach, written_order}
-use Rattle.study_review.specs.Time.{AreTimedAlternatives}
-use Rattle.study_review.specs.TimeFaults.{CountWhere, IsTimeFaultOf, IsTimeFault, all_lose_time}
+use Rattle.study_marks.proofs.PathWalks.{spot_last, below_entered}
+use Rattle.study_facts.specs.declared.time.Alternative.{Alternative}
+use Rattle.study_facts.specs.Faults.{in_solution}
+use Rattle.study_facts.specs.Line.{line_to}
+use Rattle.study_facts.specs.Nodes.{front_of, hero_made, is_dual, mark_at, is_solution_move}
+use Rattle.study_facts.specs.Order.{paths_from, SumOfEach, written_order}
+use Rattle.study_facts.specs.Time.{AreTimedAlternatives}
+use Rattle.study_facts.specs.TimeFaults.{CountWhere, IsTimeFaultOf, IsTimeFault, all_lose_time}
 use Rattle.study_review.specs.Laws.{has_fault, is_solution_fault, LosesTimeAlone, LosesTimeAt, EachLosesTime, TimeFaultsAreAll}
-use Rattle.study_review.proofs.FaultsListed.{step-on}
-use Rattle.study_review.proofs.OneReview.{one-alternatives}
+use Rattle.study_facts.proofs.FaultsListed.{step-on}
+use Rattle.study_facts.proofs.OneFacts.{one-alternatives}
 
 module _ (law : EachHasAtMostOneValue) (s : Study Mark) where
   -- 1 if the move to the node is a fault of the solution

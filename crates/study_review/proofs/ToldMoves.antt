@@ -1,6 +1,5 @@
 -- Evaluated moves, and those of them that have a line.
-use Rattle.std.proofs.Common.{◌≡◌, ℕ, ◌+◌, Bool, true, false, not, ◌&&◌, List, [], ◌∷◌, ◌++◌, Result, Ok, Err, OnOk}
-use Rattle.std.proofs.Common.{refl, ap, subst, ◌∙◌}
+use Rattle.std.proofs.Common.{◌≡◌, ℕ, ◌+◌, Bool, true, false, not, ◌&&◌, List, [], ◌∷◌, ◌++◌, Result, Ok, Err, OnOk, refl, ap, subst, ◌∙◌}
 use Rattle.std.specs.List.{filter}
 use Rattle.study_board.specs.Position.{Position}
 use Rattle.study_moves.specs.declared.moves.Move.{Move}
@@ -11,10 +10,10 @@ use Rattle.study_values.specs.Game.{IsValueOf}
 use Rattle.study_marks.specs.declared.mark_rules.Aim.{Aim}
 use Rattle.study_marks.specs.Goals.{holds}
 use Rattle.study_marks.specs.Annotated.{AreValuesAfter}
-use Rattle.study_review.specs.declared.continuation.Continuation.{Continuation}
-use Rattle.study_review.specs.Continuations.{chosen, is_among, is_draw, AreChosen, AreRefutations, AreDrawingMoves, AreMissing, AreAlternatives}
+use Rattle.study_facts.specs.declared.continuation.Continuation.{Continuation}
+use Rattle.study_facts.specs.Continuations.{chosen, is_among, is_draw, AreChosen, AreRefutations, AreDrawingMoves, AreMissing, AreAlternatives}
 use Rattle.study_review.specs.Told.{AreTold, failing, drawing, apart, besides}
-use Rattle.study_review.proofs.Chosen.{one-added}
+use Rattle.study_facts.proofs.Chosen.{one-added}
 
 -- one more move is written
 pub told-one : {T E : Type 0} (p : Position) (m : Move) (ms rest : List Move) (old mid new : List Continuation) (r : Result T E) → ms ≡ m ∷ rest

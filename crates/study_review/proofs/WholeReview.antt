@@ -1,21 +1,20 @@
 -- The parts of a review, one after the other.
 use Rattle.std.specs.Prelude.{codes, decimal}
-use Rattle.std.proofs.Common.{◌≡◌, ◌≤◌, ◌<◌, ◌+◌, ◌^◌, ℕ, Bool, true, false, List, [], ◌∷◌, ◌++◌, refl, sym, ap, subst, ◌∙◌, append_assoc, ◌-◌, length, take, arith, length-append}
+use Rattle.std.proofs.Common.{◌≡◌, ◌+◌, ℕ, Bool, true, false, List, [], ◌∷◌, ◌++◌, refl, sym, ap, subst, ◌∙◌, append_assoc, ◌-◌, length, take, arith, length-append}
 use Rattle.std.proofs.lemmas.List.{append-nil}
 use Rattle.std.proofs.Math.Seq.{take-append_seam}
 use Rattle.study_marks.specs.declared.mark.Mark.{Mark}
 use Rattle.study_marks.specs.FaultSums.{below_at}
 use Rattle.study_marks.specs.Study.{Study}
-use Rattle.study_tree.specs.Tree.{size_of}
-use Rattle.study_review.specs.Made.{Grew, Rose}
-use Rattle.study_review.specs.Nodes.{AlsoLines, FaultLines, NodeLines, is_dual, mark_at}
+use Rattle.study_facts.specs.Made.{Grew}
+use Rattle.study_facts.specs.Nodes.{AlsoLines, FaultLines, NodeLines, is_dual, mark_at}
 use Rattle.study_notation.specs.FenSpelling.{fen_text}
-use Rattle.study_review.specs.Review.{study_line, stipulation_line, empty_line, waste_line, paths_from, LinesOfEach, AreTimeFaults, written_order, IsReview, BeginsReview}
+use Rattle.study_review.specs.Review.{study_line, stipulation_line, empty_line, waste_line, IsReview, BeginsReview}
+use Rattle.study_facts.specs.Order.{paths_from, LinesOfEach, AreTimeFaults, written_order}
 use Rattle.study_review.specs.Told.{HereLines}
-use Rattle.study_review.proofs.NodesShown.{are-there, not-there}
+use Rattle.study_facts.proofs.NodesShown.{are-there, not-there}
 use Rattle.study_review.proofs.NodesTold.{node-told}
-use Rattle.study_review.proofs.TimeCounted.{few-time-faults}
-use Rattle.study_review.proofs.WrittenOrder.{both-written}
+use Rattle.study_facts.proofs.WrittenOrder.{both-written}
 
 -- a last one is pushed, and taken off again
 pub taken-off : {X : Type 0} (xs ys zs : List X) (x : X) (n : ℕ) → ys ≡ xs ++ x ∷ [] → n ≡ length ys → zs ≡ take (n - 1) ys → zs ≡ xs
@@ -53,14 +52,6 @@ module _ (s : Study Mark) where
   nodes-all p t0 t1 t2 e own h =
       both-written (NodeLines s) [] (paths_from [] 0 s.tree.below) t0 t1 t2 own
       (subst (λ (q : List ℕ). Grew (LinesOfEach (NodeLines s) (paths_from q 0 (below_at s.tree.below q))) t1 t2) e h)
-
--- if the count begins at 0, it is the number of the faults that lose time alone
-pub time-counted : (s : Study Mark) (size old new : ℕ) → old ≡ 0 → size ≡ size_of s.tree → size ≤ 4096
-    → Rose (AreTimeFaults s) old new → AreTimeFaults s new
-time-counted s size old new zero is few h =
-    let at_most = few-time-faults s h.0 h.1 in
-    let same : new ≡ old + h.0 = h.2 (let z : old + h.0 < 2 ^ 32 = omega (arith, zero, is, few, at_most) in z) in
-    subst (λ n. AreTimeFaults s n) (let z : h.0 ≡ new = omega (arith, same, zero) in z) h.1
 
 pub whole : (s : Study Mark) (number time : ℕ) (t0 t1 f0 f1 f2 t2 n0 n2 text : List ℕ) → t0 ≡ [] → f0 ≡ [] → n0 ≡ []
     → t1 ≡ t0 ++ (study_line s number ++ (stipulation_line s ++ empty_line s))

@@ -17,15 +17,15 @@ use Rattle.study_marks.specs.Study.{Study, position_after, position_at}
 use Rattle.study_tree.specs.Tree.{spot_at}
 use Rattle.study_marks.specs.Goals.{aim_of, hero_moves, holds}
 use Rattle.study_marks.specs.Annotated.{IsMoveMark, IsAnnotated}
-use Rattle.study_review.specs.declared.continuation.Continuation.{Continuation}
-use Rattle.study_review.specs.Continuations.{AreAlternatives, AreRefutations}
-use Rattle.study_review.specs.Back.{HasLost, Wins, IsBack, stands_in}
-use Rattle.study_review.specs.declared.time.Alternative.{Alternative}
-use Rattle.study_review.specs.Time.{AreTimedAlternatives}
-use Rattle.study_review.specs.Line.{line_to}
-use Rattle.study_review.specs.Nodes.{front_of, is_dual, mark_at, is_solution_move}
-use Rattle.study_review.specs.TimeFaults.{all_lose_time}
-use Rattle.study_review.specs.Review.{AreTimeFaults, written_order}
+use Rattle.study_facts.specs.declared.continuation.Continuation.{Continuation}
+use Rattle.study_facts.specs.Continuations.{AreAlternatives, AreRefutations}
+use Rattle.study_facts.specs.Back.{HasLost, Wins, IsBack, stands_in}
+use Rattle.study_facts.specs.declared.time.Alternative.{Alternative}
+use Rattle.study_facts.specs.Time.{AreTimedAlternatives}
+use Rattle.study_facts.specs.Line.{line_to}
+use Rattle.study_facts.specs.Nodes.{front_of, is_dual, mark_at, is_solution_move}
+use Rattle.study_facts.specs.TimeFaults.{all_lose_time}
+use Rattle.study_facts.specs.Order.{AreTimeFaults, written_order}
 
 -- if the hero is to win and the opponent moves, a position with this value holds exactly if the side to move is mated
 abbrev pub WonPositionsHold : Type 0

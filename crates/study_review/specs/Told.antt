@@ -9,16 +9,16 @@ use Rattle.study_marks.specs.declared.mark_rules.Aim.{Aim}
 use Rattle.study_marks.specs.Annotated.{AreValuesAfter}
 use Rattle.study_marks.specs.Goals.{holds}
 use Rattle.study_marks.specs.Study.{Study}
-use Rattle.study_review.specs.declared.continuation.Continuation.{Continuation}
-use Rattle.study_review.specs.declared.time.Alternative.{Alternative}
-use Rattle.study_review.specs.declared.missing.Defence.{Defence}
+use Rattle.study_facts.specs.declared.continuation.Continuation.{Continuation}
+use Rattle.study_facts.specs.declared.time.Alternative.{Alternative}
+use Rattle.study_facts.specs.declared.missing.Defence.{Defence}
 use Rattle.study_review.specs.declared.answers.Answers.{Answers}
-use Rattle.study_review.specs.Nodes.{RefutedLines, MissingLines, EndLines}
-use Rattle.study_review.specs.Zugzwang.{ZugzwangLines}
-use Rattle.study_review.specs.Continuations.{chosen, is_among, is_draw, AreChosen}
-use Rattle.study_review.specs.Time.{AreTimed}
-use Rattle.study_review.specs.Defences.{the_only, AreAnswered}
-use Rattle.study_review.specs.Words.{also_line, missing_line, times_lost}
+use Rattle.study_facts.specs.Nodes.{RefutedLines, MissingLines, EndLines}
+use Rattle.study_facts.specs.Zugzwang.{ZugzwangLines}
+use Rattle.study_facts.specs.Continuations.{chosen, is_among, is_draw, AreChosen}
+use Rattle.study_facts.specs.Time.{AreTimed}
+use Rattle.study_facts.specs.Defences.{the_only, AreAnswered}
+use Rattle.study_facts.specs.Words.{also_line, missing_line, times_lost}
 
 -- these moves were added, with the values after them
 abbrev pub AreTold : Position → List Move → List Continuation → List Continuation → Type 0

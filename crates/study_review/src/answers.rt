@@ -2,21 +2,18 @@
 ghost use Rattle.std.specs.Prelude.{◌≡◌, ◌+◌, ◌++◌, ◌≤◌, ◌<◌, ◌^◌, ◌==◌, if◌then◌else◌, true, length, Some, None, OnOk, IfOk, IfSome};
 ghost use Rattle.std.specs.List.{All};
 ghost use Rattle.study_moves.specs.Rules.{is_legal, after};
-ghost use Rattle.study_review.specs.Asked.{within};
-ghost use Rattle.study_review.specs.declared.missing.Defence.{Defence as ADefence};
+ghost use Rattle.study_facts.specs.Asked.{within};
+ghost use Rattle.study_facts.specs.declared.missing.Defence.{Defence as ADefence};
 ghost use Rattle.study_marks.specs.Goals.{holds};
-ghost use Rattle.study_review.specs.Defences.{IsAnswered};
-ghost use Rattle.study_review.specs.Made.{Grew, HasAsked};
+ghost use Rattle.study_facts.specs.Defences.{IsAnswered};
+ghost use Rattle.study_facts.specs.Made.{Grew, HasAsked};
 ghost use Rattle.study_review.specs.Told.{AreAnswers, AreMissingLines};
-ghost use Rattle.study_review.specs.Words.{missing_line};
+ghost use Rattle.study_facts.specs.Words.{missing_line};
 
-use crate::beside::is_among;
-use crate::continuation::{Continuation, Node};
-use crate::fault::NotMade;
-use crate::missing::Defence;
+use crate::lines::add_missing_line;
 use crate::told::ask;
-use crate::words::add_missing_line;
 use std::alloc::Allocator;
+use study_facts::{Continuation, Defence, Node, NotMade, is_among};
 use study_marks::holds;
 use study_moves::{MAX_MOVES, Move, legal_moves, played};
 use study_text::Text;

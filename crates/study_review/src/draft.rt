@@ -1,8 +1,8 @@
 //! The parts of a review before it is whole.
 
-use crate::continuation::Continuation;
 use std::alloc::Allocator;
 use study_board::Position;
+use study_facts::Continuation;
 use study_text::Text;
 
 /// The lines of the faults, the number of faults that lose time alone, the lines of the nodes, and the buffer of evaluated moves.

@@ -3,20 +3,18 @@ ghost use Rattle.std.specs.Prelude.{◌≡◌, ◌<◌, ◌^◌, true, length, O
 ghost use Rattle.std.specs.List.{All};
 ghost use Rattle.study_moves.specs.Rules.{is_legal};
 ghost use Rattle.study_moves.specs.LegalList.{legal_list};
-ghost use Rattle.study_review.specs.Asked.{within};
-ghost use Rattle.study_review.specs.Best.{first_best, IsBestPlay};
-ghost use Rattle.study_review.specs.Continuations.{AreChosen};
-ghost use Rattle.study_review.specs.Made.{Grew, HasAsked};
-ghost use Rattle.study_review.specs.Nodes.{IsEnd, IsPlay};
-ghost use Rattle.study_review.specs.Play.{ArePlayed};
+ghost use Rattle.study_facts.specs.Asked.{within};
+ghost use Rattle.study_facts.specs.Best.{first_best, IsBestPlay};
+ghost use Rattle.study_facts.specs.Continuations.{AreChosen};
+ghost use Rattle.study_facts.specs.Made.{Grew, HasAsked};
+ghost use Rattle.study_facts.specs.Nodes.{IsEnd, IsPlay};
+ghost use Rattle.study_facts.specs.Play.{ArePlayed};
 
-use crate::best::{better_of, play_on};
-use crate::continuation::Continuation;
-use crate::fault::NotMade;
-use crate::words::{add_keep, add_play};
+use crate::lines::{add_keep, add_play};
 use arrayvec::ArrayVec;
 use std::alloc::Allocator;
 use study_board::Position;
+use study_facts::{Continuation, NotMade, better_of, play_on};
 use study_moves::played;
 use study_text::Text;
 use study_values::{Value, Values};

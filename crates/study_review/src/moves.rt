@@ -4,24 +4,21 @@ ghost use Rattle.std.specs.List.{All};
 ghost use Rattle.study_moves.specs.Rules.{is_legal};
 ghost use Rattle.study_marks.specs.BenchState.{marked};
 ghost use Rattle.study_marks.specs.Goals.{holds};
-ghost use Rattle.study_review.specs.Asked.{within};
-ghost use Rattle.study_review.specs.Continuations.{is_among};
-ghost use Rattle.study_review.specs.Made.{Grew, Rose, HasAsked};
-ghost use Rattle.study_review.specs.Nodes.{AlsoLines, FaultLines, is_solution_move, mark_at, value_at};
+ghost use Rattle.study_facts.specs.Asked.{within};
+ghost use Rattle.study_facts.specs.Continuations.{is_among};
+ghost use Rattle.study_facts.specs.Made.{Grew, Rose, HasAsked};
+ghost use Rattle.study_facts.specs.Nodes.{AlsoLines, FaultLines, is_solution_move, mark_at, value_at};
 ghost use Rattle.study_review.specs.Told.{AreAlsoLines, besides};
-ghost use Rattle.study_review.specs.Stand.{IsStep};
-ghost use Rattle.study_review.specs.TimeFaults.{IsTimeFault};
-ghost use Rattle.study_review.specs.Words.{dual_line};
+ghost use Rattle.study_facts.specs.Stand.{IsStep};
+ghost use Rattle.study_facts.specs.TimeFaults.{IsTimeFault};
+ghost use Rattle.study_facts.specs.Words.{dual_line};
 
-use crate::beside::is_among;
-use crate::continuation::{Continuation, Node};
 use crate::draft::Draft;
-use crate::fault::NotMade;
-use crate::time::{Alternative, time_told};
+use crate::lines::{add_also_line, add_dual, add_mistake};
 use crate::told::ask_moves;
-use crate::words::{add_also_line, add_dual, add_mistake};
 use std::alloc::{AllocError, Allocator};
 use study_board::Position;
+use study_facts::{Alternative, Continuation, Node, NotMade, count_where, is_among, time_told};
 use study_marks::{Bench, Mark, MoveMark, holds};
 use study_moves::{Move, played};
 use study_text::Text;
@@ -147,13 +144,6 @@ fn loses_time_alone(listed: bool, others: u16, time: u16) -> bool
     ensures { result ≡ (listed && (time == others)) }
 {
     listed && time == others
-}
-
-/// The count plus one if the test is true; it stays at the last value of its type.
-pub fn count_where(count: u32, so: bool) -> u32
-    ensures { count + (if so then 1 else 0) < 2 ^ 32 → result ≡ count + (if so then 1 else 0) }
-{
-    if so { count.saturating_add(1) } else { count }
 }
 
 /// A line for each alternative of a dual with so many others, and the line of the dual, if it is listed.

@@ -8,26 +8,23 @@ ghost use Rattle.study_tree.specs.Edits.{width};
 ghost use Rattle.study_marks.specs.BenchState.{marked};
 ghost use Rattle.study_marks.specs.Goals.{aim_of, hero_moves, holds};
 ghost use Rattle.study_marks.specs.FaultSums.{below_at};
-ghost use Rattle.study_review.specs.Asked.{within};
-ghost use Rattle.study_review.specs.Continuations.{AreChosen};
-ghost use Rattle.study_review.specs.Faults.{in_solution};
-ghost use Rattle.study_review.specs.Made.{Grew, HasAsked};
-ghost use Rattle.study_review.specs.Nodes.{RefutedLines, MissingLines, EndLines, is_stalemate, refuted_text, is_try, value_at};
-ghost use Rattle.study_review.specs.Stand.{IsNodeAt};
+ghost use Rattle.study_facts.specs.Asked.{within};
+ghost use Rattle.study_facts.specs.Continuations.{AreChosen};
+ghost use Rattle.study_facts.specs.Faults.{in_solution};
+ghost use Rattle.study_facts.specs.Made.{Grew, HasAsked};
+ghost use Rattle.study_facts.specs.Nodes.{RefutedLines, MissingLines, EndLines, is_stalemate, refuted_text, is_try, value_at};
+ghost use Rattle.study_facts.specs.Stand.{IsNodeAt};
 ghost use Rattle.study_review.specs.Told.{OwnLines, HereLines, failing};
-ghost use Rattle.study_review.specs.Zugzwang.{IsZugzwangOf, zugzwang_line};
-ghost use Rattle.study_review.specs.declared.zugzwang.Zugzwang.{Zugzwang as AZugzwang};
+ghost use Rattle.study_facts.specs.Zugzwang.{IsZugzwangOf, zugzwang_line};
+ghost use Rattle.study_facts.specs.declared.zugzwang.Zugzwang.{Zugzwang as AZugzwang};
 
 use crate::answers::add_defences;
-use crate::children::children_in;
-use crate::continuation::{Continuation, Node};
 use crate::ends::add_continued;
-use crate::fault::NotMade;
+use crate::lines::{add_refuted_lines, add_stalemate};
 use crate::told::ask_moves;
-use crate::words::{add_refuted_lines, add_stalemate};
-use crate::zugzwang::{add_zugzwang_line, zugzwang_at};
 use std::alloc::{AllocError, Allocator};
 use study_board::Position;
+use study_facts::{Continuation, Node, NotMade, add_zugzwang_line, children_in, zugzwang_at};
 use study_marks::{Bench, hero_moves, holds};
 use study_moves::in_check;
 use study_text::Text;
@@ -44,7 +41,7 @@ pub struct Here<'n> {
     pub tried: bool,
 }
 
-#[tactic(auto, unfolding(crate::specs::Nodes::is_stalemate))]
+#[tactic(auto, unfolding(study_facts::specs::Nodes::is_stalemate))]
 fn is_stalemate(q: &Position, told: &[Continuation]) -> bool
     requires { length told.now ≡ length (legal_list q.now) }
     ensures { result ≡ is_stalemate q.now }

@@ -5,15 +5,14 @@ ghost use Rattle.study_moves.specs.Rules.{is_legal, after};
 ghost use Rattle.study_moves.specs.LegalList.{legal_list};
 ghost use Rattle.study_values.specs.Game.{IsValueOf};
 ghost use Rattle.study_values.specs.declared.value.Value.{Value as AValue};
-ghost use Rattle.study_review.specs.Asked.{within};
-ghost use Rattle.study_review.specs.Continuations.{AreChosen};
-ghost use Rattle.study_review.specs.Made.{HasAsked};
+ghost use Rattle.study_facts.specs.Asked.{within};
+ghost use Rattle.study_facts.specs.Continuations.{AreChosen};
+ghost use Rattle.study_facts.specs.Made.{HasAsked};
 ghost use Rattle.study_review.specs.Told.{AreTold};
 
-use crate::continuation::Continuation;
-use crate::fault::NotMade;
 use std::alloc::Allocator;
 use study_board::Position;
+use study_facts::{Continuation, NotMade};
 use study_moves::{MAX_MOVES, Move, legal_moves, played};
 use study_values::{Value, Values};
 

@@ -1,40 +1,28 @@
 //! One walk of a study, in written order: facts of a node are passed on to the nodes below it.
 ghost use Rattle.std.specs.Prelude.{◌≡◌, ◌++◌, ◌∷◌, [], ◌<◌, length, Some, OnOk, IfOk, IfErr};
-ghost use Rattle.study_tree.specs.Edits.{width};
 ghost use Rattle.study_tree.specs.Tree.{spot_at};
 ghost use Rattle.study_marks.specs.Goals.{aim_of};
 ghost use Rattle.study_marks.specs.BenchState.{marked};
 ghost use Rattle.study_marks.specs.FaultSums.{below_at};
-ghost use Rattle.study_review.specs.Asked.{within};
-ghost use Rattle.study_review.specs.Line.{line_to};
-ghost use Rattle.study_review.specs.Made.{Grew, Rose, HasAsked};
-ghost use Rattle.study_review.specs.Nodes.{front_of, NodeLines, FaultLines};
-ghost use Rattle.study_review.specs.Review.{paths_from, LinesOfEach, SumOfEach, AreTimeFaults, written_order};
-ghost use Rattle.study_review.specs.Stand.{arrival_of, IsStand};
-ghost use Rattle.study_review.specs.TimeFaults.{IsTimeFault};
+ghost use Rattle.study_facts.specs.Asked.{within};
+ghost use Rattle.study_facts.specs.Line.{line_to};
+ghost use Rattle.study_facts.specs.Made.{Grew, Rose, HasAsked};
+ghost use Rattle.study_facts.specs.Nodes.{front_of, NodeLines, FaultLines};
+ghost use Rattle.study_facts.specs.Order.{paths_from, LinesOfEach, SumOfEach, AreTimeFaults, written_order};
+ghost use Rattle.study_facts.specs.Stand.{arrival_of, IsStand};
+ghost use Rattle.study_facts.specs.TimeFaults.{IsTimeFault};
 
-use crate::continuation::Node;
 use crate::draft::{Draft, Trail};
-use crate::fault::NotMade;
 use crate::moves::{Step, add_move};
 use crate::nodes::{Here, add_here};
-use crate::signs::{aim_in, is_solution_move, is_try};
-use crate::stand::{Arrival, Stand, arrival_at, root_stand, stand_after};
 use std::alloc::Allocator;
 use study_board::Position;
+use study_facts::{
+    Arrival, Node, NotMade, Stand, aim_in, arrival_at, count_at, is_solution_move, is_try,
+    root_stand, stand_after,
+};
 use study_marks::{Aim, Bench, Mark, hero_moves};
 use study_values::Values;
-
-/// The number of children of the node, 0 if there is no such node.
-#[inline(never)]
-pub fn count_at<'b, B: Allocator>(bench: &Bench<'b, B>, steps: &[u16]) -> u16
-    ensures { result ≡ width (below_at (marked bench.now).tree.below steps.now) }
-{
-    match bench.shown(steps) {
-        None => 0,
-        Some(node) => node.children,
-    }
-}
 
 /// The line of the fault of a move, and all other lines of the node that it leads to.
 fn add_lines<'a, 'b, A: Allocator, B: Allocator, V: Values>(

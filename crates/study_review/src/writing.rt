@@ -1,28 +1,23 @@
 //! The review of a study, and writing it.
-ghost use Rattle.std.specs.Prelude.{◌≡◌, ◌++◌, ◌≤◌, List, ℕ, OnOk, IfOk, IfErr, Ok, Err};
+ghost use Rattle.std.specs.Prelude.{◌≡◌, ◌++◌, List, ℕ, OnOk, IfOk, IfErr, Ok, Err};
 ghost use Rattle.std.specs.Io.KnownBytes.{Appends};
 ghost use Rattle.study_text.specs.Taken.{TakesPrefix};
-ghost use Rattle.study_tree.specs.Edits.{width};
-ghost use Rattle.study_marks.specs.Goals.{aim_of};
 ghost use Rattle.study_marks.specs.BenchState.{marked, IsKeptRight};
 ghost use Rattle.study_marks.specs.Study.{Study, plain_study};
 ghost use Rattle.study_marks.specs.Verdict.{verdict};
 ghost use Rattle.study_marks.specs.declared.mark.Mark.{Mark as AMark};
 ghost use Rattle.study_values.specs.declared.values.ProbeFault.{ProbeFault as AProbeFault};
-ghost use Rattle.study_marks.specs.FaultSums.{skipped};
-ghost use Rattle.study_review.specs.Asked.{within};
-ghost use Rattle.study_review.specs.Made.{HasAsked};
-ghost use Rattle.study_review.specs.Review.{study_line, stipulation_line, empty_line, is_empty, none_below, waste_line, waste_words};
-ghost use Rattle.study_review.specs.Review.{IsReview, IsReviewOf, BeginsReview, HasReviewed};
+ghost use Rattle.study_facts.specs.Asked.{within};
+ghost use Rattle.study_facts.specs.Made.{HasAsked};
+ghost use Rattle.study_review.specs.Review.{study_line, stipulation_line, empty_line, waste_line, waste_words, IsReview, IsReviewOf, BeginsReview};
+ghost use Rattle.study_facts.specs.Order.{is_empty, HasReviewed};
 
 use crate::draft::Draft;
-use crate::fault::{NotMade, ReviewFault};
-use crate::signs::aim_in;
-use crate::walk::{add_all, count_at};
-use crate::words::add_time_verdict;
+use crate::walk::add_all;
 use std::alloc::{AllocError, Allocator};
 use std::io::Write;
 use study_board::Side;
+use study_facts::{NotMade, ReviewFault, add_time_verdict, aim_in, is_empty};
 use study_marks::{Bench, Mark, Stipulation, hero_moves};
 use study_notation::write_fen;
 use study_pgn::{add_opening_words, is_right, root_mark};
@@ -64,31 +59,6 @@ pub fn add_stipulation_line<'b, A: Allocator, B: Allocator>(
         root,
     )?;
     text.add(b"\n")
-}
-
-/// Whether no child of the root from a place on has a child.
-fn none_below<'b, B: Allocator>(bench: &Bench<'b, B>, place: u16, count: u16) -> bool
-    requires within { place ≤ count }
-    requires all { count ≡ width (marked bench.now).tree.below }
-    ensures { result ≡ none_below (skipped place (marked bench.now).tree.below) }
-{
-    if place >= count {
-        return true;
-    }
-    count_at(bench, &[place]) == 0 && none_below(bench, place + 1, count)
-}
-
-/// Whether the solution has no move of the hero.
-pub fn is_empty<'b, B: Allocator>(bench: &Bench<'b, B>) -> bool
-    ensures { result ≡ is_empty (aim_of (marked bench.now)).hero_first (marked bench.now).tree.below }
-{
-    let aim = aim_in(bench);
-    let count = count_at(bench, &[]);
-    if hero_moves(&aim, 0) {
-        count == 0
-    } else {
-        none_below(bench, 0, count)
-    }
 }
 
 fn add_empty<'b, A: Allocator, B: Allocator>(

@@ -13,16 +13,15 @@ use Rattle.study_values.specs.declared.values.ProbeFault.TheVariants as probe
 use Rattle.study_marks.specs.Answers.{Answers, WereTold, IsFirstFault}
 use Rattle.study_marks.proofs.FaultsTold.{told-append}
 use Rattle.study_marks.specs.Told.{IsUntold, failures_told}
-use Rattle.study_review.specs.Continuations.{others}
+use Rattle.study_facts.specs.Continuations.{others}
 use Rattle.study_text.specs.Counts.{counted}
 use Rattle.study_material.specs.Class.{IsOf}
-use Rattle.study_review.proofs.Asking.{of-told, of-fault, all-then, stops-then, none-asked}
-use Rattle.study_review.proofs.AskedSteps.{asked-one}
-use Rattle.study_review.proofs.NotHeld.{untold-of}
+use Rattle.study_facts.proofs.Asking.{of-told, of-fault, all-then, stops-then, none-asked}
+use Rattle.study_facts.proofs.AskedSteps.{asked-one}
+use Rattle.study_facts.proofs.NotHeld.{untold-of}
 use Rattle.study_view.specs.Asked.{EachTold, StoppedAt, HasToldEach, HasToldSome, HasWalked, HasViewed}
-use Rattle.study_review.specs.Asked.{AllTold, Stopped, within}
-use Rattle.study_review.proofs.Within.{LeadsTo, EachReached, all-wider, stops-wider}
-use Rattle.study_review.proofs.Within.{some-told as told-within, some-fault as fault-within}
+use Rattle.study_facts.specs.Asked.{AllTold, Stopped, within}
+use Rattle.study_facts.proofs.Within.{LeadsTo, EachReached, all-wider, stops-wider, some-told as told-within, some-fault as fault-within}
 use Rattle.study_view.specs.declared.fault.ViewFault.{ViewFault}
 use Rattle.study_view.specs.declared.fault.ViewFault.TheVariants.{NoSuchNode, OutOfMemory, Device, Values}
 

@@ -18,9 +18,9 @@ use Rattle.study_marks.specs.Goals.{aim_of, hero_moves, holds}
 use Rattle.study_marks.specs.Marks.{mark_of, move_mark, own_faults}
 use Rattle.study_marks.specs.Study.{Study, position_at}
 use Rattle.study_marks.specs.Trial.{IsMarkOf}
-use Rattle.study_review.specs.declared.continuation.Continuation.{Continuation}
-use Rattle.study_review.specs.Continuations.{chosen, AreChosen}
-use Rattle.study_review.specs.Nodes.{value_of_spot, value_at}
+use Rattle.study_facts.specs.declared.continuation.Continuation.{Continuation}
+use Rattle.study_facts.specs.Continuations.{chosen, AreChosen}
+use Rattle.study_facts.specs.Nodes.{value_of_spot, value_at}
 use Rattle.study_view.specs.Marking.{holding_count, told_line}
 use Rattle.study_view.specs.View.{start_to, AreMoveLines}
 

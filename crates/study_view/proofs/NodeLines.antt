@@ -10,10 +10,10 @@ use Rattle.study_marks.specs.declared.mark.Mark.{Mark}
 use Rattle.study_marks.specs.FaultSums.{below_at}
 use Rattle.study_marks.specs.Study.{Study, position_at}
 use Rattle.study_board.specs.Position.{Position}
-use Rattle.study_review.specs.declared.zugzwang.Zugzwang.{Zugzwang}
-use Rattle.study_review.specs.Zugzwang.{IsZugzwangOf, zugzwang_line, ZugzwangLines}
-use Rattle.study_review.specs.Made.{Grew}
-use Rattle.study_review.specs.Review.{paths_from, LinesOfEach, written_order}
+use Rattle.study_facts.specs.declared.zugzwang.Zugzwang.{Zugzwang}
+use Rattle.study_facts.specs.Zugzwang.{IsZugzwangOf, zugzwang_line, ZugzwangLines}
+use Rattle.study_facts.specs.Made.{Grew}
+use Rattle.study_facts.specs.Order.{paths_from, LinesOfEach, written_order}
 use Rattle.study_view.specs.Nodes.{IsNodeLine}
 use Rattle.study_view.specs.View.{node_line}
 

@@ -12,7 +12,7 @@ use Rattle.study_marks.specs.declared.mark_rules.Aim.{Aim}
 use Rattle.study_marks.specs.declared.stipulation.Stipulation.{Stipulation}
 use Rattle.study_marks.specs.Goals.{holds}
 use Rattle.study_marks.proofs.OneAnnotation.{one-value, one-list}
-use Rattle.study_review.specs.Continuations.{chosen}
+use Rattle.study_facts.specs.Continuations.{chosen}
 use Rattle.study_view.specs.declared.squares.Standing.{Standing}
 use Rattle.study_view.specs.declared.squares.Standing.TheVariants.{Impossible, Fails, Holds}
 use Rattle.study_view.specs.declared.squares.Stood.{Stood}

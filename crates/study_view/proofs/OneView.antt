@@ -18,9 +18,10 @@ use Rattle.study_marks.specs.Study.{Study, position_at}
 use Rattle.study_marks.specs.Trial.{IsMarkOf}
 use Rattle.study_marks.proofs.OneAnnotation.{one-value, one-list}
 use Rattle.study_marks.proofs.PathRenewed.{spot-there}
-use Rattle.study_review.specs.Review.{stipulation_line, written_order}
-use Rattle.study_review.specs.Zugzwang.{ZugzwangLines}
-use Rattle.study_review.proofs.OneReview.{one-each, zugzwang-once}
+use Rattle.study_review.specs.Review.{stipulation_line}
+use Rattle.study_facts.specs.Order.{written_order}
+use Rattle.study_facts.specs.Zugzwang.{ZugzwangLines}
+use Rattle.study_facts.proofs.OneFacts.{one-each, zugzwang-once}
 use Rattle.study_view.specs.Words.{study_line, at_line, move_line}
 use Rattle.study_view.specs.View.{start_to, node_line, AreMoveLines, ViewsAreUnique}
 

@@ -1,7 +1,7 @@
 -- Squares one by one, and the result for each.
 use Rattle.std.proofs.Common.{◌≡◌, ℕ, ◌+◌, ◌-◌, ◌<◌, ◌≤◌, ◌==◌, suc, Bool, true, false, not, List, [], ◌∷◌, ◌++◌, Option, Some, None, Result, Ok, Err, OnOk, cond, arith, refl, sym, ap, subst, ◌∙◌, append_assoc}
 use Rattle.std.specs.Prelude.{MatchOption, IsSome}
-use Rattle.std.specs.List.{filter, range_with_len}
+use Rattle.std.specs.List.{filter, range_with_len, All}
 use Rattle.std.proofs.lemmas.List.{append-nil}
 use Rattle.std.proofs.lemmas.Bool.{ne_eqb, eq-eqb}
 use Rattle.study_board.specs.Position.{Position, IsValid, in_order}
@@ -10,20 +10,18 @@ use Rattle.study_board.specs.declared.men.Side.{Side}
 use Rattle.study_board.specs.declared.men.Side.TheVariants.{White, Black}
 use Rattle.study_board.specs.Men.{same_side}
 use Rattle.study_board.proofs.MenInOrder.{IsPermutation-in_order}
-use Rattle.study_material.specs.Lists.{lists, kinds_of, put_kind, ordered, of, is_other_than_king}
-use Rattle.study_material.specs.Lists.{Lists}
+use Rattle.study_material.specs.Lists.{lists, kinds_of, put_kind, ordered, of, is_other_than_king, Lists}
 use Rattle.study_material.proofs.KindCounts.{lists-IsPermutation}
-use Rattle.study_review.proofs.Within.{LeadsTo, needs-own}
+use Rattle.study_facts.proofs.Within.{LeadsTo, needs-own}
 use Rattle.study_board.specs.declared.fault.PositionFault.{PositionFault}
 use Rattle.study_marks.specs.declared.stipulation.Stipulation.{Stipulation}
 use Rattle.study_view.specs.declared.squares.Standing.{Standing}
 use Rattle.study_view.specs.declared.squares.Standing.TheVariants.{Impossible}
 use Rattle.study_view.specs.declared.squares.Stood.{Stood}
-use Rattle.std.specs.List.{All}
 use Rattle.study_moves.specs.Rules.{is_legal}
 use Rattle.study_values.specs.declared.value.Value.{Value}
-use Rattle.study_review.specs.declared.continuation.Continuation.{Continuation}
-use Rattle.study_review.proofs.Chosen.{all-first}
+use Rattle.study_facts.specs.declared.continuation.Continuation.{Continuation}
+use Rattle.study_facts.proofs.Chosen.{all-first}
 use Rattle.study_view.specs.Shown.{IsPlayedIn}
 use Rattle.study_view.specs.Survey.{moved_man, moved_men, by_moves, stood, stood_fault, squares_but, IsStanding, IsTold, AreStandings}
 

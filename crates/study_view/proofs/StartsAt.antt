@@ -8,16 +8,14 @@ use Rattle.study_moves.specs.declared.moves.Move.{Move}
 use Rattle.study_moves.specs.Rules.{is_legal, after}
 use Rattle.study_notation.specs.declared.start.Start.{Start}
 use Rattle.study_notation.specs.Played.{start_after}
-use Rattle.study_tree.specs.Tree.{Plain, Spot, spot_at}
+use Rattle.study_tree.specs.Tree.{Plain, Spot, spot_at, has_spot}
 use Rattle.study_marks.specs.declared.mark.Mark.{Mark}
-use Rattle.study_marks.specs.Bench.{played_by}
+use Rattle.study_marks.specs.Bench.{played_by, start_at}
 use Rattle.study_marks.specs.Study.{Study, moves_to, position_after, position_at, start_along, IsPlayable}
-use Rattle.study_tree.specs.Tree.{has_spot}
-use Rattle.study_marks.specs.Bench.{start_at}
 use Rattle.study_marks.proofs.PathRenewed.{there-spot}
 use Rattle.study_marks.proofs.MovesToNode.{start-legal-last}
-use Rattle.study_review.specs.Nodes.{front_of}
-use Rattle.study_review.proofs.NodesShown.{front-is}
+use Rattle.study_facts.specs.Nodes.{front_of}
+use Rattle.study_facts.proofs.NodesShown.{front-is}
 use Rattle.study_view.specs.Words.{node_words}
 use Rattle.study_view.specs.View.{start_to, node_line}
 

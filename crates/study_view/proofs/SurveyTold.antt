@@ -27,8 +27,8 @@ use Rattle.study_marks.specs.declared.mark_rules.Aim.{Aim}
 use Rattle.study_marks.specs.Goals.{holds}
 use Rattle.study_marks.specs.Annotated.{AreValuesAfter}
 use Rattle.study_marks.proofs.OneAnnotation.{one-value}
-use Rattle.study_review.specs.declared.continuation.Continuation.{Continuation}
-use Rattle.study_review.specs.Continuations.{chosen, AreHoldingMoves}
+use Rattle.study_facts.specs.declared.continuation.Continuation.{Continuation}
+use Rattle.study_facts.specs.Continuations.{chosen, AreHoldingMoves}
 use Rattle.study_view.specs.declared.squares.Standing.{Standing}
 use Rattle.study_view.specs.declared.squares.Standing.TheVariants.{Impossible, Fails, Holds, HoldsBy, Only}
 use Rattle.study_view.specs.declared.squares.Stood.{Stood}

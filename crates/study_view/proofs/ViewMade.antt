@@ -10,11 +10,12 @@ use Rattle.study_marks.specs.declared.mark.Mark.{Mark}
 use Rattle.study_marks.specs.declared.mark_rules.Aim.{Aim}
 use Rattle.study_marks.specs.Goals.{aim_of}
 use Rattle.study_marks.specs.Study.{Study, position_at}
-use Rattle.study_review.specs.declared.continuation.Continuation.{Continuation}
-use Rattle.study_review.specs.Continuations.{AreChosen, each_after}
-use Rattle.study_review.specs.Nodes.{value_at}
-use Rattle.study_review.specs.Review.{stipulation_line, LinesOfEach, written_order}
-use Rattle.study_review.specs.Zugzwang.{ZugzwangLines}
+use Rattle.study_facts.specs.declared.continuation.Continuation.{Continuation}
+use Rattle.study_facts.specs.Continuations.{AreChosen, each_after}
+use Rattle.study_facts.specs.Nodes.{value_at}
+use Rattle.study_review.specs.Review.{stipulation_line}
+use Rattle.study_facts.specs.Order.{LinesOfEach, written_order}
+use Rattle.study_facts.specs.Zugzwang.{ZugzwangLines}
 use Rattle.study_view.specs.Marking.{holding_count, told_line}
 use Rattle.study_view.specs.View.{start_to, node_line, IsView, asked_at}
 use Rattle.study_view.specs.Words.{study_line, at_line}

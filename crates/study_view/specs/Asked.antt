@@ -6,7 +6,7 @@ use Rattle.study_values.specs.declared.fault.SourceFault.{SourceFault}
 use Rattle.study_values.specs.Values.{ProbeAnswer}
 use Rattle.study_values.specs.declared.values.ProbeFault.{ProbeFault}
 use Rattle.study_marks.specs.Answers.{WereTold, IsFirstFault}
-use Rattle.study_review.specs.Asked.{AllTold, Stopped, within}
+use Rattle.study_facts.specs.Asked.{AllTold, Stopped, within}
 use Rattle.study_view.specs.declared.fault.ViewFault.{ViewFault}
 use Rattle.study_view.specs.declared.fault.ViewFault.TheVariants.{NoSuchNode, OutOfMemory, Device, Values}
 use Rattle.study_view.specs.declared.fault.SurveyFault.{SurveyFault}

@@ -5,7 +5,7 @@ use Rattle.study_values.specs.declared.value.Value.{Value}
 use Rattle.study_marks.specs.declared.mark_rules.Aim.{Aim}
 use Rattle.study_marks.specs.Goals.{hero_moves, holds}
 use Rattle.study_marks.specs.Marks.{mark_of}
-use Rattle.study_review.specs.declared.continuation.Continuation.{Continuation}
+use Rattle.study_facts.specs.declared.continuation.Continuation.{Continuation}
 use Rattle.study_view.specs.Words.{move_line}
 
 -- the number of these moves from depth d that hold

@@ -15,9 +15,9 @@ use Rattle.study_marks.specs.declared.mark_rules.Aim.{Aim}
 use Rattle.study_marks.specs.declared.stipulation.Stipulation.{Stipulation}
 use Rattle.study_marks.specs.Goals.{holds}
 use Rattle.study_pgn.specs.Pgn.{stipulation_text}
-use Rattle.study_review.specs.Words.{value_words}
-use Rattle.study_review.specs.declared.continuation.Continuation.{Continuation}
-use Rattle.study_review.specs.Continuations.{AreHoldingMoves}
+use Rattle.study_facts.specs.Words.{value_words}
+use Rattle.study_facts.specs.declared.continuation.Continuation.{Continuation}
+use Rattle.study_facts.specs.Continuations.{AreHoldingMoves}
 use Rattle.study_view.specs.declared.squares.Standing.{Standing}
 use Rattle.study_view.specs.declared.squares.Standing.TheVariants.{Impossible, Fails, Holds, HoldsBy, Only}
 use Rattle.study_view.specs.declared.squares.Stood.{Stood}

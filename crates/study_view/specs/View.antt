@@ -11,10 +11,11 @@ use Rattle.study_marks.specs.declared.mark.Mark.{Mark}
 use Rattle.study_marks.specs.Study.{Study, moves_to, position_at, start_along, plain_study}
 use Rattle.study_marks.specs.Annotated.{IsAnnotated}
 use Rattle.study_marks.specs.Trial.{IsMarkOf}
-use Rattle.study_review.specs.Continuations.{each_after}
-use Rattle.study_review.specs.Nodes.{front_of}
-use Rattle.study_review.specs.Review.{stipulation_line, LinesOfEach, written_order}
-use Rattle.study_review.specs.Zugzwang.{ZugzwangLines}
+use Rattle.study_facts.specs.Continuations.{each_after}
+use Rattle.study_facts.specs.Nodes.{front_of}
+use Rattle.study_review.specs.Review.{stipulation_line}
+use Rattle.study_facts.specs.Order.{LinesOfEach, written_order}
+use Rattle.study_facts.specs.Zugzwang.{ZugzwangLines}
 use Rattle.study_view.specs.Words.{study_line, node_words, at_line, move_line}
 
 -- the start, with its counts, at the node of the path

@@ -14,7 +14,7 @@ use Rattle.study_tree.specs.Tree.{Spot}
 use Rattle.study_marks.specs.declared.mark.Mark.{Mark}
 use Rattle.study_marks.specs.declared.mark.MoveMark.{MoveMark}
 use Rattle.study_marks.specs.Marks.{on_move_text}
-use Rattle.study_review.specs.Words.{value_words, front_words}
+use Rattle.study_facts.specs.Words.{value_words, front_words}
 
 -- a small letter
 abbrev pub promoted_text : Option Kind → List ℕ

@@ -4,15 +4,15 @@ ghost use Rattle.std.specs.List.{All};
 ghost use Rattle.study_moves.specs.LegalList.{legal_list};
 ghost use Rattle.study_moves.specs.Rules.{is_legal};
 ghost use Rattle.study_values.specs.Game.{IsValueOf};
-ghost use Rattle.study_review.specs.Asked.{within};
-ghost use Rattle.study_review.specs.Continuations.{AreChosen, AreHoldingMoves, each_after};
+ghost use Rattle.study_facts.specs.Asked.{within};
+ghost use Rattle.study_facts.specs.Continuations.{AreChosen, AreHoldingMoves, each_after};
 ghost use Rattle.study_view.specs.Asked.{HasToldEach, HasToldSome};
 
 use arrayvec::ArrayVec;
 use study_board::Position;
+use study_facts::{Continuation, Node, holding_moves, missing_moves};
 use study_marks::Aim;
 use study_moves::MAX_MOVES;
-use study_review::{Continuation, Node, holding_moves, missing_moves};
 use study_values::{ProbeFault, Value, Values};
 
 /// All legal moves, with the values after them.

@@ -8,10 +8,10 @@ ghost use Rattle.study_view.specs.Marking.{holding_count, told_line};
 
 use crate::words::add_move;
 use std::alloc::{AllocError, Allocator};
+use study_facts::Continuation;
 use study_marks::{Aim, MoveMark, hero_moves, holds, only_or_dual};
 use study_moves::MAX_MOVES;
 use study_notation::Start;
-use study_review::Continuation;
 use study_text::Text;
 use study_values::Value;
 

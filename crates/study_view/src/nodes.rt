@@ -3,13 +3,13 @@ ghost use Rattle.std.specs.Prelude.{◌≡◌, ◌++◌, ◌∷◌, [], Option, 
 ghost use Rattle.study_tree.specs.Tree.{has_spot};
 ghost use Rattle.study_marks.specs.BenchState.{marked};
 ghost use Rattle.study_marks.specs.FaultSums.{below_at};
-ghost use Rattle.study_review.specs.Made.{Grew};
-ghost use Rattle.study_review.specs.Asked.{within};
-ghost use Rattle.study_review.specs.Nodes.{front_of};
-ghost use Rattle.study_review.specs.Zugzwang.{IsZugzwangOf, zugzwang_line, ZugzwangLines};
-ghost use Rattle.study_review.specs.declared.zugzwang.Zugzwang.{Zugzwang as AZugzwang};
+ghost use Rattle.study_facts.specs.Made.{Grew};
+ghost use Rattle.study_facts.specs.Asked.{within};
+ghost use Rattle.study_facts.specs.Nodes.{front_of};
+ghost use Rattle.study_facts.specs.Zugzwang.{IsZugzwangOf, zugzwang_line, ZugzwangLines};
+ghost use Rattle.study_facts.specs.declared.zugzwang.Zugzwang.{Zugzwang as AZugzwang};
 ghost use Rattle.study_view.specs.Asked.{HasWalked};
-ghost use Rattle.study_review.specs.Review.{paths_from, LinesOfEach};
+ghost use Rattle.study_facts.specs.Order.{paths_from, LinesOfEach};
 ghost use Rattle.study_view.specs.View.{start_to, node_line};
 ghost use Rattle.study_view.specs.Nodes.{IsNodeLine};
 
@@ -17,9 +17,9 @@ use crate::fault::ViewFault;
 use crate::words::add_node;
 use std::alloc::{AllocError, Allocator};
 use study_board::Position;
+use study_facts::{add_zugzwang_line, count_at, move_to, zugzwang_at};
 use study_marks::Bench;
 use study_notation::Start;
-use study_review::{add_zugzwang_line, count_at, move_to, zugzwang_at};
 use study_text::Text;
 use study_values::Values;
 

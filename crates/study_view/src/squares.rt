@@ -5,21 +5,20 @@ ghost use Rattle.arrayvec.specs.ArrayVec.{array_vec_len};
 ghost use Rattle.study_board.specs.Position.{man_at, IsValid};
 ghost use Rattle.study_marks.specs.Goals.{holds};
 ghost use Rattle.study_values.specs.declared.values.ProbeFault.{ProbeFault as AProbeFault};
-ghost use Rattle.study_review.specs.Asked.{within};
-ghost use Rattle.study_view.specs.Asked.{HasToldSome};
+ghost use Rattle.study_facts.specs.Asked.{within};
+ghost use Rattle.study_view.specs.Asked.{HasToldSome, HasSurveyed};
 ghost use Rattle.study_view.specs.declared.squares.Stood.{Stood as AStood};
 ghost use Rattle.study_view.specs.Survey.{moved_man, moved_men, stood, stood_fault, by_moves, other_squares};
 ghost use Rattle.study_view.specs.Survey.{IsToldBy, IsTold, IsStanding, AreStandings, squares_but};
-ghost use Rattle.study_view.specs.Asked.{HasSurveyed};
 ghost use Rattle.study_view.specs.Shown.{IsPlayedIn, IsShown};
 
 use crate::asking::{ask_first_moves, ask_value};
 use crate::fault::SurveyFault;
 use arrayvec::ArrayVec;
 use study_board::{Man, Position, Square};
+use study_facts::Continuation;
 use study_marks::{Aim, Stipulation, aim_of, holds};
 use study_moves::{MAX_MOVES, Move};
-use study_review::Continuation;
 use study_values::{ProbeFault, Value, Values};
 
 /// The result for one square: not a valid position, or whether the stipulation holds, with the value, and, if the hero is to move, the number of

@@ -10,11 +10,11 @@ ghost use Rattle.study_view.specs.Words.{shown_words, node_words, count_words, a
 
 use std::alloc::{AllocError, Allocator};
 use study_board::{Kind, Position, Square};
+use study_facts::{add_counted, add_front, add_value};
 use study_marks::{Mark, MoveMark, Shown};
 use study_moves::{Move, in_check, legal_moves};
 use study_notation::{Start, write_fen};
 use study_pgn::add_san;
-use study_review::{add_counted, add_front, add_value};
 use study_text::Text;
 use study_values::Value;
 

@@ -7,8 +7,8 @@ use Rattle.study_board.specs.Position.{Position, IsValid}
 use Rattle.study_material.specs.declared.class.Class.{Class}
 use Rattle.study_notation.specs.declared.start.Start.{Start}
 use Rattle.study_values.specs.declared.fault.SourceFault.{SourceFault}
-use Rattle.study_review.specs.Asked.{Stopped, within}
-use Rattle.study_review.proofs.Within.{missed-needed, unread-needed}
+use Rattle.study_facts.specs.Asked.{Stopped, within}
+use Rattle.study_facts.proofs.Within.{missed-needed, unread-needed}
 use Rattle.study_view.specs.declared.fault.SurveyFault.{SurveyFault}
 use Rattle.study_view.specs.declared.fault.SurveyFault.TheVariants as survey
 use Rattle.study_view.specs.declared.fault.ViewFault.{ViewFault}

@@ -8,7 +8,7 @@ use Rattle.study_command.specs.Lines.{script_lines}
 use Rattle.study_values.specs.declared.fault.SourceFault.{SourceFault}
 use Rattle.study_values.specs.Values.{ProbeAnswer}
 use Rattle.study_values.specs.declared.values.ProbeFault.{ProbeFault}
-use Rattle.study_review.specs.Asked.{Stopped, within}
+use Rattle.study_facts.specs.Asked.{Stopped, within}
 use Rattle.study_script.specs.declared.store.StoreFault.{StoreFault}
 use Rattle.study_script.specs.State.{Document, empty, start, study, Shelf, State, is_among}
 use Rattle.study_report.specs.Lines.{refusal_line, no_remark}

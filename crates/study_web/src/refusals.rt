@@ -2,9 +2,9 @@
 
 use std::alloc::Allocator;
 use std::io::Write;
+use study_facts::ReviewFault;
 use study_marks::Bench;
 use study_report::{Lines, NotTold, Report};
-use study_review::ReviewFault;
 use study_values::Values;
 
 /// Refused lines as `refused 7 NoTable KRK`; nothing is printed for studies.

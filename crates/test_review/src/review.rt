@@ -4,14 +4,14 @@ use arrayvec::ArrayVec;
 use std::alloc::Global;
 use std::process::Abort;
 use study_board::Position;
-use study_marks::Bench;
-use study_material::Class;
-use study_moves::{MAX_MOVES, is_legal, played};
-use study_review::{
+use study_facts::{
     Continuation, Defence, alternatives, best_play, children_in, defences, drawing_moves,
     holding_moves, is_in_solution, made_in, missing_moves, place_in, refutations,
     timed_alternatives,
 };
+use study_marks::Bench;
+use study_material::Class;
+use study_moves::{MAX_MOVES, is_legal, played};
 use study_values::{Value, Values};
 
 const WAITING: Moves = &[

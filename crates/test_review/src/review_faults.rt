@@ -2,11 +2,11 @@
 use crate::studies::{position_of, tables_of};
 use arrayvec::ArrayVec;
 use std::process::Abort;
+use study_facts::{Node, Place, best_play, defences, timed_alternatives};
 use study_marks::{Aim, Goal};
 use study_material::Class;
 use study_notation::read_san;
 use study_prober::FailingValues;
-use study_review::{Node, Place, best_play, defences, timed_alternatives};
 use study_values::{ProbeFault, SourceFault, Values};
 
 const WIN: Aim = Aim {

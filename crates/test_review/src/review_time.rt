@@ -3,10 +3,10 @@ use crate::studies::{position_of, tables_of};
 use std::alloc::Global;
 use std::process::Abort;
 use study_board::Position;
+use study_facts::{Continuation, Node, alternatives, best_move, is_back, time_lost};
 use study_marks::{Aim, Goal};
 use study_material::Class;
 use study_moves::{is_legal, played};
-use study_review::{Continuation, Node, alternatives, best_move, is_back, time_lost};
 use study_values::Values;
 
 /// The number of alternatives of a best move, and the numbers of those after which the position is back within 0, within 1 and within 2.

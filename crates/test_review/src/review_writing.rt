@@ -4,10 +4,11 @@ use linked_list_allocator::LocalHeap;
 use std::alloc::Global;
 use std::process::Abort;
 use std::test::Fail;
+use study_facts::ReviewFault;
 use study_marks::Bench;
 use study_material::Class;
 use study_prober::FailingValues;
-use study_review::{ReviewFault, write_review};
+use study_review::write_review;
 use study_text::{MemoryWriter, WhenFull};
 use study_values::{ProbeFault, SourceFault, Values};
 

@@ -4,9 +4,10 @@ use crate::studies::{Moves, position_of, study, tables_of, white};
 use std::alloc::Global;
 use std::process::Abort;
 use study_board::Side;
+use study_facts::{Zugzwang, zugzwang_at};
 use study_material::Class;
 use study_prober::{FailingValues, WholeTables};
-use study_review::{Zugzwang, write_review, zugzwang_at};
+use study_review::write_review;
 use study_text::MemoryWriter;
 use study_values::{ProbeFault, SourceFault, Values};
 

@@ -3,12 +3,12 @@ use Rattle.std.proofs.lemmas.Result.{on_ok_weaker}
 use Rattle.study_notation.specs.declared.start.Start.{Start}
 use Rattle.study_marks.specs.declared.mark.MoveMark.TheVariants as variant
 use Rattle.study_marks.specs.BenchState.{marked}
-use Rattle.study_review.specs.Made.{Grew}
-use Rattle.study_review.specs.Nodes.{OnlyWhere}
+use Rattle.study_facts.specs.Made.{Grew}
+use Rattle.study_facts.specs.Nodes.{OnlyWhere}
 use Rattle.study_page.specs.Rows.{IsFaultOf, IsCardOf}
-use Rattle.study_review.proofs.TimeCounted.{time-none, time-unplayed}
-use Rattle.study_review.proofs.Within.{leads-at}
-use Rattle.study_page.proofs.Asking.{asks-wider}
+use Rattle.study_facts.proofs.TimeCounted.{time-none, time-unplayed}
+use Rattle.study_facts.proofs.Within.{leads-at}
+use Rattle.study_facts.proofs.Within.{asks-wider}
 use Rattle.study_page.proofs.MadeRows.{fault-listed, time-listed, mistake-listed, fault-plain, fault-unplayed, card-made, no-card, nothing-grew}
 use Rattle.study_page.proofs.parts.add_move.Goals as goal
 

@@ -1,8 +1,8 @@
 use Rattle.study_marks.specs.BenchState.{marked}
-use Rattle.study_review.specs.Asked.{within}
-use Rattle.study_review.specs.Made.{Grew}
+use Rattle.study_facts.specs.Asked.{within}
+use Rattle.study_facts.specs.Made.{Grew}
 use Rattle.study_page.specs.Rows.{TryRows, ZugzwangRows, DefenceRows}
-use Rattle.study_page.proofs.Asking.{all-then, asks-then, same-asks}
+use Rattle.study_facts.proofs.Asking.{all-then, asks-then, same-asks}
 use Rattle.study_page.proofs.MadeRows.{on-ok}
 use Rattle.study_page.proofs.parts.add_position.Goals as goal
 

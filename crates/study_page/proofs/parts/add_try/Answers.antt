@@ -1,10 +1,10 @@
 use Rattle.std.proofs.Common.{map}
 use Rattle.study_moves.specs.Rules.{after}
 use Rattle.study_moves.specs.LegalList.{legal_list}
-use Rattle.study_review.proofs.Within.{each-legal, some-fault, some-told}
-use Rattle.study_review.proofs.NotHeld.{untold-of}
-use Rattle.study_review.specs.Asked.{within}
-use Rattle.study_page.proofs.Asking.{of-fault, of-told, no-memory}
+use Rattle.study_facts.proofs.Within.{each-legal, some-fault, some-told}
+use Rattle.study_facts.proofs.NotHeld.{untold-of}
+use Rattle.study_facts.specs.Asked.{within}
+use Rattle.study_facts.proofs.Asking.{of-fault, of-told, no-memory}
 use Rattle.study_page.proofs.parts.add_try.Goals as goal
 
 pub returns-in-Err-clause-asked : goal.returns-in-Err-clause-asked

@@ -1,6 +1,6 @@
 use Rattle.study_marks.specs.BenchState.{marked}
-use Rattle.study_review.specs.Asked.{within}
-use Rattle.study_page.proofs.Asking.{of-told, no-memory}
+use Rattle.study_facts.specs.Asked.{within}
+use Rattle.study_facts.proofs.Asking.{of-told, no-memory}
 use Rattle.study_page.proofs.MadeRows.{zugzwang-told}
 use Rattle.study_page.proofs.parts.add_zugzwang.Goals as goal
 

@@ -1,6 +1,6 @@
 use Rattle.std.proofs.Common.{◌≡◌, ◌++◌, take}
 use Rattle.std.specs.List.{flat_map}
-use Rattle.study_review.specs.Words.{move_words}
+use Rattle.study_facts.specs.Words.{move_words}
 use Rattle.study_page.proofs.rows.add_each_move.Given as goal
 
 abbrev pub invariant-loop-x : goal.invariant-loop-x

@@ -1,7 +1,7 @@
 use Rattle.std.proofs.Common.{List, ℕ, ◌++◌, ap, ◌∙◌, sym, append-nil}
 use Rattle.std.proofs.lemmas.Result.{on_ok_weaker}
 use Rattle.study_marks.specs.BenchState.{marked}
-use Rattle.study_page.specs.Words.{label}
+use Rattle.study_head.specs.Words.{label}
 use Rattle.study_page.proofs.KeyMade.{key_none, key_made}
 use Rattle.study_page.proofs.sheet.add_key.Goals as goal
 

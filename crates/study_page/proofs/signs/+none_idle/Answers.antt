@@ -1,7 +1,7 @@
 use Rattle.std.proofs.Common.{not, ◌&&◌, sym, ap, ◌∙◌}
 use Rattle.study_marks.specs.BenchState.{marked}
-use Rattle.study_review.specs.Nodes.{is_idle, mark_at}
-use Rattle.study_review.proofs.NodesShown.{idle-last}
+use Rattle.study_facts.specs.Nodes.{is_idle, mark_at}
+use Rattle.study_facts.proofs.NodesShown.{idle-last}
 use Rattle.study_page.proofs.signs.+none_idle.Goals as goal
 
 pub returns-then-none_idle : goal.returns-then-none_idle

@@ -1,4 +1,4 @@
-use Rattle.study_review.proofs.NodesShown.{front-is}
+use Rattle.study_facts.proofs.NodesShown.{front-is}
 use Rattle.study_page.proofs.signs.front_of.Goals as goal
 
 pub returns-in-Some : goal.returns-in-Some

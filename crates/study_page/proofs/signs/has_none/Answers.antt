@@ -2,8 +2,8 @@ use Rattle.std.proofs.Common.{sym}
 use Rattle.study_marks.specs.BenchState.{marked}
 use Rattle.study_marks.specs.Bench.{node_seen}
 use Rattle.study_marks.specs.FaultSums.{below_at}
-use Rattle.study_pgn.proofs.PathWalks.{width_none, width_some}
-use Rattle.study_review.proofs.NodesShown.{none-counted}
+use Rattle.study_marks.proofs.PathWalks.{width_none, width_some}
+use Rattle.study_facts.proofs.NodesShown.{none-counted}
 use Rattle.study_page.proofs.signs.has_none.Goals as goal
 
 pub returns-in-None : goal.returns-in-None

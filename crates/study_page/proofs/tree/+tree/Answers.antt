@@ -1,6 +1,6 @@
 use Rattle.std.proofs.Common.{ap, nat_lt, arith, ◌∙◌}
 use Rattle.study_marks.proofs.FirstIllegalMove.{no-child}
-use Rattle.study_pgn.proofs.PathWalks.{skip, fewer, playable_at}
+use Rattle.study_marks.proofs.PathWalks.{skip, fewer, playable_at}
 use Rattle.study_page.specs.Tree.{item_words}
 use Rattle.study_pgn.proofs.ChildSteps.{playable_below}
 use Rattle.study_page.proofs.TreeWritten.{no_tree, item_written, list_written, ply_written}

@@ -1,7 +1,7 @@
 use Rattle.std.proofs.Common.{◌≡◌, ◌++◌, ◌+◌, ◌*◌, ◌≤◌}
 use Rattle.study_marks.specs.Study.{IsPlayable}
 use Rattle.study_tree.specs.Forest.{nodes_in}
-use Rattle.study_pgn.proofs.PathWalks.{skip}
+use Rattle.study_marks.proofs.PathWalks.{skip}
 use Rattle.study_page.specs.Tree.{item_words, tree_words}
 use Rattle.study_page.proofs.tree.+tree.Given as goal
 

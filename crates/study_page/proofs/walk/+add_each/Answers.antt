@@ -4,13 +4,13 @@ use Rattle.study_tree.specs.Edits.{width}
 use Rattle.study_marks.specs.FaultSums.{below_at}
 use Rattle.study_marks.specs.BenchState.{marked}
 use Rattle.study_pgn.proofs.ChildSteps.{popped}
-use Rattle.study_review.specs.Made.{Grew, Rose}
-use Rattle.study_review.specs.TimeFaults.{IsTimeFault}
+use Rattle.study_facts.specs.Made.{Grew, Rose}
+use Rattle.study_facts.specs.TimeFaults.{IsTimeFault}
 use Rattle.study_page.specs.Rows.{FaultItems, Cards, TryRows, ZugzwangRows, DefenceRows, EndRows}
-use Rattle.study_review.specs.Asked.{within}
-use Rattle.study_page.proofs.Asking.{all-then, asks-then, same-asks}
-use Rattle.study_review.proofs.TimeCounted.{none-summed, child-summed, all-summed}
-use Rattle.study_review.proofs.WrittenOrder.{there-child, fewer-child, none-yet, child-written, all-written}
+use Rattle.study_facts.specs.Asked.{within}
+use Rattle.study_facts.proofs.Asking.{all-then, asks-then, same-asks}
+use Rattle.study_facts.proofs.TimeCounted.{none-summed, child-summed, all-summed}
+use Rattle.study_facts.proofs.WrittenOrder.{there-child, fewer-child, none-yet, child-written, all-written}
 use Rattle.study_page.proofs.walk.+add_each.Goals as goal
 
 pub loop-place-init : goal.loop-place-init

@@ -2,10 +2,10 @@ use Rattle.std.proofs.Common.{◌≡◌}
 use Rattle.study_tree.specs.Forest.{nodes_in}
 use Rattle.study_marks.specs.BenchState.{marked}
 use Rattle.study_marks.specs.FaultSums.{below_at}
-use Rattle.study_review.specs.Asked.{AllTold, within}
-use Rattle.study_review.specs.TimeFaults.{IsTimeFault}
-use Rattle.study_review.proofs.TimeCounted.{SumGoesOn}
-use Rattle.study_review.proofs.WrittenOrder.{GoesOn}
+use Rattle.study_facts.specs.Asked.{AllTold, within}
+use Rattle.study_facts.specs.TimeFaults.{IsTimeFault}
+use Rattle.study_facts.proofs.TimeCounted.{SumGoesOn}
+use Rattle.study_facts.proofs.WrittenOrder.{GoesOn}
 use Rattle.study_page.specs.Rows.{FaultItems, Cards, TryRows, ZugzwangRows, DefenceRows, EndRows}
 use Rattle.study_page.proofs.walk.+add_each.Given as goal
 

@@ -1,12 +1,13 @@
 use Rattle.std.proofs.lemmas.Result.{on_ok_weaker}
 use Rattle.study_marks.specs.BenchState.{marked}
 use Rattle.study_marks.proofs.PathRenewed.{no-spot}
-use Rattle.study_review.specs.Asked.{within}
-use Rattle.study_review.proofs.Within.{leads-at}
-use Rattle.study_review.specs.Made.{Grew, Rose}
-use Rattle.study_review.specs.TimeFaults.{IsTimeFault}
+use Rattle.study_facts.specs.Asked.{within}
+use Rattle.study_facts.proofs.Within.{leads-at}
+use Rattle.study_facts.specs.Made.{Grew, Rose}
+use Rattle.study_facts.specs.TimeFaults.{IsTimeFault}
 use Rattle.study_page.specs.Rows.{FaultItems, Cards, TryRows, ZugzwangRows, DefenceRows, EndRows}
-use Rattle.study_page.proofs.Asking.{asks-then, asks-wider}
+use Rattle.study_facts.proofs.Asking.{asks-then}
+use Rattle.study_facts.proofs.Within.{asks-wider}
 use Rattle.study_page.proofs.MadeRows.{on-ok, grew-to, grew-from, rose-to}
 use Rattle.study_page.proofs.walk.add_own.Goals as goal
 

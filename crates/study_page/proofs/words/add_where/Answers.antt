@@ -1,7 +1,7 @@
 use Rattle.std.proofs.Common.{List, ℕ, ◌++◌, ap, ◌∙◌}
 use Rattle.std.proofs.lemmas.Result.{on_ok_weaker}
 use Rattle.study_marks.specs.BenchState.{marked}
-use Rattle.study_page.specs.Words.{label}
+use Rattle.study_head.specs.Words.{label}
 use Rattle.study_page.proofs.MadeRows.{label-made}
 use Rattle.study_page.proofs.words.add_where.Goals as goal
 

@@ -1,7 +1,7 @@
 use Rattle.std.proofs.Common.{sym, ◌∙◌}
 use Rattle.std.proofs.lemmas.Result.{on_ok_weaker}
-use Rattle.study_review.specs.Asked.{within}
-use Rattle.study_review.proofs.Asking.{asks-then}
+use Rattle.study_facts.specs.Asked.{within}
+use Rattle.study_facts.proofs.Asking.{asks-then}
 use Rattle.study_review.proofs.MovesTold.{defence-there, defence-more}
 use Rattle.study_review.proofs.answers.+add_defences.Goals as goal
 

@@ -1,9 +1,9 @@
 use Rattle.std.proofs.Common.{rules, sym, subst, ◌∙◌}
 use Rattle.study_board.specs.Position.{Position}
 use Rattle.study_values.specs.Game.{IsValueOf}
-use Rattle.study_review.specs.Asked.{within}
-use Rattle.study_review.proofs.Within.{leads-first, all-wider, asks-wider}
-use Rattle.study_review.proofs.Asking.{all-then, asks-then, same-asks}
+use Rattle.study_facts.specs.Asked.{within}
+use Rattle.study_facts.proofs.Within.{leads-first, all-wider, asks-wider}
+use Rattle.study_facts.proofs.Asking.{all-then, asks-then, same-asks}
 use Rattle.study_review.proofs.MovesTold.{answer-more, answer-same}
 use Rattle.study_review.proofs.answers.+answers_among.Goals as goal
 

@@ -1,6 +1,6 @@
 use Rattle.std.proofs.Common.{rules}
-use Rattle.study_review.proofs.Within.{leads-to, stops-wider, all-wider}
-use Rattle.study_review.proofs.BestSteps.{play-told}
+use Rattle.study_facts.proofs.Within.{leads-to, stops-wider, all-wider}
+use Rattle.study_facts.proofs.BestSteps.{play-told}
 use Rattle.study_review.proofs.ends.play_from.Goals as goal
 
 pub returns-in-Ok-clause-game : goal.returns-in-Ok-clause-game

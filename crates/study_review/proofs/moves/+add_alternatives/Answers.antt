@@ -1,5 +1,5 @@
-use Rattle.study_review.specs.Asked.{within}
-use Rattle.study_review.proofs.Asking.{all-then, asks-then, same-asks}
+use Rattle.study_facts.specs.Asked.{within}
+use Rattle.study_facts.proofs.Asking.{all-then, asks-then, same-asks}
 use Rattle.study_review.proofs.MovesTold.{no-alternatives, more-alternatives}
 use Rattle.study_review.proofs.moves.+add_alternatives.Goals as goal
 

@@ -1,8 +1,8 @@
 use Rattle.std.proofs.Common.{rules, sym, ap, subst, refl, ◌∙◌}
 use Rattle.std.specs.Prelude.{if◌then◌else◌}
 use Rattle.study_board.specs.Position.{Position}
-use Rattle.study_review.specs.Time.{IsTimeTold}
-use Rattle.study_review.proofs.Within.{leads-to, asks-wider, all-wider, stops-wider}
+use Rattle.study_facts.specs.Time.{IsTimeTold}
+use Rattle.study_facts.proofs.Within.{leads-to, asks-wider, all-wider, stops-wider}
 use Rattle.study_review.proofs.MovesTold.{one-besides}
 use Rattle.study_review.proofs.moves.add_alternative.Goals as goal
 

@@ -1,11 +1,11 @@
 use Rattle.std.proofs.Common.{◌≡◌, true, length, List, [], ◌∷◌, sym, ap, subst, arith, ◌∙◌}
 use Rattle.study_marks.specs.BenchState.{marked}
 use Rattle.study_moves.specs.LegalList.{legal_list}
-use Rattle.study_review.specs.declared.continuation.Continuation.{Continuation}
-use Rattle.study_review.specs.Continuations.{AreChosen}
-use Rattle.study_review.specs.Asked.{within}
+use Rattle.study_facts.specs.declared.continuation.Continuation.{Continuation}
+use Rattle.study_facts.specs.Continuations.{AreChosen}
+use Rattle.study_facts.specs.Asked.{within}
 use Rattle.study_review.specs.Told.{besides}
-use Rattle.study_review.proofs.Asking.{all-then, asks-then, same-asks, no-memory}
+use Rattle.study_facts.proofs.Asking.{all-then, asks-then, same-asks, no-memory}
 use Rattle.study_review.proofs.NodesTold.{also-told, dual-told, dual-timed}
 use Rattle.study_review.proofs.moves.add_dual_lines.Goals as goal
 

@@ -2,7 +2,7 @@ use Rattle.std.proofs.Common.{Some, None, refl, sym, ap, ◌∙◌}
 use Rattle.study_marks.specs.BenchState.{marked}
 use Rattle.study_marks.specs.declared.mark.MoveMark.TheVariants as variant
 use Rattle.study_review.proofs.NodesTold.{no-fault}
-use Rattle.study_review.proofs.TimeCounted.{time-none}
+use Rattle.study_facts.proofs.TimeCounted.{time-none}
 use Rattle.study_review.proofs.moves.add_move.Goals as goal
 
 pub returns-in-Some-Only-clause-fault : goal.returns-in-Some-Only-clause-fault

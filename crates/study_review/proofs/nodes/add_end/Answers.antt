@@ -1,8 +1,8 @@
 use Rattle.std.proofs.Common.{sym, ◌∙◌}
 use Rattle.std.proofs.lemmas.Result.{on_ok_weaker}
 use Rattle.study_marks.specs.BenchState.{marked}
-use Rattle.study_review.specs.Nodes.{is_open_end}
-use Rattle.study_review.proofs.NodesShown.{not-there}
+use Rattle.study_facts.specs.Nodes.{is_open_end}
+use Rattle.study_facts.proofs.NodesShown.{not-there}
 use Rattle.study_review.proofs.NodesTold.{end-told, open-here}
 use Rattle.study_review.proofs.nodes.add_end.Goals as goal
 

@@ -1,7 +1,7 @@
 use Rattle.std.proofs.lemmas.Result.{on_ok_weaker}
 use Rattle.study_marks.specs.BenchState.{marked}
-use Rattle.study_review.specs.Asked.{within}
-use Rattle.study_review.proofs.Asking.{asks-then}
+use Rattle.study_facts.specs.Asked.{within}
+use Rattle.study_facts.proofs.Asking.{asks-then}
 use Rattle.study_review.proofs.NodesTold.{here-told}
 use Rattle.study_review.proofs.nodes.add_here.Goals as goal
 

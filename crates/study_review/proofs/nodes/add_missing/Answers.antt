@@ -4,7 +4,7 @@ use Rattle.study_tree.specs.Tree.{spot_at}
 use Rattle.study_marks.specs.BenchState.{marked}
 use Rattle.study_marks.specs.FaultSums.{below_at}
 use Rattle.study_marks.proofs.PathRenewed.{no-spot}
-use Rattle.study_review.specs.Line.{moves_of}
+use Rattle.study_facts.specs.Line.{moves_of}
 use Rattle.study_review.proofs.NodesTold.{missing-told, defended-here}
 use Rattle.study_review.proofs.nodes.add_missing.Goals as goal
 

@@ -1,8 +1,8 @@
 use Rattle.std.proofs.Common.{length, sym, ap, arith, ◌∙◌}
 use Rattle.study_marks.specs.BenchState.{marked}
-use Rattle.study_review.specs.Asked.{within}
-use Rattle.study_review.proofs.Asking.{asks-then}
-use Rattle.study_review.proofs.NodesShown.{not-zero}
+use Rattle.study_facts.specs.Asked.{within}
+use Rattle.study_facts.proofs.Asking.{asks-then}
+use Rattle.study_facts.proofs.NodesShown.{not-zero}
 use Rattle.study_review.proofs.NodesTold.{own-none}
 use Rattle.study_review.proofs.nodes.add_own.Goals as goal
 

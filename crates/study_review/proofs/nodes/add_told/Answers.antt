@@ -1,5 +1,5 @@
-use Rattle.study_review.specs.Asked.{within}
-use Rattle.study_review.proofs.Asking.{none-asked, no-memory, asks-then}
+use Rattle.study_facts.specs.Asked.{within}
+use Rattle.study_facts.proofs.Asking.{none-asked, no-memory, asks-then}
 use Rattle.study_review.proofs.nodes.add_told.Goals as goal
 
 pub returns-in_err-add_refuted-clause-asked : goal.returns-in_err-add_refuted-clause-asked

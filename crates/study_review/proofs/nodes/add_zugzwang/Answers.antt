@@ -1,5 +1,5 @@
-use Rattle.study_review.specs.Asked.{within}
-use Rattle.study_review.proofs.Asking.{of-told, no-memory}
+use Rattle.study_facts.specs.Asked.{within}
+use Rattle.study_facts.proofs.Asking.{of-told, no-memory}
 use Rattle.study_review.proofs.nodes.add_zugzwang.Goals as goal
 
 pub returns-in_ok-add_zugzwang_line-in-Ok-clause-text : goal.returns-in_ok-add_zugzwang_line-in-Ok-clause-text

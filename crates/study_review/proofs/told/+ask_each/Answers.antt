@@ -1,8 +1,8 @@
 use Rattle.std.proofs.Common.{◌≡◌, true, length, suc, ap, arith}
 use Rattle.study_moves.specs.Rules.{is_legal}
-use Rattle.study_review.specs.Asked.{within}
-use Rattle.study_review.proofs.Asking.{asks-then}
-use Rattle.study_review.proofs.Chosen.{all-rest}
+use Rattle.study_facts.specs.Asked.{within}
+use Rattle.study_facts.proofs.Asking.{asks-then}
+use Rattle.study_facts.proofs.Chosen.{all-rest}
 use Rattle.study_review.proofs.ToldMoves.{told-one}
 use Rattle.study_review.proofs.told.+ask_each.Goals as goal
 

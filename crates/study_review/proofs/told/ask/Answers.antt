@@ -1,9 +1,9 @@
 use Rattle.std.proofs.Common.{rules, subst}
 use Rattle.study_board.specs.Position.{IsValid}
 use Rattle.study_values.specs.Values.{ProbeAnswer}
-use Rattle.study_review.specs.Asked.{within}
-use Rattle.study_review.proofs.Within.{own-answer}
-use Rattle.study_review.proofs.Asking.{Answered, value-answered}
+use Rattle.study_facts.specs.Asked.{within}
+use Rattle.study_facts.proofs.Within.{own-answer}
+use Rattle.study_facts.proofs.Asking.{Answered, value-answered}
 use Rattle.study_review.proofs.told.ask.Goals as goal
 
 pub returns-in-Err-clause-asked : goal.returns-in-Err-clause-asked

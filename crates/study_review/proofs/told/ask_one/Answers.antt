@@ -1,5 +1,5 @@
 use Rattle.std.proofs.Common.{rules}
-use Rattle.study_review.proofs.Within.{leads-to, asks-wider, all-wider}
+use Rattle.study_facts.proofs.Within.{leads-to, asks-wider, all-wider}
 use Rattle.study_review.proofs.told.ask_one.Goals as goal
 
 pub returns-in_err-value-clause-asked : goal.returns-in_err-value-clause-asked

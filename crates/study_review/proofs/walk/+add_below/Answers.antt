@@ -4,14 +4,14 @@ use Rattle.study_board.specs.Position.{Position}
 use Rattle.study_tree.specs.Edits.{width}
 use Rattle.study_marks.specs.BenchState.{marked}
 use Rattle.study_marks.specs.FaultSums.{below_at}
-use Rattle.study_review.specs.Nodes.{NodeLines, FaultLines}
-use Rattle.study_review.specs.Review.{paths_from}
-use Rattle.study_review.specs.Asked.{within}
-use Rattle.study_review.specs.TimeFaults.{IsTimeFault}
-use Rattle.study_review.proofs.Asking.{all-then, asks-then, same-asks}
+use Rattle.study_facts.specs.Nodes.{NodeLines, FaultLines}
+use Rattle.study_facts.specs.Order.{paths_from}
+use Rattle.study_facts.specs.Asked.{within}
+use Rattle.study_facts.specs.TimeFaults.{IsTimeFault}
+use Rattle.study_facts.proofs.Asking.{all-then, asks-then, same-asks}
 use Rattle.study_review.proofs.WholeReview.{taken-off}
-use Rattle.study_review.proofs.TimeCounted.{child-summed, both-summed, below-summed}
-use Rattle.study_review.proofs.WrittenOrder.{fewer-child, child-written, both-written, below-written}
+use Rattle.study_facts.proofs.TimeCounted.{child-summed, both-summed, below-summed}
+use Rattle.study_facts.proofs.WrittenOrder.{fewer-child, child-written, both-written, below-written}
 use Rattle.study_review.proofs.walk.+add_below.Goals as goal
 
 pub returns-in_err-next-clause-asked : goal.returns-in_err-next-clause-asked

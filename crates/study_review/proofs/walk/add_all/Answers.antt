@@ -1,7 +1,7 @@
 use Rattle.study_marks.specs.BenchState.{marked}
-use Rattle.study_review.specs.Asked.{within}
-use Rattle.study_review.proofs.Asking.{all-then, asks-then, same-asks}
-use Rattle.study_review.proofs.TimeCounted.{time-all}
+use Rattle.study_facts.specs.Asked.{within}
+use Rattle.study_facts.proofs.Asking.{all-then, asks-then, same-asks}
+use Rattle.study_facts.proofs.TimeCounted.{time-all}
 use Rattle.study_review.proofs.WholeReview.{faults-all, nodes-all}
 use Rattle.study_review.proofs.walk.add_all.Goals as goal
 

@@ -1,10 +1,10 @@
 use Rattle.std.proofs.Common.{rules, ◌≡◌, ◌+◌, ◌-◌, ◌&&◌, ◌||◌, length, arith, ap, ◌∙◌}
 use Rattle.study_marks.specs.BenchState.{marked}
-use Rattle.study_review.specs.Asked.{within}
-use Rattle.study_review.proofs.Within.{leads-at, all-wider, asks-wider}
-use Rattle.study_review.proofs.Asking.{asks-then}
-use Rattle.study_review.specs.Nodes.{front_of, is_mistake, is_idle}
-use Rattle.study_review.proofs.Stands.{arrival-played, arrival-mark, arrival-children, arrival-there, legal-before, node-before, solution-move, tried-move}
+use Rattle.study_facts.specs.Asked.{within}
+use Rattle.study_facts.proofs.Within.{leads-at, all-wider, asks-wider}
+use Rattle.study_facts.proofs.Asking.{asks-then}
+use Rattle.study_facts.specs.Nodes.{front_of, is_mistake, is_idle}
+use Rattle.study_facts.proofs.Stands.{arrival-played, arrival-mark, arrival-children, arrival-there, legal-before, node-before, solution-move, tried-move}
 use Rattle.study_review.proofs.walk.add_lines.Goals as goal
 
 pub add_move-requires-clause-step : goal.add_move-requires-clause-step

@@ -1,12 +1,12 @@
 use Rattle.std.proofs.Common.{ℕ, List, [], ◌∷◌, ◌++◌, sym, ap, subst, arith, ◌∙◌}
 use Rattle.study_board.specs.Position.{Position}
 use Rattle.study_marks.specs.BenchState.{marked}
-use Rattle.study_review.specs.Line.{line_to}
-use Rattle.study_review.specs.Made.{Grew}
-use Rattle.study_review.specs.Nodes.{NodeLines}
-use Rattle.study_review.specs.Stand.{IsStand}
-use Rattle.study_review.proofs.NodesShown.{front-is}
-use Rattle.study_review.proofs.Stands.{child-arrives, line-after}
+use Rattle.study_facts.specs.Line.{line_to}
+use Rattle.study_facts.specs.Made.{Grew}
+use Rattle.study_facts.specs.Nodes.{NodeLines}
+use Rattle.study_facts.specs.Stand.{IsStand}
+use Rattle.study_facts.proofs.NodesShown.{front-is}
+use Rattle.study_facts.proofs.Stands.{child-arrives, line-after}
 use Rattle.study_review.proofs.walk.enter.Goals as goal
 
 pub unreachable-requires : goal.unreachable-requires

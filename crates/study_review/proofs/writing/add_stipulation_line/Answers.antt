@@ -4,7 +4,7 @@ use Rattle.std.proofs.lemmas.Result.{on_ok_weaker}
 use Rattle.study_marks.specs.BenchState.{marked}
 use Rattle.study_pgn.specs.Pgn.{opening_words}
 use Rattle.study_review.specs.Review.{stipulation_line}
-use Rattle.study_review.proofs.TextGrows.{three}
+use Rattle.study_facts.proofs.TextGrows.{three}
 use Rattle.study_review.proofs.writing.add_stipulation_line.Goals as goal
 
 pub returns : goal.returns

@@ -1,8 +1,9 @@
 use Rattle.std.proofs.Common.{◌≡◌, ℕ, List, ◌++◌, refl}
 use Rattle.study_marks.specs.BenchState.{marked}
 use Rattle.study_review.specs.Review.{IsReview, BeginsReview}
-use Rattle.study_review.proofs.BackSteps.{if-ok}
-use Rattle.study_review.proofs.WholeReview.{whole, begins, time-counted}
+use Rattle.study_facts.proofs.BackSteps.{if-ok}
+use Rattle.study_review.proofs.WholeReview.{whole, begins}
+use Rattle.study_facts.proofs.TimeCounted.{time-counted}
 use Rattle.study_review.proofs.writing.text_of.Goals as goal
 
 pub returns-clause-text : goal.returns-clause-text

@@ -1,6 +1,6 @@
 use Rattle.study_moves.specs.LegalList.{legal_list}
-use Rattle.study_review.specs.Continuations.{each_after}
-use Rattle.study_review.proofs.Within.{each-legal}
+use Rattle.study_facts.specs.Continuations.{each_after}
+use Rattle.study_facts.proofs.Within.{each-legal}
 use Rattle.study_view.proofs.AllAsked.{told-each, some-told}
 use Rattle.study_view.proofs.asking.ask_first_moves.Goals as goal
 

@@ -1,9 +1,9 @@
 use Rattle.std.proofs.Common.{List, true, subst, [], Result}
 use Rattle.std.specs.Prelude.{IfOk}
 use Rattle.study_moves.specs.declared.moves.Move.{Move}
-use Rattle.study_review.specs.Continuations.{AreChosen, each_after, others}
+use Rattle.study_facts.specs.Continuations.{AreChosen, each_after, others}
 use Rattle.study_view.specs.Asked.{HasToldEach}
-use Rattle.study_review.proofs.Within.{each-other}
+use Rattle.study_facts.proofs.Within.{each-other}
 use Rattle.study_view.proofs.AllAsked.{told-each, others-of-none}
 use Rattle.study_view.proofs.asking.ask_moves.Goals as goal
 

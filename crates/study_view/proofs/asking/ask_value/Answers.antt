@@ -1,7 +1,7 @@
 use Rattle.std.proofs.Common.{rules}
 use Rattle.study_board.specs.Position.{IsValid}
-use Rattle.study_review.specs.Asked.{within}
-use Rattle.study_review.proofs.Within.{own-answer}
+use Rattle.study_facts.specs.Asked.{within}
+use Rattle.study_facts.proofs.Within.{own-answer}
 use Rattle.study_view.proofs.AllAsked.{value-told}
 use Rattle.study_view.proofs.asking.ask_value.Goals as goal
 

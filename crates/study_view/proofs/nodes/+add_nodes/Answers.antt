@@ -4,12 +4,12 @@ use Rattle.study_tree.specs.Edits.{width}
 use Rattle.study_marks.specs.FaultSums.{below_at}
 use Rattle.study_marks.specs.BenchState.{marked}
 use Rattle.study_pgn.proofs.ChildSteps.{popped}
-use Rattle.study_review.specs.Made.{Grew}
-use Rattle.study_review.specs.Asked.{within}
-use Rattle.study_review.specs.Zugzwang.{ZugzwangLines}
-use Rattle.study_review.proofs.Asking.{all-then}
+use Rattle.study_facts.specs.Made.{Grew}
+use Rattle.study_facts.specs.Asked.{within}
+use Rattle.study_facts.specs.Zugzwang.{ZugzwangLines}
+use Rattle.study_facts.proofs.Asking.{all-then}
 use Rattle.study_view.proofs.AllAsked.{walks-then, walks-so}
-use Rattle.study_review.proofs.WrittenOrder.{there-child, fewer-child, none-yet, child-written, all-written}
+use Rattle.study_facts.proofs.WrittenOrder.{there-child, fewer-child, none-yet, child-written, all-written}
 use Rattle.study_view.specs.Nodes.{IsNodeLine}
 use Rattle.study_view.specs.View.{start_to}
 use Rattle.study_view.proofs.NodeLines.{own-grew}

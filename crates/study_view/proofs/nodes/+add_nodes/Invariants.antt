@@ -2,9 +2,9 @@ use Rattle.std.proofs.Common.{◌≡◌}
 use Rattle.study_tree.specs.Forest.{nodes_in}
 use Rattle.study_marks.specs.BenchState.{marked}
 use Rattle.study_marks.specs.FaultSums.{below_at}
-use Rattle.study_review.proofs.WrittenOrder.{GoesOn}
-use Rattle.study_review.specs.Asked.{AllTold, within}
-use Rattle.study_review.specs.Zugzwang.{ZugzwangLines}
+use Rattle.study_facts.proofs.WrittenOrder.{GoesOn}
+use Rattle.study_facts.specs.Asked.{AllTold, within}
+use Rattle.study_facts.specs.Zugzwang.{ZugzwangLines}
 use Rattle.study_view.specs.Nodes.{IsNodeLine}
 use Rattle.study_view.proofs.nodes.+add_nodes.Given as goal
 

@@ -1,6 +1,6 @@
 use Rattle.std.proofs.lemmas.Result.{on_ok_weaker}
 use Rattle.study_marks.specs.BenchState.{marked}
-use Rattle.study_review.proofs.Within.{leads-at}
+use Rattle.study_facts.proofs.Within.{leads-at}
 use Rattle.study_view.proofs.AllAsked.{walks-wider}
 use Rattle.study_view.proofs.NodeLines.{zugzwang-grew}
 use Rattle.study_view.proofs.StartsAt.{position-of}

@@ -1,5 +1,5 @@
-use Rattle.study_review.specs.Asked.{within}
-use Rattle.study_review.proofs.Asking.{of-told}
+use Rattle.study_facts.specs.Asked.{within}
+use Rattle.study_facts.proofs.Asking.{of-told}
 use Rattle.study_view.specs.declared.fault.ViewFault.TheVariants.{OutOfMemory}
 use Rattle.study_view.proofs.AllAsked.{walks-so}
 use Rattle.study_view.proofs.nodes.add_zugzwang.Goals as goal

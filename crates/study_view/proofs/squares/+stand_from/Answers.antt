@@ -1,7 +1,7 @@
 use Rattle.std.proofs.Common.{◌≡◌, ◌<◌, ◌++◌, ◌∷◌, [], List, ℕ, arith, sym, ap, subst, ◌∙◌}
 use Rattle.study_view.specs.Survey.{IsStanding}
 use Rattle.study_view.specs.declared.squares.Stood.{Stood}
-use Rattle.study_review.specs.Asked.{within}
+use Rattle.study_facts.specs.Asked.{within}
 use Rattle.study_view.proofs.AllAsked.{some-then}
 use Rattle.study_view.proofs.Standings.{adds-past, adds-one}
 use Rattle.study_view.proofs.squares.+stand_from.Goals as goal

@@ -1,4 +1,4 @@
-use Rattle.study_review.specs.Asked.{within}
+use Rattle.study_facts.specs.Asked.{within}
 use Rattle.study_view.proofs.AllAsked.{some-then}
 use Rattle.study_view.proofs.squares.told.Goals as goal
 

@@ -1,7 +1,7 @@
 use Rattle.std.proofs.Common.{◌≡◌, List, true, sym, subst, ◌∙◌, ap}
 use Rattle.std.specs.List.{All}
 use Rattle.study_moves.specs.Rules.{is_legal}
-use Rattle.study_review.specs.declared.continuation.Continuation.{Continuation}
+use Rattle.study_facts.specs.declared.continuation.Continuation.{Continuation}
 use Rattle.study_view.specs.declared.squares.Standing.{Standing}
 use Rattle.study_view.specs.Shown.{IsPlayedIn}
 use Rattle.study_view.specs.Survey.{by_moves}

@@ -1,7 +1,7 @@
 use Rattle.std.proofs.Common.{ap, ◌∙◌, ◌++◌, List, ℕ}
 use Rattle.std.specs.List.{flat_map}
 use Rattle.study_marks.specs.BenchState.{marked}
-use Rattle.study_review.specs.Review.{written_order}
+use Rattle.study_facts.specs.Order.{written_order}
 use Rattle.study_view.specs.View.{node_line}
 use Rattle.study_view.proofs.NodeLines.{all-lines, all-zugzwangs}
 use Rattle.study_view.proofs.view.tree_lines.Goals as goal

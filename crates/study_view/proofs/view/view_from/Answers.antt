@@ -5,13 +5,13 @@ use Rattle.study_moves.specs.LegalList.{legal_list}
 use Rattle.study_notation.specs.declared.start.Start.{Start}
 use Rattle.study_marks.specs.Goals.{aim_of}
 use Rattle.study_marks.specs.BenchState.{marked}
-use Rattle.study_review.specs.declared.continuation.Continuation.{Continuation}
-use Rattle.study_review.specs.Continuations.{AreChosen}
+use Rattle.study_facts.specs.declared.continuation.Continuation.{Continuation}
+use Rattle.study_facts.specs.Continuations.{AreChosen}
 use Rattle.study_view.specs.Asked.{EachTold, StoppedAt}
 use Rattle.study_view.specs.declared.fault.ViewFault.TheVariants.{OutOfMemory, Values}
 use Rattle.study_view.specs.View.{asked_at}
 use Rattle.study_view.proofs.AllAsked.{refused-after, each-wider, stopped-wider, each-more, walked-more}
-use Rattle.study_review.proofs.Within.{leads-at}
+use Rattle.study_facts.proofs.Within.{leads-at}
 use Rattle.study_view.proofs.StartsAt.{position-of}
 use Rattle.study_view.proofs.ViewMade.{asked-is, view-is}
 use Rattle.study_view.proofs.view.view_from.Goals as goal

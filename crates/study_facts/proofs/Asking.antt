@@ -1,0 +1,133 @@
+-- Calls that probe values, one after the other.
+use Rattle.std.proofs.Common.{◌≡◌, ℕ, Bool, false, List, Result, Ok, Err, IsErrAnd, IsErrOf, IfErr, refl, sym, ap, subst, ◌∙◌}
+use Rattle.study_board.specs.Position.{Position, IsValid}
+use Rattle.study_material.specs.declared.class.Class.{Class}
+use Rattle.study_values.specs.declared.fault.SourceFault.{SourceFault}
+use Rattle.study_text.specs.Counts.{counted}
+use Rattle.study_material.specs.Class.{IsOf}
+use Rattle.study_values.specs.declared.value.Value.{Value}
+use Rattle.study_values.specs.Values.{ProbeAnswer, IsNotDamage, faults_after}
+use Rattle.study_values.specs.declared.values.ProbeFault.{ProbeFault}
+use Rattle.study_values.specs.declared.values.ProbeFault.TheVariants as probe
+use Rattle.study_marks.specs.Answers.{WereTold, IsFirstFault}
+use Rattle.study_marks.specs.Told.{failures_told}
+use Rattle.study_facts.specs.Asked.{AllTold, Stopped}
+use Rattle.study_facts.specs.Made.{HasAsked, fault_of}
+use Rattle.study_facts.specs.Order.{HasReviewed}
+use Rattle.study_facts.specs.declared.fault.ReviewFault.{ReviewFault}
+use Rattle.study_facts.specs.declared.fault.ReviewFault.TheVariants as fault
+use Rattle.study_facts.specs.declared.fault.NotMade.{NotMade}
+use Rattle.study_facts.specs.declared.fault.NotMade.TheVariants.{OutOfMemory, Untold}
+use Rattle.study_facts.proofs.AskedSteps.{asked-one, told-none, told-then, fault-then}
+
+same-failures : (T U : Type 0) (f : ProbeFault) (n : ℕ) → failures_told {T = T} (Err f) n ≡ failures_told {T = U} (Err f) n
+same-failures T U (probe.NoTable c) n = refl
+same-failures T U (probe.TableRead f) n = refl
+same-failures T U (probe.PageDamaged c k) n = refl
+
+same-faults : (n : ℕ) (f : ProbeFault) → faults_after n (Err f) ≡ failures_told {T = Value} (Err f) n
+same-faults n (probe.NoTable c) = refl
+same-faults n (probe.TableRead f) = refl
+same-faults n (probe.PageDamaged c k) = refl
+
+module _ {V : Type 0} (held : V → Class → Bool) (gives : V → Position → ProbeAnswer → Type 0)
+    (may_fail : V → Class → SourceFault → Type 0) (asked_of failed_of : V → ℕ) (is_honest : V → Type 0) where
+  abbrev pub Told : V → V → Type 0
+  Told old new = AllTold held gives may_fail asked_of failed_of is_honest old new
+
+  abbrev pub Stops : V → ProbeFault → V → Type 0
+  Stops old f new = Stopped held gives may_fail asked_of failed_of is_honest old f new
+
+  abbrev pub Asks : {T : Type 0} → V → Result T NotMade → V → Type 0
+  Asks {T = T} old r new = HasAsked held gives may_fail asked_of failed_of is_honest {T = T} old r new
+
+  pub none-asked : (v : V) → Told v v
+  none-asked v = record { told = told-none gives may_fail asked_of v; failures = refl; honest = λ h. h; tables = λ c. refl }
+
+  pub all-then : (old mid new : V) → Told old mid → Told mid new → Told old new
+  all-then old mid new h k = record {
+    told = told-then gives may_fail asked_of old mid new h.told k.told;
+    failures = k.failures ∙ h.failures;
+    honest = λ x. k.honest (h.honest x);
+    tables = λ c. k.tables c ∙ h.tables c;
+  }
+
+  pub stops-then : (old mid new : V) (f : ProbeFault) → Told old mid → Stops mid f new → Stops old f new
+  stops-then old mid new f h k = record {
+    told = fault-then gives may_fail asked_of old mid new f h.told k.told;
+    untold = λ c e. sym (h.tables c) ∙ k.untold c e;
+    no_damage = λ x. k.no_damage (h.honest x);
+    failures = subst (λ n. failed_of new ≡ failures_told {T = Unit {0}} (Err f) n) h.failures k.failures;
+    honest = λ x. k.honest (h.honest x);
+    tables = λ c. k.tables c ∙ h.tables c;
+  }
+
+  pub asks-then : {T : Type 0} (old mid new : V) (r : Result T NotMade) → Told old mid → Asks mid r new → Asks old r new
+  asks-then old mid new (Ok x) h k = all-then old mid new h k
+  asks-then old mid new (Err OutOfMemory) h k = all-then old mid new h k
+  asks-then old mid new (Err (Untold f)) h k = stops-then old mid new f h k
+
+  -- an error that is passed on
+  pub same-asks : {T : Type 0} (old new : V) (r : Result T NotMade) (e : NotMade) → IsErrAnd r (λ x. x ≡ e)
+      → Asks {T = T} old (Err e) new → Asks old r new
+  same-asks old new (Ok x) e is h = absurd is
+  same-asks {T = T} old new (Err x) e is h = subst (λ (y : NotMade). Asks {T = T} old (Err y) new) (sym is) h
+
+  -- want of memory after all values were read
+  pub no-memory : {T : Type 0} (old new : V) (r : Result T NotMade) → IsErrAnd r (λ x. x ≡ OutOfMemory) → Told old new → Asks old r new
+  no-memory {T = T} old new r is h = same-asks {T = T} old new r OutOfMemory is h
+
+  -- the consequences of the answers of a call
+  pub of-told : (old new : V) → ((asked : List Position) × WereTold gives may_fail asked_of old asked new)
+      → failed_of new ≡ failed_of old → (is_honest old → is_honest new) → ((c : Class) → held new c ≡ held old c) → Told old new
+  of-told old new h n i t = record { told = h; failures = n; honest = i; tables = t }
+
+  pub of-fault : (T : Type 0) (old new : V) (f : ProbeFault) → ((asked : List Position) × IsFirstFault gives may_fail asked_of old asked f new)
+      → ((c : Class) → f ≡ probe.NoTable c → held old c ≡ false) → (is_honest old → IsNotDamage f)
+      → failed_of new ≡ failures_told {T = T} (Err f) (failed_of old) → (is_honest old → is_honest new)
+      → ((c : Class) → held new c ≡ held old c) → Stops old f new
+  of-fault T old new f h u d n i t = record {
+    told = h;
+    untold = u;
+    no_damage = d;
+    failures = n ∙ same-failures T (Unit {0}) f (failed_of old);
+    honest = i;
+    tables = t;
+  }
+
+  -- an error without a value
+  pub re-asks : (T U : Type 0) (old new : V) (e : NotMade) → Asks {T = T} old (Err e) new → Asks {T = U} old (Err e) new
+  re-asks T U old new OutOfMemory h = h
+  re-asks T U old new (Untold f) h = h
+
+  abbrev pub Reviews : {T : Type 0} → V → Result T ReviewFault → V → Type 0
+  Reviews {T = T} old r new = HasReviewed held gives may_fail asked_of failed_of is_honest {T = T} old r new
+
+  same-reviews : {T : Type 0} (old new : V) (r : Result T ReviewFault) (x : ReviewFault) → IsErrAnd r (λ y. y ≡ x)
+      → Reviews {T = T} old (Err x) new → Reviews old r new
+  same-reviews old new (Ok y) x is h = absurd is
+  same-reviews {T = T} old new (Err y) x is h = subst (λ (z : ReviewFault). Reviews {T = T} old (Err z) new) (sym is) h
+
+  pub review-stops : (U : Type 0) {T : Type 0} (old new : V) (r : Result T ReviewFault) (e : NotMade) → IsErrAnd r (λ x. x ≡ fault_of e)
+      → Asks {T = U} old (Err e) new → Reviews old r new
+  review-stops U old new r OutOfMemory is h = same-reviews old new r fault.OutOfMemory is h
+  review-stops U old new r (Untold f) is h = same-reviews old new r (fault.Values f) is h
+
+  pub review-fails : {T : Type 0} (old new : V) (r : Result T ReviewFault) → IsErrAnd r (λ x. x ≡ fault.Device) → Told old new → Reviews old r new
+  review-fails old new r is h = same-reviews old new r fault.Device is h
+
+  -- the answer to one probe
+  abbrev pub Answered : V → ProbeAnswer → V → Type 0
+  Answered old (Ok v) new = Told old new
+  Answered old (Err f) new = Stops old f new
+
+  pub value-answered : (old new : V) (p : Position) (r : ProbeAnswer) → IsValid p → gives old p r → asked_of new ≡ counted (asked_of old)
+      → ((c : Class) (f : SourceFault) → IsOf c p → IsErrOf r (probe.TableRead f) → may_fail old c f)
+      → ((c : Class) (f : SourceFault) → may_fail new c f → may_fail old c f)
+      → ((c : Class) → IsErrOf r (probe.NoTable c) → held old c ≡ false) → (is_honest old → IfErr r IsNotDamage)
+      → failed_of new ≡ faults_after (failed_of old) r → (is_honest old → is_honest new) → ((c : Class) → held new c ≡ held old c)
+      → Answered old r new
+  value-answered old new p (Ok v) valid g n so before u d f i s = of-told old new (asked-one gives may_fail asked_of old new p (Ok v) valid g n so before) f i s
+  value-answered old new p (Err e) valid g n so before u d f i s =
+      of-fault Value old new e (asked-one gives may_fail asked_of old new p (Err e) valid g n so before) (λ c q. u c (ap Err q)) d
+      (f ∙ same-faults (failed_of old) e) i s

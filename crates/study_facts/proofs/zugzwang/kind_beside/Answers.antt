@@ -1,0 +1,26 @@
+use Rattle.std.proofs.Common.{rules, Option, sym, subst}
+use Rattle.study_board.specs.Position.{IsValid}
+use Rattle.study_facts.specs.declared.zugzwang.Zugzwang.{Zugzwang}
+use Rattle.study_facts.specs.Zugzwang.{IsZugzwangOf}
+use Rattle.study_facts.proofs.Within.{told-wider, fault-wider}
+use Rattle.study_facts.proofs.ZugzwangTold.{leads-across, kind-by}
+use Rattle.study_facts.proofs.zugzwang.kind_beside.Goals as goal
+
+pub returns-in-Ok-clause-game : goal.returns-in-Ok-clause-game
+returns-in-Ok-clause-game g c scores h =
+    let valid : IsValid c.args.q.now = search rules in
+    subst (λ (z : Option Zugzwang). IsZugzwangOf c.args.p.now z) (sym c.kind_of.ensures)
+    (kind-by c.values_are_unique.ensures c.args.p.now c.args.q.now c.to_move.result c.args.here c.in-Ok.there c.requires.passed c.requires.other valid
+    c.to_move.ensures scores (c.in-Ok.ensures.game h))
+
+pub returns-in-Err-clause-told : goal.returns-in-Err-clause-told
+returns-in-Err-clause-told g c =
+    let valid : IsValid c.args.q.now = search rules in
+    fault-wider g.V.Values.may_fail g.V.Values.asked_of g.V.Values.gives c.args.p.now c.args.q.now (leads-across c.args.p.now c.args.q.now c.requires.other valid)
+    c.args.values.now c.score.new.values c.in-Err.fault c.in-Err.ensures.told
+
+pub returns-in-Ok-clause-told : goal.returns-in-Ok-clause-told
+returns-in-Ok-clause-told g c =
+    let valid : IsValid c.args.q.now = search rules in
+    told-wider g.V.Values.may_fail g.V.Values.asked_of g.V.Values.gives c.args.p.now c.args.q.now (leads-across c.args.p.now c.args.q.now c.requires.other valid)
+    c.args.values.now c.score.new.values c.in-Ok.ensures.told

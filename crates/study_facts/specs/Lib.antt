@@ -1,0 +1,17 @@
+pub mod Continuations
+pub mod Back
+pub mod Leads
+pub mod Best
+pub mod Asked
+pub mod Line
+pub mod Time
+pub mod Defences
+pub mod Faults
+pub mod Play
+pub mod Words
+pub mod Zugzwang
+pub mod Nodes
+pub mod TimeFaults
+pub mod Made
+pub mod Stand
+pub mod Order

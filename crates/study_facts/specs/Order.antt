@@ -1,0 +1,56 @@
+-- A study in written order, and whether it has a solution.
+use Rattle.std.specs.Prelude.{◌≡◌, ℕ, ◌+◌, Bool, true, false, ◌&&◌, List, [], ◌∷◌, ◌++◌, Result, Ok, Err}
+use Rattle.study_board.specs.Position.{Position}
+use Rattle.study_material.specs.declared.class.Class.{Class}
+use Rattle.study_values.specs.declared.fault.SourceFault.{SourceFault}
+use Rattle.study_values.specs.Values.{ProbeAnswer}
+use Rattle.study_tree.specs.Forest.{Forest, none, more}
+use Rattle.study_marks.specs.declared.mark.Mark.{Mark}
+use Rattle.study_marks.specs.Study.{Study}
+use Rattle.study_facts.specs.declared.fault.ReviewFault.{ReviewFault}
+use Rattle.study_facts.specs.declared.fault.ReviewFault.TheVariants.{OutOfMemory, Device, Values}
+use Rattle.study_facts.specs.Asked.{AllTold, Stopped}
+use Rattle.study_facts.specs.Nodes.{has_none}
+use Rattle.study_facts.specs.TimeFaults.{IsTimeFault}
+
+-- no node has children
+abbrev pub none_below : {L : Type 0} → Forest L → Bool
+none_below none = true
+none_below (more m l b r) = has_none b && none_below r
+
+-- the solution has no move of the hero: at the root, if he moves first, otherwise after the moves of the opponent
+abbrev pub is_empty : Bool → {L : Type 0} → Forest L → Bool
+is_empty true f = has_none f
+is_empty false f = none_below f
+
+-- the paths of sibling nodes from place k on, below the node at the path, and of all nodes below them, in written order
+abbrev pub paths_from : {L : Type 0} → List ℕ → ℕ → Forest L → List (List ℕ)
+paths_from path k none = []
+paths_from path k (more m l b r) = (path ++ k ∷ []) ∷ (paths_from (path ++ k ∷ []) 0 b ++ paths_from path (k + 1) r)
+
+-- the lines of the nodes at these paths, one node after the other
+abbrev pub LinesOfEach : (List ℕ → List ℕ → Type 0) → List (List ℕ) → List ℕ → Type 0
+LinesOfEach Lines [] text = text ≡ []
+LinesOfEach Lines (path ∷ paths) text = (own rest : List ℕ) × Lines path own × LinesOfEach Lines paths rest × (text ≡ own ++ rest)
+
+-- the root and all nodes, in written order
+abbrev pub written_order : {L : Type 0} → Study L → List (List ℕ)
+written_order s = [] ∷ paths_from [] 0 s.tree.below
+
+-- the total of the counts at these paths
+abbrev pub SumOfEach : (List ℕ → ℕ → Type 0) → List (List ℕ) → ℕ → Type 0
+SumOfEach Count [] n = n ≡ 0
+SumOfEach Count (path ∷ paths) n = (own rest : ℕ) × Count path own × SumOfEach Count paths rest × (n ≡ own + rest)
+
+-- the number of faults of the solution that lose time alone
+abbrev pub AreTimeFaults : Study Mark → ℕ → Type 0
+AreTimeFaults s n = SumOfEach (IsTimeFault s) (written_order s) n
+
+module _ {V : Type 0} (held : V → Class → Bool) (gives : V → Position → ProbeAnswer → Type 0)
+    (may_fail : V → Class → SourceFault → Type 0) (asked_of failed_of : V → ℕ) (is_honest : V → Type 0) where
+  -- each value was read, unless the call was refused for the first that could not be read
+  abbrev pub HasReviewed : {T : Type 0} → V → Result T ReviewFault → V → Type 0
+  HasReviewed old (Ok x) new = AllTold held gives may_fail asked_of failed_of is_honest old new
+  HasReviewed old (Err OutOfMemory) new = AllTold held gives may_fail asked_of failed_of is_honest old new
+  HasReviewed old (Err Device) new = AllTold held gives may_fail asked_of failed_of is_honest old new
+  HasReviewed old (Err (Values f)) new = Stopped held gives may_fail asked_of failed_of is_honest old f new

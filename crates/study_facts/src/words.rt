@@ -1,0 +1,132 @@
+//! The words of a review's lines, added to a text.
+ghost use Rattle.std.specs.Prelude.{◌≡◌, ◌++◌, ◌+◌, ◌<◌, true, OnOk, decimal};
+ghost use Rattle.study_moves.specs.Rules.{is_legal};
+ghost use Rattle.study_tree.specs.Paths.{path_text, more_places};
+ghost use Rattle.study_notation.specs.Written.{move_text};
+ghost use Rattle.study_facts.specs.Words.{value_words, front_words};
+ghost use Rattle.study_facts.specs.Words.{move_words, alone_words, time_verdict};
+
+use crate::continuation::{Continuation, Node, is_draw};
+use crate::missing::Defence;
+use crate::time::Alternative;
+use std::alloc::{AllocError, Allocator};
+use study_board::Position;
+use study_marks::holds;
+use study_moves::{Move, played};
+use study_notation::write_san;
+use study_text::Text;
+use study_values::Value;
+
+/// A word, and a number after it.
+pub fn add_counted<A: Allocator>(
+    text: &mut Text<'_, A>,
+    word: &[u8],
+    number: u8,
+) -> Result<(), AllocError>
+    ensures { OnOk result (text.new ≡ text.old ++ (word.now ++ decimal number)) }
+{
+    text.add(word)?;
+    text.add_number(number as u32)
+}
+
+/// A value in the words of a script's reply: `win 3`, in plies.
+pub fn add_value<A: Allocator>(text: &mut Text<'_, A>, value: Value) -> Result<(), AllocError>
+    ensures { OnOk result (text.new ≡ text.old ++ value_words value) }
+{
+    match value {
+        Value::Win(n) => add_counted(text, b"win ", n),
+        Value::Loss(n) => add_counted(text, b"loss ", n),
+        Value::Draw => text.add(b"draw"),
+    }
+}
+
+fn add_places<A: Allocator>(text: &mut Text<'_, A>, steps: &[u16]) -> Result<(), AllocError>
+    ensures { OnOk result (text.new ≡ text.old ++ more_places steps.now) }
+{
+    match steps.split_first() {
+        None => Ok(()),
+        Some((place, rest)) => {
+            text.add(b".")?;
+            text.add_number(*place as u32)?;
+            add_places(text, rest)
+        }
+    }
+}
+
+/// A path as in a script: `root`, or places from the root joined by dots.
+pub fn add_path<A: Allocator>(text: &mut Text<'_, A>, steps: &[u16]) -> Result<(), AllocError>
+    ensures { OnOk result (text.new ≡ text.old ++ path_text steps.now) }
+{
+    match steps.split_first() {
+        None => text.add(b"root"),
+        Some((first, rest)) => {
+            text.add_number(*first as u32)?;
+            add_places(text, rest)
+        }
+    }
+}
+
+/// A kind of line, and a path, with a space after it.
+#[tactic(auto, unfolding(crate::specs::Words::front_words))]
+pub fn add_front<A: Allocator>(
+    text: &mut Text<'_, A>,
+    kind: &[u8],
+    steps: &[u16],
+) -> Result<(), AllocError>
+    ensures { OnOk result (text.new ≡ text.old ++ front_words kind.now steps.now) }
+{
+    text.add(kind)?;
+    add_path(text, steps)?;
+    text.add(b" ")
+}
+
+fn add_san<A: Allocator>(text: &mut Text<'_, A>, p: &Position, m: Move) -> Result<(), AllocError>
+    requires { is_legal p.now m ≡ true }
+    ensures { OnOk result (text.new ≡ text.old ++ move_text p.now m) }
+{
+    text.add(write_san(p, m).as_str().as_bytes())
+}
+
+#[tactic(auto, unfolding(crate::specs::Words::move_words))]
+/// A move, after a space.
+pub fn add_move<A: Allocator>(
+    text: &mut Text<'_, A>,
+    p: &Position,
+    x: &Continuation,
+) -> Result<(), AllocError>
+    requires { is_legal p.now x.now.played ≡ true }
+    ensures { OnOk result (text.new ≡ text.old ++ move_words p.now x.now) }
+{
+    text.add(b" ")?;
+    add_san(text, p, x.played)
+}
+
+/// The words that so many faults lose time alone.
+pub fn add_alone<A: Allocator>(text: &mut Text<'_, A>, time: u32) -> Result<(), AllocError>
+    ensures { OnOk result (text.new ≡ text.old ++ alone_words time) }
+{
+    if time == 1 {
+        text.add(b" loses time alone")
+    } else {
+        text.add(b" lose time alone")
+    }
+}
+
+/// The verdict on a solution with so many faults, so many of which lose time alone: `sound but for loss of time` if these are all.
+#[tactic(auto, unfolding(crate::specs::Words::time_verdict))]
+pub fn add_time_verdict<A: Allocator>(
+    text: &mut Text<'_, A>,
+    faults: u32,
+    time: u32,
+) -> Result<(), AllocError>
+    ensures { OnOk result (text.new ≡ text.old ++ time_verdict faults time) }
+{
+    if time == faults {
+        return text.add(b"sound but for loss of time");
+    }
+    text.add(b"unsound ")?;
+    text.add_number(faults)?;
+    text.add(b", ")?;
+    text.add_number(time)?;
+    add_alone(text, time)
+}

@@ -1,0 +1,5 @@
+pub mod Words
+pub mod Diagram
+pub mod Known
+pub mod Counts
+pub mod Head

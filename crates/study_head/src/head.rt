@@ -1,0 +1,162 @@
+//! The head of a page, and the diagram with what is below it.
+ghost use Rattle.std.specs.Prelude.{◌≡◌, ◌++◌, OnOk};
+ghost use Rattle.study_marks.specs.BenchState.{marked};
+ghost use Rattle.study_marks.specs.Study.{tag_of};
+ghost use Rattle.study_marks.specs.declared.tag.TagName.TheVariants as tag;
+ghost use Rattle.study_html.specs.Elements.{inside};
+ghost use Rattle.study_html.specs.Escape.{said};
+ghost use Rattle.study_head.specs.Known.{known, date_words};
+ghost use Rattle.study_head.specs.Head.{title_words, behind, byline_item, round_words, byline, head, moves_first, men_words, caption, figure};
+
+use crate::counts::add_counts;
+use crate::diagram::{add_control, draw_board};
+use crate::known::{date_words, known_tag};
+use std::alloc::{AllocError, Allocator};
+use study_board::{Man, Side};
+use study_html::{Drawing, Element, Html, put_words};
+use study_marks::{Bench, TagName};
+use study_notation::write_fen;
+use study_pgn::add_stipulation;
+use study_text::Text;
+
+/// The title: the tag Event.
+fn put_title<'a, 'b, A: Allocator, B: Allocator>(
+    alloc: &'a A,
+    html: &mut Html<'_, A>,
+    bench: &Bench<'b, B>,
+) -> Result<(), AllocError>
+    ensures { OnOk result (html.new ≡ html.old
+        ++ inside Element.Title (said (title_words (known (tag_of (marked bench.now).tags tag.Event))))) }
+{
+    put_words(
+        alloc,
+        html,
+        Element::Title,
+        title_words(known_tag(bench, TagName::Event)),
+    )
+}
+
+/// The title of a study with this tag.
+pub fn title_words(event: &[u8]) -> &[u8]
+    ensures { result.now ≡ title_words event.now }
+{
+    if event.is_empty() { b"Untitled" } else { event }
+}
+
+/// A dot, where something comes before it.
+fn draw_dot<A: Allocator>(html: &mut Html<'_, A>) -> Result<(), AllocError>
+    ensures { OnOk result (html.new ≡ behind html.old) }
+{
+    if html.is_empty() {
+        return Ok(());
+    }
+    html.draw(&Drawing::Dot)
+}
+
+/// What is known, after what is known before it.
+fn say_known<A: Allocator>(html: &mut Html<'_, A>, words: &[u8]) -> Result<(), AllocError>
+    ensures { OnOk result (html.new ≡ byline_item words.now html.old) }
+{
+    if words.is_empty() {
+        return Ok(());
+    }
+    draw_dot(html)?;
+    html.say(words)
+}
+
+/// `entry 5`.
+fn add_round<A: Allocator>(text: &mut Text<'_, A>, round: &[u8]) -> Result<(), AllocError>
+    ensures { OnOk result (text.new ≡ text.old ++ round_words round.now) }
+{
+    if round.is_empty() {
+        return Ok(());
+    }
+    text.add(b"entry ")?;
+    text.add(round)
+}
+
+/// The title, and below it author, place, date and entry.
+#[tactic(auto, unfolding(crate::specs::Head::head))]
+pub fn put_head<'a, 'b, A: Allocator, B: Allocator>(
+    alloc: &'a A,
+    html: &mut Html<'_, A>,
+    bench: &Bench<'b, B>,
+) -> Result<(), AllocError>
+    ensures { OnOk result (html.new ≡ html.old ++ head (marked bench.now).tags) }
+{
+    let mut within = Html::new(alloc);
+    let mut byline = Html::new(alloc);
+    let mut round = Text::new(alloc);
+    put_title(alloc, &mut within, bench)?;
+    add_round(&mut round, known_tag(bench, TagName::Round))?;
+    say_known(&mut byline, known_tag(bench, TagName::White))?;
+    say_known(&mut byline, known_tag(bench, TagName::Site))?;
+    say_known(&mut byline, date_words(known_tag(bench, TagName::Date)))?;
+    say_known(&mut byline, round.as_slice())?;
+    within.put(Element::Byline, &byline)?;
+    html.put(Element::Header, &within)
+}
+
+/// Where Black moves first, that it is so.
+pub fn moves_first(side: Side) -> &'static [u8]
+    ensures { result.now ≡ moves_first side }
+{
+    match side {
+        Side::White => b"",
+        Side::Black => b", Black to move",
+    }
+}
+
+/// The men of both sides.
+#[tactic(auto, unfolding(crate::specs::Head::men_words))]
+fn add_men<A: Allocator>(text: &mut Text<'_, A>, men: &[Man]) -> Result<(), AllocError>
+    ensures { OnOk result (text.new ≡ text.old ++ men_words men.now) }
+{
+    add_control(text, Side::White, men)?;
+    text.add(b" /")?;
+    add_control(text, Side::Black, men)
+}
+
+/// What is below the diagram: the stipulation, the counts of men, the men and the FEN.
+#[tactic(auto, unfolding(crate::specs::Head::caption))]
+fn put_caption<'a, 'b, A: Allocator, B: Allocator>(
+    alloc: &'a A,
+    html: &mut Html<'_, A>,
+    bench: &Bench<'b, B>,
+) -> Result<(), AllocError>
+    ensures { OnOk result (html.new ≡ html.old ++ caption (marked bench.now).stipulation (marked bench.now).start) }
+{
+    let start = bench.start();
+    let fen = write_fen(start);
+    let mut within = Html::new(alloc);
+    let mut stipulation = Text::new(alloc);
+    let mut counts = Text::new(alloc);
+    let mut men = Text::new(alloc);
+    add_stipulation(&mut stipulation, bench.stipulation())?;
+    put_words(alloc, &mut within, Element::Strong, stipulation.as_slice())?;
+    within.say(moves_first(start.position.to_move()))?;
+    add_counts(&mut counts, &start.position)?;
+    put_words(alloc, &mut within, Element::Count, counts.as_slice())?;
+    within.draw(&Drawing::Break)?;
+    add_men(&mut men, start.position.men())?;
+    within.say(men.as_slice())?;
+    within.draw(&Drawing::Break)?;
+    put_words(alloc, &mut within, Element::Code, fen.as_str().as_bytes())?;
+    html.put(Element::Caption, &within)
+}
+
+/// The diagram with what is below it.
+#[tactic(auto, unfolding(crate::specs::Head::figure))]
+pub fn put_figure<'a, 'b, A: Allocator, B: Allocator>(
+    alloc: &'a A,
+    html: &mut Html<'_, A>,
+    bench: &Bench<'b, B>,
+) -> Result<(), AllocError>
+    ensures { OnOk result (html.new ≡ html.old ++ figure (marked bench.now).stipulation (marked bench.now).start) }
+{
+    let start = bench.start();
+    let mut within = Html::new(alloc);
+    draw_board(alloc, &mut within, &start.position)?;
+    put_caption(alloc, &mut within, bench)?;
+    html.put(Element::Figure, &within)
+}

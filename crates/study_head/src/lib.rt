@@ -1,0 +1,13 @@
+//! The head of a study's page: its tags, its diagram, its counts of men, and the words of a move.
+#![tactic(auto)]
+
+mod counts;
+mod diagram;
+mod head;
+mod known;
+mod words;
+
+pub use diagram::{draw_board, draw_mini};
+pub use head::{moves_first, put_figure, put_head, title_words};
+pub use known::known_tag;
+pub use words::{Ply, add_front, add_label, add_short};

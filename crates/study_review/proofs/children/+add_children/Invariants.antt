@@ -1,5 +1,0 @@
-use Rattle.std.proofs.Common.{◌-◌}
-use Rattle.study_review.proofs.children.+add_children.Given as goal
-
-abbrev pub decreases-add_children : goal.decreases-add_children
-decreases-add_children g l = l.count - l.place
