@@ -38,6 +38,7 @@ const FAULTS = /** @type {Record<string, string>} */ ({
   TagForm: 'a tag that is not written as [Name "text"]',
   OpenString: 'a tag whose text is not closed in its line',
   TagInMoves: 'a tag among the moves',
+  NullMove: 'a null move in the main line',
   Byte: 'a letter that begins no move',
   OpenComment: 'a comment that is not closed',
   NoMoveBefore: 'a variation before the first move',

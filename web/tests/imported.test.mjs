@@ -23,6 +23,7 @@ test('a file is UTF-8, else Latin 1', () => {
 test('games that were left out, and why', () => {
   assert.deepEqual(leftOut(LINES).map(whyLeftOut), ['7 men', 'Kb6: not legal here', 'it does not say what is to be done']);
   assert.deepEqual(leftOut(LINES)[1], { game: 3, line: 31, column: 17, why: 'NoSuchMove', text: 'Kb6' });
+  assert.deepEqual(leftOut(['# game 6, line 60, column 8: NullMove']).map(whyLeftOut), ['a null move in the main line']);
   assert.equal(withoutAim(LINES), 1);
   assert.equal(importNote(LINES), '5 games, 2 studies. Left out: game 2, line 14: 7 men; game 3, line 31, column 17: Kb6: not legal here; ' +
     'game 4, line 40: it does not say what is to be done.');

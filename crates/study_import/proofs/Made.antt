@@ -27,6 +27,7 @@ use Rattle.study_import.specs.declared.lines.LineFault.{LineFault}
 use Rattle.study_import.specs.declared.moves.MoveFault.{MoveFault}
 use Rattle.study_import.specs.declared.moves.MoveFault.TheVariants.{San as SanRefused, NoSuchNode}
 use Rattle.study_import.specs.declared.taking.Reason.{Reason}
+use Rattle.study_import.specs.declared.taking.Reason.TheVariants as reason
 use Rattle.study_import.specs.declared.movetext.MovesFault.{MovesFault}
 use Rattle.study_import.specs.declared.movetext.Stop.TheVariants as stop
 use Rattle.study_import.specs.Lines.{Lines, begin_line, end_line}
@@ -167,8 +168,14 @@ module _ (A : Type 0) where
   result_leads r t e =
       let is : record { reading = r; ended = length r.lines.waiting == 0 } ≡ t = cc in same r t.reading (sym (ap (λ (x : Taken). x.reading) is))
 
+  null_by : (r : Reading) (t : Taken) (main : Bool)
+      → (if main then Err reason.NullMove else going_on (record { study = r.study; lines = cut_line r.lines; inserts = r.inserts })) ≡ Ok t
+      → Leads A r t.reading
+  null_by r t true e = absurd cc
+  null_by r t false e = lines_only r t (cut_line r.lines) e
+
   null_leads : (r : Reading) (t : Taken) → at_null_move r ≡ Ok t → Leads A r t.reading
-  null_leads r t e = lines_only r t (cut_line r.lines) e
+  null_leads r t e = null_by r t (length r.lines.waiting == 0) e
 
   sign_leads : (r : Reading) (t : Taken) (is_null : Bool) → taken_sign r is_null ≡ Ok t → Leads A r t.reading
   sign_leads r t true e = null_leads r t e

@@ -31,7 +31,7 @@ use Rattle.study_import.specs.declared.movetext.Stop.TheVariants as stop
 use Rattle.study_import.specs.Lines.{Lines, varied, begin_line, resumed, end_line}
 use Rattle.study_import.specs.Moves.{After, stepped, moved_by, met, moved}
 use Rattle.study_import.specs.Reading.{Reading, gone_on, read_on, played, symbol_played}
-use Rattle.study_import.specs.Taken.{Taken, on_line, on_move, taken_symbol, taken_sign, taken}
+use Rattle.study_import.specs.Taken.{Taken, going_on, on_line, cut_line, on_move, taken_symbol, taken_sign, taken}
 use Rattle.study_import.specs.Notes.{GameRead, GameTaken, is_header_tag, noted, noted_on, game_taken}
 use Rattle.study_import.specs.Blocks.{no_moves, game_read}
 use Rattle.study_import.specs.Laws.{IsListed, AreListed}
@@ -261,17 +261,24 @@ unfolding ReadOk TakenOk
 move_taken (Ok r) h = h
 move_taken (Err fault) h = h
 
+-- in the main line a null move is a fault
+null_taken : (r : Reading) (main : Bool) → IsPlaced r
+    → TakenOk (if main then Err reason.NullMove else going_on (record { study = r.study; lines = cut_line r.lines; inserts = r.inserts }))
+unfolding TakenOk IsPlaced
+null_taken r true h = tt
+null_taken r false h = h
+
 symbol_taken : (r : Reading) (text : List ℕ) (said : Said) → IsPlaced r → TakenOk (taken_symbol r text said)
 unfolding TakenOk IsPlaced
 symbol_taken r text say.Number h = h
 symbol_taken r text (say.Result outcome) h = h
-symbol_taken r text say.NullMove h = h
+symbol_taken r text say.NullMove h = null_taken r (length r.lines.waiting == 0) h
 symbol_taken r text say.Aside h = h
 symbol_taken r text say.Move h = move_taken (symbol_played r text) (symbol_ok r text h)
 
 sign_taken : (r : Reading) (is_null : Bool) → IsPlaced r → TakenOk (taken_sign r is_null)
 unfolding TakenOk IsPlaced
-sign_taken r true h = h
+sign_taken r true h = null_taken r (length r.lines.waiting == 0) h
 sign_taken r false h = h
 
 token_taken : (r : Reading) (token : Token) → IsPlaced r → TakenOk (taken r token)

@@ -346,6 +346,7 @@ reason_part : (why : Reason) → IsPart 20 (reason_name why)
 reason_part (reason.Move fault) = move_part fault
 reason_part (reason.Line fault) = line_fault_part fault
 reason_part reason.TagInMoves = record { shown = refl; few = omega arith }
+reason_part reason.NullMove = record { shown = refl; few = omega arith }
 
 stop_part : (why : Stop) → IsPart 20 (stop_name why)
 stop_part (stop.Token fault) = token_part fault
@@ -401,6 +402,7 @@ symbol_part (stop.Taking (reason.Move move_fault.TreeFull)) text = none_part
 symbol_part (stop.Taking (reason.Move move_fault.OutOfMemory)) text = none_part
 symbol_part (stop.Taking (reason.Line fault)) text = none_part
 symbol_part (stop.Taking reason.TagInMoves) text = none_part
+symbol_part (stop.Taking reason.NullMove) text = none_part
 symbol_part (stop.Token fault) text = none_part
 symbol_part stop.OpenVariation text = none_part
 

@@ -49,6 +49,7 @@ told_by (reason.Line line_fault.TooNested) x new expected left h f = f h
 told_by (reason.Line line_fault.NotOpened) x new expected left h f = f h
 told_by (reason.Line line_fault.OutOfMemory) x new expected left h f = tt
 told_by reason.TagInMoves x new expected left h f = f h
+told_by reason.NullMove x new expected left h f = f h
 
 -- a token that was taken, with its note
 pub noted_takes : (answer : Result Bool Reason) (x : Result Taken Reason) (new : Reading) (n : Notes) → Takes answer x new
@@ -64,3 +65,4 @@ noted_takes (Err (reason.Line line_fault.TooNested)) x new n h = ap (noted_on n)
 noted_takes (Err (reason.Line line_fault.NotOpened)) x new n h = ap (noted_on n) h
 noted_takes (Err (reason.Line line_fault.OutOfMemory)) x new n h = tt
 noted_takes (Err reason.TagInMoves) x new n h = ap (noted_on n) h
+noted_takes (Err reason.NullMove) x new n h = ap (noted_on n) h

@@ -105,6 +105,7 @@ abbrev pub reason_name : Reason → List ℕ
 reason_name (reason.Move fault) = move_name fault
 reason_name (reason.Line fault) = line_name fault
 reason_name reason.TagInMoves = codes "TagInMoves"
+reason_name reason.NullMove = codes "NullMove"
 
 abbrev pub stop_name : Stop → List ℕ
 stop_name (stop.Token fault) = token_name fault

@@ -35,12 +35,15 @@ on_line r (Err fault) = Err (reason.Line fault)
 abbrev pub at_result : Reading → Result Taken Reason
 at_result r = Ok (record { reading = r; ended = length r.lines.waiting == 0 })
 
--- a null move cuts the line
+-- after a null move the line is cut
 abbrev pub cut_line : Lines → Lines
 cut_line l = record { path = l.path; begun = l.begun; waiting = l.waiting; cut = if nat_le 1 l.cut then l.cut else 1 }
 
+-- a null move ends its variation. The main line has none
 abbrev pub at_null_move : Reading → Result Taken Reason
-at_null_move r = going_on (record { study = r.study; lines = cut_line r.lines; inserts = r.inserts })
+at_null_move r =
+    if length r.lines.waiting == 0 then Err reason.NullMove
+    else going_on (record { study = r.study; lines = cut_line r.lines; inserts = r.inserts })
 
 abbrev pub on_move : Result Reading MoveFault → Result Taken Reason
 on_move (Ok r) = going_on r

@@ -59,6 +59,7 @@ fn stop_name(why: Stop) -> &'static [u8]
         Stop::Taking(Reason::Move(fault)) => move_name(fault),
         Stop::Taking(Reason::Line(fault)) => line_name(fault),
         Stop::Taking(Reason::TagInMoves) => b"TagInMoves",
+        Stop::Taking(Reason::NullMove) => b"NullMove",
         Stop::OpenVariation => b"OpenVariation",
     }
 }

@@ -22,6 +22,8 @@ pub enum Reason {
     Line(LineFault),
     /// There is a tag among the moves.
     TagInMoves,
+    /// There is a null move in the main line.
+    NullMove,
 }
 
 impl<'a, A: Allocator> Reading<'a, A> {
@@ -68,6 +70,9 @@ impl<'a, A: Allocator> Reading<'a, A> {
             self.new.lines.waiting.items self.new.lines.cut self.new.inserts in
             Takes result (at_null_move before) after }
     {
+        if self.lines.waiting.is_empty() {
+            return Err(Reason::NullMove);
+        }
         if self.lines.cut < 1 {
             self.lines.cut = 1;
         }

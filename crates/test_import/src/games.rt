@@ -157,6 +157,53 @@ pgn
     Ok(())
 }
 
+/// Three games with null moves: in variations, as a move of the main line, and behind a variation.
+const NULL_MOVES: &[u8] = b"[FEN \"8/8/8/4k3/8/4K3/4P3/8 w - - 0 1\"]
+[Result \"1-0\"]
+
+1. Kd3 (1. -- Kf4 2. e3) (1. Kf3 -- 2. Kg3) 1... Kd5 1-0
+
+[FEN \"8/8/8/4k3/8/4K3/4P3/8 w - - 0 1\"]
+[Result \"1-0\"]
+
+1. Kd3 -- 2. Kc4 1-0
+
+[FEN \"8/8/8/4k3/8/4K3/4P3/8 w - - 0 1\"]
+[Result \"1-0\"]
+
+1. Kd3 (1. Kf3) Z0 1-0
+";
+
+const NULL_MOVES_TOLD: &[u8] = b"# game 1, line 1: stipulated by its tag Result
+# not taken over: null moves 2, moves behind 3
+position 8/8/8/4k3/8/4K3/4P3/8 w - - 0 1
+stipulate white win
+tag Event ?
+tag Site ?
+tag Date ????.??.??
+tag Round ?
+tag White ?
+tag Black ?
+insert root Kd3
+insert root Kf3
+insert 0 Kd5
+pgn
+
+# game 2, line 9, column 8: NullMove
+
+# game 3, line 14, column 17: NullMove
+
+# games 3, studies 1
+";
+
+/// A null move ends its variation; with one in its main line a game is left out.
+#[test]
+fn a_main_line_has_no_null_move(rt: HostRuntime) -> Result<(), Fail> {
+    let alloc = rt.alloc();
+    assert!(rt; check(&alloc, NULL_MOVES, None, NULL_MOVES_TOLD)?);
+    Ok(())
+}
+
 /// Whenever memory is refused, the import ends, and never returns another script.
 #[test]
 fn each_growth_may_be_refused(rt: HostRuntime) -> Result<(), Fail> {

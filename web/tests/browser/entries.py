@@ -53,18 +53,18 @@ def test_ten_entries_are_ten_rows(user):
     pgn = "% made by hand\n" + "".join((
         game("One", "Réti, Richard", "1. Kg3 Kf5 2. Kf3"), game("Two", "Троицкий", "1. Kg3! {The only move} Kf5"), game("Three", "A", "1. Kh9"),
         game("Four", "B", "1. Kg3", fen=BAD), game("Five", "C", "", "1-0"), game("Six", "D", "1. Kg3 --"), game("Seven", "E", "1. b4 Kf6"),
-        game("Eight", "F", "1. Kg3", "*"), game("Nine", "G", "1. Kg3", "0-1"), game("Ten", "H", "1. Kg3 Kf5 2. Kf3 (2. Kg2) Ke5")))
+        game("Eight", "F", "1. Kg3", "*"), game("Nine", "G", "1. Kg3", "0-1"), game("Ten", "H", "1. Kg3 Kf5 2. Kf3 (2. Kg2 --) Ke5")))
     opened(user, "entries.pgn", pgn)
     list_ = rows(user)
     assert len(list_) == 10, list_
-    assert [row[4].split(":")[0].split(" ")[0] for row in list_] == "sound sound left left holds sound unsound left wrong sound".split(), list_
+    assert [row[4].split(":")[0].split(" ")[0] for row in list_] == "sound sound left left holds left unsound left wrong sound".split(), list_
     assert list_[0][2] == "Réti, Richard" and list_[1][2] == "Троицкий"
-    assert "Kh9" in list_[2][4] and "6 men" in list_[3][4], list_
+    assert "Kh9" in list_[2][4] and "6 men" in list_[3][4] and "null move" in list_[5][4], list_
     assert list_[2][2] == "A" and list_[2][1].startswith("Three (game 3 of") and list_[3][2] == "B", list_
     note = user.text("import")
-    assert "10 games, 7 studies" in note and "game 3, line" in note and "Not kept of this PGN: 1 null move." in note, note
+    assert "10 games, 6 studies" in note and "game 3, line" in note and "Not kept of this PGN: 1 null move." in note, note
     counts = user.js("return [...document.querySelectorAll('#list [data-kind]')].map(b => b.innerText)")
-    assert counts == ["4 sound", "1 unsound", "1 wrong", "1 holds", "3 left out"], counts
+    assert counts == ["3 sound", "1 unsound", "1 wrong", "1 holds", "4 left out"], counts
     user.js("document.querySelector('#list [data-kind=wrong]').click()")
     assert [row[0] for row in rows(user)] == ["9"]
     user.js("document.querySelector('#list [data-kind=wrong]').click()")
