@@ -1,5 +1,5 @@
 //! The line of a node.
-ghost use Rattle.std.specs.Prelude.{◌≡◌, ◌+◌, ◌≤◌, [], true, length, None, IsTrue, IsSome, IfSome, IfNone};
+ghost use Rattle.std.specs.Prelude.{◌≡◌, ◌+◌, ◌≤◌, [], true, false, length, None, IsTrue, IsSome, IfSome, IfNone};
 ghost use Rattle.arrayvec.specs.ArrayVec.{array_vec_len};
 ghost use Rattle.study_moves.specs.Rules.{is_legal};
 ghost use Rattle.study_tree.specs.Tree.{has_spot, spot_at};
@@ -11,7 +11,7 @@ ghost use Rattle.study_facts.specs.Line.{line_to, IsPlaceOf, IsMadeIn};
 use arrayvec::ArrayVec;
 use std::alloc::Allocator;
 use study_board::Position;
-use study_marks::{Aim, Bench, aim_of};
+use study_marks::{Aim, Bench, Goal, aim_of};
 use study_moves::{Move, played};
 
 /// Positions from the root of a study on; a study has at most 256 plies.
@@ -68,6 +68,101 @@ fn walk_to<'b, B: Allocator>(bench: &Bench<'b, B>, steps: &[u16], line: &mut Lin
     here
 }
 
+/// The position of the node at the path. It holds no line of positions, so it takes little of the stack.
+#[inline(never)]
+pub fn position_in<'b, B: Allocator>(bench: &Bench<'b, B>, steps: &[u16]) -> Position
+    requires { IsTrue (has_spot (marked bench.now).tree steps.now) }
+    ensures { result ≡ position_at (marked bench.now) steps.now }
+{
+    let first = bench.start();
+    let mut here = first.position.copied();
+    for depth in 0..steps.len() {
+        match move_to(bench, &steps[..depth + 1]) {
+            None => unreachable!(),
+            Some(m) => {
+                let next = played(&here, m);
+                here = next;
+            }
+        }
+    }
+    here
+}
+
+impl Place {
+    /// A place with an empty line, for `fill_place` to write over.
+    #[inline(never)]
+    pub fn new() -> Self
+        ensures { result.line.items ≡ [] }
+    {
+        Place {
+            aim: Aim {
+                goal: Goal::Draw,
+                hero_first: true,
+            },
+            depth: 0,
+            position: Position::default(),
+            line: ArrayVec::new(),
+        }
+    }
+}
+
+impl Made {
+    /// A move with an empty line, for `fill_made` to write over.
+    #[inline(never)]
+    pub fn new() -> Self
+        ensures { result.before.line.items ≡ [] }
+    {
+        Made {
+            before: Place::new(),
+            played: Move::default(),
+        }
+    }
+}
+
+/// Writes the place of the node at the path where the caller keeps it, and returns whether there is such a node. A line is long, so a caller for
+/// whom the stack matters keeps one place, and this makes no copy of it.
+#[inline(never)]
+pub fn fill_place<'b, B: Allocator>(bench: &Bench<'b, B>, steps: &[u16], place: &mut Place) -> bool
+    requires { place.old.line.items ≡ [] }
+    ensures none { result ≡ false → spot_at (marked bench.now).tree steps.now ≡ None }
+    ensures some { result ≡ true → IsSome (spot_at (marked bench.now).tree steps.now) }
+    ensures place { result ≡ true → IsPlaceOf (marked bench.now) steps.now place.new }
+{
+    let first = bench.start();
+    match bench.shown(steps) {
+        None => false,
+        Some(_) => {
+            place.position = walk_to(bench, steps, &mut place.line);
+            let stipulation = bench.stipulation();
+            place.aim = aim_of(&stipulation, first.position.to_move());
+            place.depth = steps.len();
+            true
+        }
+    }
+}
+
+/// Writes the move that led to the node at the path, and the place of the node before it, where the caller keeps them; returns whether there is such
+/// a node, other than the root.
+#[inline(never)]
+pub fn fill_made<'b, B: Allocator>(bench: &Bench<'b, B>, steps: &[u16], made: &mut Made) -> bool
+    requires { made.old.before.line.items ≡ [] }
+    ensures none { result ≡ false → played_by (spot_at (marked bench.now).tree steps.now) ≡ None }
+    ensures made { result ≡ true → IsMadeIn (marked bench.now) steps.now made.new }
+    ensures legal { result ≡ true → is_legal made.new.before.position made.new.played ≡ true }
+{
+    let first = bench.start();
+    match steps.split_last() {
+        None => false,
+        Some((_, front)) => match move_to(bench, steps) {
+            None => false,
+            Some(m) => {
+                made.played = m;
+                fill_place(bench, front, &mut made.before)
+            }
+        },
+    }
+}
+
 /// The place of the node at the path, `None` if there is no such node.
 #[inline(never)]
 pub fn place_in<'b, B: Allocator>(bench: &Bench<'b, B>, steps: &[u16]) -> Option<Place>
@@ -75,21 +170,11 @@ pub fn place_in<'b, B: Allocator>(bench: &Bench<'b, B>, steps: &[u16]) -> Option
     ensures some { IfSome result (λ _. IsSome (spot_at (marked bench.now).tree steps.now)) }
     ensures place { IfSome result (IsPlaceOf (marked bench.now) steps.now) }
 {
-    let first = bench.start();
-    match bench.shown(steps) {
-        None => None,
-        Some(_) => {
-            let mut line = ArrayVec::new();
-            let position = walk_to(bench, steps, &mut line);
-            let stipulation = bench.stipulation();
-            let aim = aim_of(&stipulation, first.position.to_move());
-            Some(Place {
-                aim,
-                depth: steps.len(),
-                position,
-                line,
-            })
-        }
+    let mut place = Place::new();
+    if fill_place(bench, steps, &mut place) {
+        Some(place)
+    } else {
+        None
     }
 }
 
@@ -100,15 +185,10 @@ pub fn made_in<'b, B: Allocator>(bench: &Bench<'b, B>, steps: &[u16]) -> Option<
     ensures made { IfSome result (IsMadeIn (marked bench.now) steps.now) }
     ensures legal { IfSome result (λ x. is_legal x.before.position x.played ≡ true) }
 {
-    let first = bench.start();
-    match steps.split_last() {
-        None => None,
-        Some((_, front)) => match move_to(bench, steps) {
-            None => None,
-            Some(m) => match place_in(bench, front) {
-                None => None,
-                Some(before) => Some(Made { before, played: m }),
-            },
-        },
+    let mut made = Made::new();
+    if fill_made(bench, steps, &mut made) {
+        Some(made)
+    } else {
+        None
     }
 }

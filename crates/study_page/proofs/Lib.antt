@@ -5,3 +5,4 @@ pub mod TreeWritten
 pub mod OnePage
 pub mod KeyMade
 pub mod PlacesPlain
+pub mod WhereWords

@@ -16,12 +16,12 @@ ghost use Rattle.study_page.specs.Csv.{is_special, doubled, quoted, field, colum
 ghost use Rattle.study_page.specs.Csv.{IsRecord, IsSomeRecord, IsRecordOf};
 
 use crate::fault::PageFault;
-use study_head::known_tag;
 use crate::page::parts_of;
 use crate::verdict::{add_stamp_words, judge};
 use std::alloc::{AllocError, Allocator};
 use std::io::Write;
 use study_facts::{NotMade, ReviewFault};
+use study_head::known_tag;
 use study_marks::{Bench, TagName};
 use study_notation::write_fen;
 use study_pgn::add_stipulation;

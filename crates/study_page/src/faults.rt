@@ -6,10 +6,10 @@ ghost use Rattle.study_page.specs.Rows.{lost_words, bracket_words, named_words, 
 ghost use Rattle.study_page.specs.Rows.{lets_go, mistake_item};
 
 use crate::items::{add_difference, loses_time};
-use study_head::{Ply, add_label};
 use std::alloc::{AllocError, Allocator};
 use study_board::Position;
 use study_facts::{Alternative, Continuation};
+use study_head::{Ply, add_label};
 use study_html::{Element, Html, put_words};
 use study_moves::Move;
 use study_pgn::{add_san, add_value};

@@ -11,12 +11,11 @@ ghost use Rattle.study_page.specs.Rows.{loses_time, forced_words, time_words, mo
 ghost use Rattle.study_page.specs.Rows.{card_title, card_words, card, front_cells, told_move, refuted_item, refuted_items, of_all, refuted_count, try_row};
 ghost use Rattle.study_page.specs.Rows.{points_words, to_move_words, zugzwang_row};
 
-use study_head::draw_mini;
 use crate::signs::is_stalemate;
-use study_head::{Ply, add_label, add_short};
 use std::alloc::{AllocError, Allocator};
 use study_board::{Position, Side};
 use study_facts::{Alternative, Continuation, Zugzwang};
+use study_head::{Ply, add_label, add_short, draw_mini};
 use study_html::{Element, Html, put_words};
 use study_moves::{Move, legal_moves};
 use study_notation::Start;

@@ -17,7 +17,6 @@ ghost use Rattle.study_page.specs.Tree.{solution_words};
 ghost use Rattle.study_page.specs.Page.{solution_part, duals_title, duals_note, foot_words, tables, top, content, IsPage, IsPageOf, IsEntry, IsRow};
 
 use crate::draft::Parts;
-use study_head::{put_figure, put_head};
 use crate::lists::add_entry;
 use crate::tree::put_following;
 use crate::verdict::{judge, put_verdict};
@@ -25,6 +24,7 @@ use crate::walk::add_each;
 use std::alloc::{AllocError, Allocator};
 use std::io::Write;
 use study_facts::{NotMade, ReviewFault};
+use study_head::{put_figure, put_head};
 use study_html::{Element, Html, put_words};
 use study_marks::Bench;
 use study_text::write_text;

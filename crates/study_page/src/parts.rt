@@ -21,14 +21,14 @@ use crate::items::{put_card, put_try, put_zugzwang};
 use crate::rows::{add_keep, add_moves, put_end};
 use crate::signs::{is_defended, is_open_end, is_solution_move, is_try, mark_at};
 use crate::words::add_where;
-use study_head::Ply;
 use std::alloc::{AllocError, Allocator};
 use study_board::Position;
 use study_facts::{
     Alternative, Continuation, Defence, Made, Node, NotMade, Place, Zugzwang, all_lose_time,
-    best_play, children_in, count_where, defences, drawing_moves, made_in, refutations,
+    best_play, children_in, count_where, defences, drawing_moves, fill_made, refutations,
     timed_alternatives, value_at, zugzwang_at,
 };
+use study_head::Ply;
 use study_html::Html;
 use study_marks::{Bench, MoveMark};
 use study_moves::Move;
@@ -194,9 +194,10 @@ pub fn add_move<'a, 'b, A: Allocator, B: Allocator, V: Values>(
     let first = bench.start();
     let value = value_at(bench, steps);
     let listed = is_solution_move(bench, steps);
-    let Some(made) = made_in(bench, steps) else {
+    let made = &mut Made::new();
+    if !fill_made(bench, steps, made) {
         return Ok(());
-    };
+    }
     match mark_at(bench, steps) {
         Some(MoveMark::Dual(k)) => {
             let dual = DualFacts {
@@ -204,10 +205,10 @@ pub fn add_move<'a, 'b, A: Allocator, B: Allocator, V: Values>(
                 others: k,
                 listed,
             };
-            add_dual(alloc, parts, first, &made, dual, values)
+            add_dual(alloc, parts, first, made, dual, values)
         }
         Some(MoveMark::Mistake) => {
-            put_listed_mistake(alloc, &mut parts.faults, first, &made, value, listed)?;
+            put_listed_mistake(alloc, &mut parts.faults, first, made, value, listed)?;
             Ok(())
         }
         Some(MoveMark::Only) => Ok(()),

@@ -7,10 +7,10 @@ ghost use Rattle.study_facts.specs.Words.{move_words};
 ghost use Rattle.study_page.specs.Rows.{is_white, number_words, play_words, keep_it, keep_words, end_row};
 
 use crate::items::put_front_cells;
-use study_head::add_front;
 use std::alloc::{AllocError, Allocator};
 use study_board::{Position, Side};
 use study_facts::{Continuation, add_move};
+use study_head::add_front;
 use study_html::{Element, Html, put_words};
 use study_moves::{legal_moves, played};
 use study_notation::Start;

@@ -9,14 +9,11 @@ ghost use Rattle.study_head.specs.Known.{known};
 ghost use Rattle.study_pgn.specs.Pgn.{stipulation_text};
 ghost use Rattle.study_page.specs.Sheet.{number_words, author_line, key_words, key_of, place_caption, place, IsPlaceOf, IsPlace};
 
-use study_head::draw_board;
 use crate::fault::PageFault;
-use study_head::moves_first;
-use study_head::known_tag;
-use study_head::add_label;
 use std::alloc::{AllocError, Allocator};
 use std::io::Write;
 use study_facts::made_in;
+use study_head::{add_label, draw_board, known_tag, moves_first};
 use study_html::{Drawing, Element, Html, put_words};
 use study_marks::{Bench, TagName};
 use study_pgn::add_stipulation;

@@ -5,9 +5,9 @@ ghost use Rattle.study_moves.specs.Rules.{is_legal};
 ghost use Rattle.study_page.specs.Tree.{move_element, sign_words, dual_words, number_where, played_words, below_words, made_words, list_where, others_of, item_words, tree_words};
 
 use crate::rows::is_white;
-use study_head::add_short;
 use std::alloc::{AllocError, Allocator};
 use study_board::Side;
+use study_head::add_short;
 use study_html::{Element, Html, put_words};
 use study_marks::{MarkedChild, MarkedNode, MoveMark};
 use study_moves::Move;

@@ -13,9 +13,39 @@ ghost use Rattle.study_page.specs.Rows.{FaultItems, Cards, TryRows, ZugzwangRows
 use crate::draft::Parts;
 use crate::parts::{add_move, add_position};
 use std::alloc::Allocator;
-use study_facts::{NotMade, count_at, place_in};
+use study_facts::{NotMade, Place, count_at, fill_place};
 use study_marks::Bench;
 use study_values::Values;
+
+/// What the parts have of the position of the node at the path. It is a call of its own, so that its place, which is large, is not kept while the move
+/// to the node is judged.
+#[inline(never)]
+fn add_there<'a, 'b, A: Allocator, B: Allocator, V: Values>(
+    alloc: &'a A,
+    parts: &mut Parts<'_, A>,
+    bench: &Bench<'b, B>,
+    steps: &[u16],
+    values: &mut V,
+) -> Result<(), NotMade>
+    requires { IsTrue (has_spot (marked bench.now).tree steps.now) }
+    ensures faults { parts.new.faults ≡ parts.old.faults }
+    ensures time { parts.new.time_faults ≡ parts.old.time_faults }
+    ensures duals { parts.new.duals ≡ parts.old.duals }
+    ensures tries { V.is_honest values.old → OnOk result (Grew (TryRows (marked bench.now) steps.now) parts.old.tries parts.new.tries) }
+    ensures zugzwangs { V.is_honest values.old
+        → OnOk result (Grew (ZugzwangRows (marked bench.now) steps.now) parts.old.zugzwangs parts.new.zugzwangs) }
+    ensures defences { V.is_honest values.old → OnOk result (Grew (DefenceRows (marked bench.now) steps.now) parts.old.defences parts.new.defences) }
+    ensures ends { V.is_honest values.old → OnOk result (Grew (EndRows (marked bench.now) steps.now) parts.old.ends parts.new.ends) }
+    ensures asked { HasAsked V.held (within (marked bench.now).start.position V.gives)
+        V.may_fail V.asked_of V.failed_of V.is_honest values.old result values.new }
+{
+    let first = bench.start();
+    let place = &mut Place::new();
+    if !fill_place(bench, steps, place) {
+        unreachable!()
+    }
+    add_position(alloc, parts, bench, steps, place, values)
+}
 
 /// What the parts have of the node at the path. It is a call of its own, so that a ply of `add_each` takes little of the stack.
 #[inline(never)]
@@ -38,14 +68,8 @@ fn add_own<'a, 'b, A: Allocator, B: Allocator, V: Values>(
     ensures asked { HasAsked V.held (within (marked bench.now).start.position V.gives)
         V.may_fail V.asked_of V.failed_of V.is_honest values.old result values.new }
 {
-    let first = bench.start();
-    match place_in(bench, steps) {
-        None => unreachable!(),
-        Some(place) => {
-            add_move(alloc, parts, bench, steps, values)?;
-            add_position(alloc, parts, bench, steps, &place, values)
-        }
-    }
+    add_move(alloc, parts, bench, steps, values)?;
+    add_there(alloc, parts, bench, steps, values)
 }
 
 /// What the parts have of the node at the path and of all below it.

@@ -4,7 +4,7 @@ ghost use Rattle.study_marks.specs.BenchState.{marked};
 ghost use Rattle.study_page.specs.Words.{where_words};
 
 use std::alloc::{AllocError, Allocator};
-use study_facts::made_in;
+use study_facts::{move_to, position_in};
 use study_head::add_label;
 use study_marks::Bench;
 use study_text::Text;
@@ -17,14 +17,15 @@ pub fn add_where<'b, A: Allocator, B: Allocator>(
 ) -> Result<(), AllocError>
     ensures { OnOk result (text.new ≡ text.old ++ where_words (marked bench.now) steps.now) }
 {
-    match made_in(bench, steps) {
+    let first = bench.start();
+    match steps.split_last() {
         None => text.add(b"the start"),
-        Some(made) => add_label(
-            text,
-            bench.start(),
-            made.before.depth,
-            &made.before.position,
-            made.played,
-        ),
+        Some((_, front)) => match move_to(bench, steps) {
+            None => text.add(b"the start"),
+            Some(m) => {
+                let before = position_in(bench, front);
+                add_label(text, first, front.len(), &before, m)
+            }
+        },
     }
 }
