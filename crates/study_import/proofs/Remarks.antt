@@ -13,6 +13,7 @@ use Rattle.study_notation.specs.declared.fault.SanFault.{SanFault}
 use Rattle.study_notation.specs.declared.fault.SanFault.TheVariants as san
 use Rattle.study_marks.specs.declared.tag.TagName.{TagName}
 use Rattle.study_marks.specs.declared.tag.TagName.TheVariants as named
+use Rattle.study_marks.specs.Edits.{is_printable}
 use Rattle.study_marks.specs.Study.{tag_name}
 use Rattle.study_command.specs.Parser.{Asks, command_of}
 use Rattle.study_reply.specs.Names.{fen_name, san_name}
@@ -37,8 +38,9 @@ use Rattle.study_import.specs.declared.aims.AimSource.TheVariants.{Comment, Stip
 use Rattle.study_import.specs.declared.notes.Notes.{Notes}
 use Rattle.study_import.specs.declared.places.Place.{Place}
 use Rattle.study_import.specs.Aims.{source_words}
-use Rattle.study_import.specs.Blocks.{Entry, Told, place_in, text_at, token_name, move_name, line_name, reason_name, stop_name, symbol_words, left_out, place_words, fault_words, counts_words, counts_line, move_counts, counted_words, behind_line, six_names, shown, tag_text, was_of, was_line, head_line, remark_lines, other_tags, stopped_block, men_in, fen_words, at_most, last_line, tail_line}
+use Rattle.study_import.specs.Blocks.{Entry, Told, place_in, text_at, token_name, move_name, line_name, reason_name, stop_name, symbol_words, author_of, author_words, no_colon, left_out, place_words, fault_words, counts_words, counts_line, move_counts, counted_words, behind_line, six_names, shown, tag_text, was_of, was_line, head_line, remark_lines, other_tags, stopped_block, men_in, fen_words, at_most, last_line, tail_line}
 use Rattle.study_import.proofs.Ink.{Ink, decimal_ink, decimal_few}
+use Rattle.study_import.proofs.TagTexts.{short_prints, short_few}
 use Rattle.study_import.proofs.CommandLines.{remark_asked, empty_asked}
 
 -- a byte that is not a control code below the space
@@ -283,9 +285,9 @@ remarks_are e t =
 
 -- ---- games without a study
 
-left_is : (a b words : List ℕ) → (codes "# game " ++ a) ++ (codes ", line " ++ (b ++ (codes ": " ++ (words ++ codes "\n\n"))))
-    ≡ (hashed (codes " game " ++ (a ++ (codes ", line " ++ (b ++ (codes ": " ++ words))))) ++ 10 ∷ []) ++ 10 ∷ []
-left_is a b words = simp append_assoc
+left_is : (a b author words : List ℕ) → (codes "# game " ++ a) ++ (codes ", line " ++ (b ++ (author ++ (codes ": " ++ (words ++ codes "\n\n")))))
+    ≡ (hashed (codes " game " ++ (a ++ (codes ", line " ++ (b ++ (author ++ (codes ": " ++ words)))))) ++ 10 ∷ []) ++ 10 ∷ []
+left_is a b author words = simp append_assoc
 
 two_lines : (t : List ℕ) → IsRemark t → AreLines IsRemark ((t ++ 10 ∷ []) ++ 10 ∷ [])
 two_lines t h = more_lines IsRemark (t ++ 10 ∷ []) (10 ∷ []) (one_line IsRemark (t ++ 10 ∷ []) t refl h) (one_line IsRemark (10 ∷ []) [] refl empty_line)
@@ -293,27 +295,59 @@ two_lines t h = more_lines IsRemark (t ++ 10 ∷ []) (10 ∷ []) (one_line IsRem
 as_lines : (s t : List ℕ) → s ≡ t → AreLines IsRemark t → AreLines IsRemark s
 as_lines s t e h = record { lines = h.lines; each = h.each; text = e ∙ h.text }
 
+-- the author in parentheses
+colon_shows : (b : ℕ) (colon : Bool) → (b == 58) ≡ colon → shows b ≡ true → shows (if colon then 44 else b) ≡ true
+colon_shows b true e h = refl
+colon_shows b false e h = h
+
+no_colons : (bytes : List ℕ) → list_all is_printable bytes ≡ true → list_all shows (map no_colon bytes) ≡ true
+no_colons [] h = refl
+no_colons (b ∷ bs) h =
+    let all = and_parts (is_printable b) (list_all is_printable bs) h in
+    rw (colon_shows b (b == 58) refl (and_parts (nat_le 32 b) (nat_le b 126) all.0).0) (no_colons bs all.1)
+
+name_by : (text : List ℕ) (none : Bool) → length text ≤ 60 → list_all is_printable text ≡ true
+    → IsPart 63 (if none then [] else codes " (" ++ (map no_colon text ++ codes ")"))
+name_by text true few prints = record { shown = refl; few = omega arith }
+name_by text false few prints =
+    joined 2 61 (codes " (") _ (record { shown = refl; few = omega arith })
+    (joined 60 1 (map no_colon text) (codes ")") (record { shown = no_colons text prints; few = omega (arith, length-map text no_colon, few) })
+    (record { shown = refl; few = omega arith }))
+
+author_part : (value : Option (List ℕ)) → IsPart 63 (author_of value)
+author_part None = record { shown = refl; few = omega arith }
+author_part (Some value) =
+    name_by (tag_text (unescaped value)) (length (tag_text (unescaped value)) == 0 || bytes_eq (tag_text (unescaped value)) (codes "?"))
+    (short_few (unescaped value)) (short_prints (unescaped value))
+
+authors : (tags : List Pair) → IsPart 63 (author_words tags)
+unfolding author_words
+authors tags = author_part (value_of (tag_name named.White) tags)
+
 pub left_out_is : (e : Entry) (words : List ℕ) → IsPart 100 words → AreLines IsRemark (left_out e words)
 unfolding left_out
 left_out_is e words h =
-    as_lines _ _ (left_is (decimal e.number) (decimal e.line) words)
-    (two_lines _ (remark_line _ (wider (70 + (71 + (2 + 100))) 1000 _ (omega arith)
-    (game_part e.number (71 + (2 + 100)) _ (line_part e.line (2 + 100) _
-    (joined 2 100 (codes ": ") words (record { shown = refl; few = omega arith }) h))))))
+    as_lines _ _ (left_is (decimal e.number) (decimal e.line) (author_words (tags_of e.text)) words)
+    (two_lines _ (remark_line _ (wider (70 + (71 + (63 + (2 + 100)))) 1000 _ (omega arith)
+    (game_part e.number (71 + (63 + (2 + 100))) _ (line_part e.line (63 + (2 + 100)) _
+    (joined 63 (2 + 100) (author_words (tags_of e.text)) _ (authors (tags_of e.text))
+    (joined 2 100 (codes ": ") words (record { shown = refl; few = omega arith }) h)))))))
 
-fault_is : (a place name symbol : List ℕ) → (codes "# game " ++ a) ++ (codes ", " ++ (place ++ (codes ": " ++ (name ++ (symbol ++ codes "\n\n")))))
-    ≡ (hashed (codes " game " ++ (a ++ (codes ", " ++ (place ++ (codes ": " ++ (name ++ symbol)))))) ++ 10 ∷ []) ++ 10 ∷ []
-fault_is a place name symbol = simp append_assoc
+fault_is : (a place author name symbol : List ℕ)
+    → (codes "# game " ++ a) ++ (codes ", " ++ (place ++ (author ++ (codes ": " ++ (name ++ (symbol ++ codes "\n\n"))))))
+    ≡ (hashed (codes " game " ++ (a ++ (codes ", " ++ (place ++ (author ++ (codes ": " ++ (name ++ symbol))))))) ++ 10 ∷ []) ++ 10 ∷ []
+fault_is a place author name symbol = simp append_assoc
 
-pub fault_words_are : (number : ℕ) (p : Place) (name symbol : List ℕ) → IsPart 20 name → IsPart 44 symbol → AreLines IsRemark (fault_words number p name symbol)
+pub fault_words_are : (e : Entry) (p : Place) (name symbol : List ℕ) → IsPart 20 name → IsPart 44 symbol → AreLines IsRemark (fault_words e p name symbol)
 unfolding fault_words
-fault_words_are number p name symbol h k =
-    as_lines _ _ (fault_is (decimal number) (place_words p) name symbol)
-    (two_lines _ (remark_line _ (wider (70 + (2 + (142 + (2 + (20 + 44))))) 1000 _ (omega arith)
-    (game_part number (2 + (142 + (2 + (20 + 44)))) _
-    (joined 2 (142 + (2 + (20 + 44))) (codes ", ") _ (record { shown = refl; few = omega arith })
-    (joined 142 (2 + (20 + 44)) (place_words p) _ (place_part p)
-    (joined 2 (20 + 44) (codes ": ") (name ++ symbol) (record { shown = refl; few = omega arith }) (joined 20 44 name symbol h k))))))))
+fault_words_are e p name symbol h k =
+    as_lines _ _ (fault_is (decimal e.number) (place_words p) (author_words (tags_of e.text)) name symbol)
+    (two_lines _ (remark_line _ (wider (70 + (2 + (142 + (63 + (2 + (20 + 44)))))) 1000 _ (omega arith)
+    (game_part e.number (2 + (142 + (63 + (2 + (20 + 44))))) _
+    (joined 2 (142 + (63 + (2 + (20 + 44)))) (codes ", ") _ (record { shown = refl; few = omega arith })
+    (joined 142 (63 + (2 + (20 + 44))) (place_words p) _ (place_part p)
+    (joined 63 (2 + (20 + 44)) (author_words (tags_of e.text)) _ (authors (tags_of e.text))
+    (joined 2 (20 + 44) (codes ": ") (name ++ symbol) (record { shown = refl; few = omega arith }) (joined 20 44 name symbol h k)))))))))
 
 -- ---- names of faults
 
@@ -408,7 +442,7 @@ symbol_part stop.OpenVariation text = none_part
 
 pub stopped_lines : (e : Entry) (fault : MovesFault) → AreLines IsRemark (stopped_block e fault).text
 stopped_lines e fault =
-    fault_words_are e.number (place_in e fault.left) (stop_name fault.why) (symbol_words fault.why (text_at e fault.left)) (stop_part fault.why)
+    fault_words_are e (place_in e fault.left) (stop_name fault.why) (symbol_words fault.why (text_at e fault.left)) (stop_part fault.why)
     (symbol_part fault.why (text_at e fault.left))
 
 fen_part : (fault : FenFault) → IsPart 100 (fen_name fault)

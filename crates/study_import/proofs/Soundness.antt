@@ -502,13 +502,13 @@ module _ (given : Option Stipulation) (g : IsGiven given) (e : Entry) where
 
   header_reads : (fault : Option HeaderFault) → Reads (header_block given e fault) (study_behind_header given e.text fault)
   header_reads (Some fault) =
-      remarks_read _ (fault_words_are e.number (place_in e fault.left) (token_name fault.why) [] (token_part fault.why) (record { shown = refl; few = omega arith }))
+      remarks_read _ (fault_words_are e (place_in e fault.left) (token_name fault.why) [] (token_part fault.why) (record { shown = refl; few = omega arith }))
   header_reads None = no_tag (tags_of e.text) (length (tags_of e.text) == 0) refl
 
 sized_reads : (given : Option Stipulation) (number line : ℕ) (text : Option (List ℕ)) → IsGiven given → Reads (sized_block given number line text) (study_of_game given text)
 unfolding study_in
 sized_reads given number line None g =
-    remarks_read _ (fault_words_are number (record { line = line; column = 1 }) (codes "GameTooLarge") [] (record { shown = refl; few = omega arith }) (record { shown = refl; few = omega arith }))
+    remarks_read _ (fault_words_are (record { number = number; line = line; text = [] }) (record { line = line; column = 1 }) (codes "GameTooLarge") [] (record { shown = refl; few = omega arith }) (record { shown = refl; few = omega arith }))
 sized_reads given number line (Some text) g = header_reads given g (record { number = number; line = line; text = text }) (header_fault text)
 
 game_reads : (given : Option Stipulation) (number : ℕ) (game : Game) → IsGiven given → Reads (block_of given number game) (study_of_game given game.text)

@@ -122,17 +122,39 @@ symbol_words other text = []
 abbrev pub game_words : ℕ → List ℕ
 game_words number = codes "# game " ++ decimal number
 
--- `# game N, line L: WORDS`, and an empty line
+-- the text of a tag in the script
+abbrev pub tag_text : List ℕ → List ℕ
+tag_text value = short_text (spelled_out value)
+
+-- a colon ends the place of a remark, so a name has a comma in place of one
+abbrev pub no_colon : ℕ → ℕ
+no_colon b = if b == 58 then 44 else b
+
+-- ` (NAME)`, if the name is known
+abbrev pub name_words : List ℕ → List ℕ
+name_words text = if length text == 0 || bytes_eq text (codes "?") then [] else codes " (" ++ (map no_colon text ++ codes ")")
+
+abbrev pub author_of : Option (List ℕ) → List ℕ
+author_of None = []
+author_of (Some value) = name_words (tag_text (unescaped value))
+
+-- the author of a study is its tag White
+unfoldable pub author_words : List Pair → List ℕ
+author_words tags = author_of (value_of (tag_name tag_named.White) tags)
+
+-- `# game N, line L (AUTHOR): WORDS`, and an empty line
 unfoldable pub left_out : Entry → List ℕ → List ℕ
-left_out e words = game_words e.number ++ (codes ", line " ++ (decimal e.line ++ (codes ": " ++ (words ++ codes "\n\n"))))
+left_out e words =
+    game_words e.number ++ (codes ", line " ++ (decimal e.line ++ (author_words (tags_of e.text) ++ (codes ": " ++ (words ++ codes "\n\n")))))
 
 -- `line L, column C`
 unfoldable pub place_words : Place → List ℕ
 place_words p = codes "line " ++ (decimal p.line ++ (codes ", column " ++ decimal p.column))
 
--- `# game N, line L, column C: NAME at SYMBOL`, and an empty line
-unfoldable pub fault_words : ℕ → Place → List ℕ → List ℕ → List ℕ
-fault_words number p name symbol = game_words number ++ (codes ", " ++ (place_words p ++ (codes ": " ++ (name ++ (symbol ++ codes "\n\n")))))
+-- `# game N, line L, column C (AUTHOR): NAME at SYMBOL`, and an empty line
+unfoldable pub fault_words : Entry → Place → List ℕ → List ℕ → List ℕ
+fault_words e p name symbol =
+    game_words e.number ++ (codes ", " ++ (place_words p ++ (author_words (tags_of e.text) ++ (codes ": " ++ (name ++ (symbol ++ codes "\n\n"))))))
 
 -- the text written for a game, and whether it is a study
 pub record Block : Type 0 where
@@ -207,10 +229,6 @@ six_names = tag_named.Event ∷ tag_named.Site ∷ tag_named.Date ∷ tag_named.
 -- a byte of an original in a remark
 abbrev pub shown : ℕ → ℕ
 shown b = if nat_le b 31 || b == 127 then 32 else b
-
--- the text in the script
-abbrev pub tag_text : List ℕ → List ℕ
-tag_text value = short_text (spelled_out value)
 
 -- `# NAME was: VALUE`, if the text differs from the value without spaces at its ends; at most 255 bytes of it
 abbrev pub was_words : TagName → List ℕ → List ℕ → List ℕ
@@ -318,7 +336,7 @@ aimed_block e start t None = no_study (left_out e (codes "NoStipulation"))
 aimed_block e start t (Some aim) = record { text = block_lines e start aim t; is_study = true }
 
 abbrev pub stopped_block : Entry → MovesFault → Block
-stopped_block e fault = no_study (fault_words e.number (place_in e fault.left) (stop_name fault.why) (symbol_words fault.why (text_at e fault.left)))
+stopped_block e fault = no_study (fault_words e (place_in e fault.left) (stop_name fault.why) (symbol_words fault.why (text_at e fault.left)))
 
 abbrev pub read_block : Option Stipulation → Entry → Start → Result Ended MovesFault → Block
 read_block given e start (Err fault) = stopped_block e fault
@@ -367,11 +385,12 @@ abbrev pub tagged_block : Option Stipulation → Entry → List Pair → Block
 tagged_block given e tags = if length tags == 0 then no_study (left_out e (codes "left out: no tags")) else fen_block given e (value_of (codes "FEN") tags)
 
 abbrev pub header_block : Option Stipulation → Entry → Option HeaderFault → Block
-header_block given e (Some fault) = no_study (fault_words e.number (place_in e fault.left) (token_name fault.why) [])
+header_block given e (Some fault) = no_study (fault_words e (place_in e fault.left) (token_name fault.why) [])
 header_block given e None = tagged_block given e (tags_of e.text)
 
 abbrev pub sized_block : Option Stipulation → ℕ → ℕ → Option (List ℕ) → Block
-sized_block given number line None = no_study (fault_words number (record { line = line; column = 1 }) (codes "GameTooLarge") [])
+sized_block given number line None =
+    no_study (fault_words (record { number = number; line = line; text = [] }) (record { line = line; column = 1 }) (codes "GameTooLarge") [])
 sized_block given number line (Some text) =
     header_block given (record { number = number; line = line; text = text }) (header_fault text)
 

@@ -345,7 +345,7 @@ fn add_aimed<'a, A: Allocator>(
             add_block(alloc, out, entry, start, &aim, told)?;
             Ok(true)
         }
-        None => add_left_out(out, entry, b"NoStipulation"),
+        None => add_left_out(alloc, out, entry, b"NoStipulation"),
     }
 }
 
@@ -453,7 +453,7 @@ fn add_fen_fault<'a, A: Allocator>(
 {
     let mut words = Text::new(alloc);
     add_fen_words(&mut words, fen, fault)?;
-    add_left_out(out, entry, words.as_slice())
+    add_left_out(alloc, out, entry, words.as_slice())
 }
 
 fn add_fen_words<A: Allocator>(
@@ -514,7 +514,7 @@ fn add_tagged<'a, A: Allocator>(
         (value_of (codes "FEN") (tags_of setting.now.entry.text.now))) }
 {
     match tag_value(setting.entry.text, b"FEN") {
-        None => add_left_out(out, &setting.entry, b"left out: no FEN, so 32 men"),
+        None => add_left_out(alloc, out, &setting.entry, b"left out: no FEN, so 32 men"),
         Some(raw) => {
             let fen = fen_in(alloc, raw)?;
             add_start(alloc, out, setting, fen.as_slice())
@@ -533,10 +533,10 @@ fn add_entry<'a, A: Allocator>(
     let entry = &setting.entry;
     if let Some(fault) = header_fault(entry.text) {
         let place = place_in(entry, fault.left);
-        return add_fault(out, entry.number, place, token_name(fault.why), b"");
+        return add_fault(alloc, out, entry, place, token_name(fault.why), b"");
     }
     if count_tags(entry.text) == 0 {
-        return add_left_out(out, entry, b"left out: no tags");
+        return add_left_out(alloc, out, entry, b"left out: no tags");
     }
     add_tagged(alloc, out, setting)
 }
@@ -555,8 +555,13 @@ pub fn add_game<'a, A: Allocator>(
     let line = game.line;
     match game.text {
         None => {
+            let entry = Entry {
+                number,
+                line,
+                text: b"",
+            };
             let place = Place { line, column: 1 };
-            add_fault(out, number, place, b"GameTooLarge", b"")
+            add_fault(alloc, out, &entry, place, b"GameTooLarge", b"")
         }
         Some(text) => {
             let entry = Entry { number, line, text };

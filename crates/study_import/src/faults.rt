@@ -8,6 +8,7 @@ use crate::moves::MoveFault;
 use crate::movetext::{MovesFault, Stop};
 use crate::pieces::{Piece, add_pieces};
 use crate::places::{Entry, Place, place_in, text_at};
+use crate::tags::add_author;
 use crate::taking::Reason;
 use std::alloc::{AllocError, Allocator};
 use study_games::{Run, TokenFault, cut_run, shortened};
@@ -91,7 +92,8 @@ fn add_symbol<A: Allocator>(out: &mut Text<'_, A>, why: Stop, text: &[u8]) -> Re
 
 /// Adds the line with the reason why the whole game is left out.
 #[tactic(auto, unfolding(crate::specs::Blocks::left_out))]
-pub fn add_left_out<A: Allocator>(
+pub fn add_left_out<'a, A: Allocator>(
+    alloc: &'a A,
     out: &mut Text<'_, A>,
     entry: &Entry<'_>,
     words: &[u8],
@@ -105,6 +107,12 @@ pub fn add_left_out<A: Allocator>(
             Piece::Number(entry.number),
             Piece::Bytes(b", line "),
             Piece::Number(entry.line),
+        ],
+    )?;
+    add_author(alloc, out, entry.text)?;
+    add_pieces(
+        out,
+        &[
             Piece::Bytes(b": "),
             Piece::Bytes(words),
             Piece::Bytes(b"\n\n"),
@@ -113,26 +121,33 @@ pub fn add_left_out<A: Allocator>(
     Ok(false)
 }
 
-/// Adds the line that reports a fault at a place.
+/// Adds the line that reports a fault of a game at a place.
 #[tactic(auto, unfolding(crate::specs::Blocks::fault_words, crate::specs::Blocks::place_words))]
-pub fn add_fault<'t, A: Allocator>(
+pub fn add_fault<'a, 't, A: Allocator>(
+    alloc: &'a A,
     out: &mut Text<'_, A>,
-    number: u32,
+    entry: &Entry<'_>,
     place: Place,
     name: &'t [u8],
     symbol: &'t [u8],
 ) -> Result<bool, AllocError>
-    ensures { Adds result out.old out.new (no_study (fault_words number place name.now symbol.now)) }
+    ensures { Adds result out.old out.new (no_study (fault_words (entry_seen entry.now) place name.now symbol.now)) }
 {
     add_pieces(
         out,
         &[
             Piece::Bytes(b"# game "),
-            Piece::Number(number),
+            Piece::Number(entry.number),
             Piece::Bytes(b", line "),
             Piece::Number(place.line),
             Piece::Bytes(b", column "),
             Piece::Number(place.column),
+        ],
+    )?;
+    add_author(alloc, out, entry.text)?;
+    add_pieces(
+        out,
+        &[
             Piece::Bytes(b": "),
             Piece::Bytes(name),
             Piece::Bytes(symbol),
@@ -155,8 +170,9 @@ pub fn add_stop<'a, A: Allocator>(
     add_symbol(&mut symbol, fault.why, text_at(entry, fault.left))?;
     let place = place_in(entry, fault.left);
     add_fault(
+        alloc,
         out,
-        entry.number,
+        entry,
         place,
         stop_name(fault.why),
         symbol.as_slice(),

@@ -16,6 +16,8 @@ pub enum Mask {
     Shown,
     /// A space for each byte other than a line feed.
     Blank,
+    /// A comma for each colon.
+    NoColon,
 }
 
 fn masked(mask: Mask, byte: u8) -> u8
@@ -31,6 +33,7 @@ fn masked(mask: Mask, byte: u8) -> u8
             byte
         },
         Mask::Blank => if byte == b'\n' { b'\n' } else { b' ' },
+        Mask::NoColon => if byte == b':' { b',' } else { byte },
     }
 }
 

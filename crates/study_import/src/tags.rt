@@ -3,7 +3,7 @@ ghost use Rattle.std.specs.Prelude.{◌≡◌, ◌++◌, OnOk};
 ghost use Rattle.std.specs.List.{flat_map};
 ghost use Rattle.std.specs.Option.{option_map};
 ghost use Rattle.study_games.specs.Header.{tags_of};
-ghost use Rattle.study_import.specs.Blocks.{was_words, was_line, six_names, unknown_text, text_or_unknown, tag_value_text, tag_line};
+ghost use Rattle.study_import.specs.Blocks.{name_words, author_words, was_words, was_line, six_names, unknown_text, text_or_unknown, tag_value_text, tag_line};
 
 use crate::masks::{Mask, add_masked};
 use crate::pieces::{Piece, add_pieces};
@@ -14,6 +14,37 @@ use study_text::Text;
 
 /// The number of bytes of an original in a remark.
 const LONGEST_ORIGINAL: usize = 255;
+
+/// Adds ` (NAME)`, if the name is known.
+fn add_name<A: Allocator>(out: &mut Text<'_, A>, text: &[u8]) -> Result<(), AllocError>
+    ensures { OnOk result (out.new ≡ out.old ++ name_words text.now) }
+{
+    if text.is_empty() || text == b"?".as_slice() {
+        return Ok(());
+    }
+    out.add(b" (")?;
+    add_masked(out, Mask::NoColon, text)?;
+    out.add(b")")
+}
+
+/// Adds the author of a game, as the script has it, in parentheses; nothing if the game names none.
+#[tactic(auto, unfolding(crate::specs::Blocks::author_words))]
+pub fn add_author<'a, A: Allocator>(
+    alloc: &'a A,
+    out: &mut Text<'_, A>,
+    game: &[u8],
+) -> Result<(), AllocError>
+    ensures { OnOk result (out.new ≡ out.old ++ author_words (tags_of game.now)) }
+{
+    match tag_value(game, tag_name(TagName::White)) {
+        None => Ok(()),
+        Some(raw) => {
+            let value = unescape(alloc, raw)?;
+            let text = spell_out(alloc, value.as_slice())?;
+            add_name(out, short_text(text.as_slice()))
+        }
+    }
+}
 
 /// Adds the original of a tag, if the text differs.
 fn add_was<A: Allocator>(

@@ -223,3 +223,41 @@ fn each_growth_may_be_refused(rt: HostRuntime) -> Result<(), Fail> {
     assert!(rt; done && refused > 20);
     Ok(())
 }
+
+/// Three games that are left out: one names its author with a colon, one in Latin 1, and one does not name any.
+const AUTHORS: &[u8] = b"[Event \"a\"]
+[White \"Kasparyan: G.\"]
+[FEN \"4k3/8/8/8/8/8/4P3/3QKR2 w - - 0 1\"]
+[Result \"1-0\"]
+
+*
+
+[Event \"b\"]
+[White \"Sokol\xf3v, M.\"]
+[FEN \"8/8/8/4k3/8/4K3/4P3/8 w - - 0 1\"]
+[Result \"1-0\"]
+
+1. Kb6 1-0
+
+[White \"?\"]
+[FEN \"8/8/8/4k3/8/4K3/4P3/8 w - - 0 1\"]
+
+1. Kd3 *
+";
+
+const AUTHORS_TOLD: &[u8] = b"# game 1, line 1 (Kasparyan, G.): left out: 5 men
+
+# game 2, line 13, column 4 (Sokolov, M.): NoSuchMove at Kb6
+
+# game 3, line 15: NoStipulation
+
+# games 3, studies 0
+";
+
+/// The remark on a game that is left out has the author's name as the script would have it, with a comma for a colon.
+#[test]
+fn games_that_are_left_out_have_their_authors(rt: HostRuntime) -> Result<(), Fail> {
+    let alloc = rt.alloc();
+    assert!(rt; check(&alloc, AUTHORS, None, AUTHORS_TOLD)?);
+    Ok(())
+}

@@ -20,7 +20,7 @@ tag Event ?
 tag White ?
 pgn
 
-# game 3, line 31: left out: 7 men
+# game 3, line 31 (Kasparyan, G.): left out: 7 men
 
 # game 4, line 52, column 17: NoSuchMove at \"Kb6\"
 
@@ -32,7 +32,7 @@ const LIST: &str = "Number,Title,Author,FEN,Stipulation,Verdict\r
 1,\"He said \"\"mate\"\", twice\",R & D,k7/8/8/8/8/8/8/K7 w - - 0 1,White to draw,holds\r
 ,\"line 6: delete 7, please\",,,,refused: BadArguments\r
 2,,,k7/8/8/8/8/8/8/K7 b - - 0 5,White to win,wrong\r
-,\"game 3, line 31\",,,,\"left out: 7 men\"\r
+,\"game 3, line 31 (Kasparyan, G.)\",,,,\"left out: 7 men\"\r
 ,\"game 4, line 52, column 17\",,,,\"NoSuchMove at \"\"Kb6\"\"\"\r
 ";
 
