@@ -38,6 +38,11 @@ is_original line =
     begins line (codes "# Event was: ") || (begins line (codes "# Site was: ") || (begins line (codes "# Date was: ")
     || (begins line (codes "# Round was: ") || (begins line (codes "# White was: ") || begins line (codes "# Black was: ")))))
 
+-- `# not taken over: comments 2`, `# behind the result: line 9, column 4`, `# a tail: moves before 7; ..`: what of a game its block does not have
+unfoldable pub is_omission : List ℕ → Bool
+is_omission line =
+    begins line (codes "# not taken over: ") || (begins line (codes "# behind the result: ") || begins line (codes "# a tail: "))
+
 -- any other comment is an author's own
 abbrev pub is_remark : List ℕ → Bool
-is_remark line = is_left_out line || is_original line
+is_remark line = (is_left_out line || is_original line) || is_omission line

@@ -4,7 +4,7 @@ ghost use Rattle.study_command.specs.Parser.{command_of};
 ghost use Rattle.study_script.specs.Replies.{class_told};
 ghost use Rattle.study_report.specs.Told.{kind_in, line_kind, class_kind};
 
-use crate::remarks::{is_left_out, is_original};
+use crate::remarks::{is_left_out, is_omission, is_original};
 use study_command::{Command, read_command};
 use study_material::Class;
 
@@ -27,7 +27,7 @@ pub enum Kind {
 pub fn kind_of(line: &[u8]) -> Kind
     ensures { result ≡ line_kind line.now }
 {
-    if is_left_out(line) || is_original(line) {
+    if is_left_out(line) || is_original(line) || is_omission(line) {
         return Kind::Remark;
     }
     command_kind(line)

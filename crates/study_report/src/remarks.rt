@@ -1,7 +1,7 @@
 //! Comments of an imported script that a report shows.
-ghost use Rattle.std.specs.Prelude.{◌≡◌, ◌≤◌, ◌==◌, length, drop, not};
+ghost use Rattle.std.specs.Prelude.{◌≡◌, ◌≤◌, length, drop};
 ghost use Rattle.std.specs.List.{prefix_len};
-ghost use Rattle.study_report.specs.Remarks.{begins, is_digit, behind_digits, colon_in, subject, statement, is_left_out, is_original};
+ghost use Rattle.study_report.specs.Remarks.{begins, is_digit, behind_digits, colon_in, subject, statement, is_left_out, is_original, is_omission};
 
 fn begins(text: &[u8], word: &[u8]) -> bool
     ensures { result ≡ begins text.now word.now }
@@ -81,4 +81,14 @@ pub fn is_original(line: &[u8]) -> bool
         || begins(line, b"# Round was: ")
         || begins(line, b"# White was: ")
         || begins(line, b"# Black was: ")
+}
+
+/// Whether the line is a remark on what of a game its block does not have.
+#[tactic(auto, unfolding(crate::specs::Remarks::is_omission))]
+pub fn is_omission(line: &[u8]) -> bool
+    ensures { result ≡ is_omission line.now }
+{
+    begins(line, b"# not taken over: ")
+        || begins(line, b"# behind the result: ")
+        || begins(line, b"# a tail: ")
 }

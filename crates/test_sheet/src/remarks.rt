@@ -29,7 +29,8 @@ delete 7
 
 /// The text between the opening and the closing.
 const REMARKS: &str =
-    "<p class=\"note\">White was: Réti, Richard</p><p class=\"note\">Event was: &lt;b&gt; &amp; &quot;Ж&quot;</p>\
+    "<p class=\"note\">not taken over: comments 2</p><p class=\"note\">behind the result: line 9, column 4</p>\
+<p class=\"note\">White was: Réti, Richard</p><p class=\"note\">Event was: &lt;b&gt; &amp; &quot;Ж&quot;</p>\
 <p class=\"warn\">Line 8 was refused: <code>delete 7</code> <b>NoStudy</b>: no stipulation yet</p>\
 <p class=\"warn\">No page for game 2, line 31: left out: 7 men</p>\
 <p class=\"warn\">No page for game 3, line 52, column 17: NoSuchMove at Kb6</p>\
