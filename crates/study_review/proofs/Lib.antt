@@ -8,3 +8,4 @@ pub mod TimeFaultsAll
 pub mod ToldMoves
 pub mod MovesTold
 pub mod WholeReview
+pub mod Trails

@@ -1,3 +1,4 @@
 pub mod Review
 pub mod Told
 pub mod Laws
+pub mod Trail

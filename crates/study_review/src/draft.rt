@@ -2,7 +2,7 @@
 
 use std::alloc::Allocator;
 use study_board::Position;
-use study_facts::Continuation;
+use study_facts::{Continuation, Stand};
 use study_text::Text;
 
 /// The lines of the faults, the number of faults that lose time alone, the lines of the nodes, and the buffer of evaluated moves.
@@ -14,9 +14,10 @@ pub struct Draft<'a, A: Allocator> {
     pub told: Vec<Continuation, &'a A>,
 }
 
-/// The path of a node, and the positions from the root to it, both included.
+/// The path of a node, and the positions and the walk states from the root to it, both included.
 #[derive(Drop)]
 pub struct Trail<'a, A: Allocator> {
     pub steps: Vec<u16, &'a A>,
     pub line: Vec<Position, &'a A>,
+    pub stands: Vec<Stand, &'a A>,
 }

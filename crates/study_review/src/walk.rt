@@ -1,5 +1,7 @@
 //! One walk of a study, in written order: facts of a node are passed on to the nodes below it.
-ghost use Rattle.std.specs.Prelude.{◌≡◌, ◌++◌, ◌∷◌, [], ◌<◌, length, Some, OnOk, IfOk, IfErr};
+ghost use Rattle.std.specs.Prelude.{◌≡◌, ◌<◌, ◌-◌, List, ◌++◌, ◌∷◌, [], length, take, vec_len, Some, OnOk, IfOk, IfErr};
+ghost use Rattle.study_board.specs.Position.{Position as APosition};
+ghost use Rattle.study_tree.specs.Edits.{width};
 ghost use Rattle.study_tree.specs.Tree.{spot_at};
 ghost use Rattle.study_marks.specs.Goals.{aim_of};
 ghost use Rattle.study_marks.specs.BenchState.{marked};
@@ -10,7 +12,9 @@ ghost use Rattle.study_facts.specs.Made.{Grew, Rose, HasAsked};
 ghost use Rattle.study_facts.specs.Nodes.{front_of, NodeLines, FaultLines};
 ghost use Rattle.study_facts.specs.Order.{paths_from, LinesOfEach, SumOfEach, AreTimeFaults, written_order};
 ghost use Rattle.study_facts.specs.Stand.{arrival_of, IsStand};
+ghost use Rattle.study_facts.specs.declared.stand.Stand.{Stand as AStand};
 ghost use Rattle.study_facts.specs.TimeFaults.{IsTimeFault};
+ghost use Rattle.study_review.specs.Trail.{IsAt, WentTo};
 
 use crate::draft::{Draft, Trail};
 use crate::moves::{Step, add_move};
@@ -85,7 +89,19 @@ fn add_lines<'a, 'b, A: Allocator, B: Allocator, V: Values>(
     )
 }
 
-/// Goes to the child at this place, and writes its lines. It is a call of its own, so that a ply of `add_below` takes little of the stack.
+/// The walk state of the node where the walk is.
+fn last_stand<'t, A: Allocator>(trail: &'t Trail<'_, A>) -> &'t Stand
+    requires { 0 < length trail.now.stands.items }
+    ensures { (front : List AStand) × (trail.now.stands.items ≡ front ++ result.now ∷ []) }
+{
+    match trail.stands.as_slice().split_last() {
+        None => unreachable!(),
+        Some((last, _)) => last,
+    }
+}
+
+/// Goes to the child at this place, and writes its lines. It is a call of its own, and its walk state goes to the trail, so that a ply of `add_below`
+/// takes little of the stack.
 #[inline(never)]
 fn enter<'a, 'b, A: Allocator, B: Allocator, V: Values>(
     alloc: &'a A,
@@ -93,18 +109,17 @@ fn enter<'a, 'b, A: Allocator, B: Allocator, V: Values>(
     trail: &mut Trail<'a, A>,
     bench: &Bench<'b, B>,
     aim: &Aim,
-    before: &Stand,
     place: u16,
     values: &mut V,
-) -> Result<Stand, NotMade>
+) -> Result<(), NotMade>
     requires aim { aim.now ≡ aim_of (marked bench.now) }
     requires line { trail.old.line.items ≡ line_to (marked bench.now) trail.old.steps.items }
-    requires before { IsStand (marked bench.now) trail.old.steps.items before.now }
-    requires there { place < before.now.children }
-    ensures steps { IfOk result (λ x. trail.new.steps.items ≡ trail.old.steps.items ++ place ∷ []) }
-    ensures line { IfOk result (λ x. trail.new.line.items ≡ trail.old.line.items ++ x.position ∷ []) }
-    ensures line_to { IfOk result (λ x. trail.new.line.items ≡ line_to (marked bench.now) trail.new.steps.items) }
-    ensures stand { IfOk result (IsStand (marked bench.now) trail.new.steps.items) }
+    requires stands { IsAt (marked bench.now) trail.old.steps.items trail.old.stands.items }
+    requires there { place < width (below_at (marked bench.now).tree.below trail.old.steps.items) }
+    ensures steps { OnOk result (trail.new.steps.items ≡ trail.old.steps.items ++ place ∷ []) }
+    ensures line { OnOk result ((p : APosition) × (trail.new.line.items ≡ trail.old.line.items ++ p ∷ [])) }
+    ensures line_to { OnOk result (trail.new.line.items ≡ line_to (marked bench.now) trail.new.steps.items) }
+    ensures stands { OnOk result (WentTo (marked bench.now) trail.new.steps.items trail.old.stands.items trail.new.stands.items) }
     ensures faults { V.is_honest values.old → OnOk result (Grew (FaultLines (marked bench.now) trail.new.steps.items) draft.old.faults draft.new.faults) }
     ensures time { V.is_honest values.old → OnOk result (Rose (IsTimeFault (marked bench.now) trail.new.steps.items)
         draft.old.time_faults draft.new.time_faults) }
@@ -118,6 +133,7 @@ fn enter<'a, 'b, A: Allocator, B: Allocator, V: Values>(
     match arrival_at(bench, steps) {
         None => unreachable!(),
         Some(by) => {
+            let before = last_stand(trail);
             let here = stand_after(bench, aim, steps, before, &by);
             let line = trail.line.as_slice();
             add_lines(
@@ -132,26 +148,39 @@ fn enter<'a, 'b, A: Allocator, B: Allocator, V: Values>(
                 values,
             )?;
             trail.line.push(here.position.copied())?;
-            Ok(here)
+            trail.stands.push(here)?;
+            Ok(())
         }
     }
 }
 
-/// The lines of all nodes below the node of this walk state.
+/// Goes back to the node before the one where the walk is. It is a call of its own, since what a `pop` returns would take of the stack of each ply.
+#[inline(never)]
+fn leave<A: Allocator>(trail: &mut Trail<'_, A>)
+    ensures steps { trail.new.steps.items ≡ take (vec_len trail.old.steps - 1) trail.old.steps.items }
+    ensures line { trail.new.line.items ≡ take (vec_len trail.old.line - 1) trail.old.line.items }
+    ensures stands { trail.new.stands.items ≡ take (vec_len trail.old.stands - 1) trail.old.stands.items }
+{
+    trail.stands.pop();
+    trail.line.pop();
+    trail.steps.pop();
+}
+
+/// The lines of all nodes below the node where the walk is.
 fn add_below<'a, 'b, A: Allocator, B: Allocator, V: Values>(
     alloc: &'a A,
     draft: &mut Draft<'a, A>,
     trail: &mut Trail<'a, A>,
     bench: &Bench<'b, B>,
     aim: &Aim,
-    stand: &Stand,
     values: &mut V,
 ) -> Result<(), NotMade>
     requires aim { aim.now ≡ aim_of (marked bench.now) }
     requires line { trail.old.line.items ≡ line_to (marked bench.now) trail.old.steps.items }
-    requires stand { IsStand (marked bench.now) trail.old.steps.items stand.now }
+    requires stands { IsAt (marked bench.now) trail.old.steps.items trail.old.stands.items }
     ensures steps { OnOk result (trail.new.steps.items ≡ trail.old.steps.items) }
     ensures line { OnOk result (trail.new.line.items ≡ trail.old.line.items) }
+    ensures stands { OnOk result (trail.new.stands.items ≡ trail.old.stands.items) }
     ensures faults { V.is_honest values.old → OnOk result (Grew (LinesOfEach (FaultLines (marked bench.now))
         (paths_from trail.old.steps.items 0 (below_at (marked bench.now).tree.below trail.old.steps.items))) draft.old.faults draft.new.faults) }
     ensures time { V.is_honest values.old → OnOk result (Rose (SumOfEach (IsTimeFault (marked bench.now))
@@ -162,11 +191,10 @@ fn add_below<'a, 'b, A: Allocator, B: Allocator, V: Values>(
     ensures asked { HasAsked V.held (within (marked bench.now).start.position V.gives)
         V.may_fail V.asked_of V.failed_of V.is_honest values.old result values.new }
 {
-    for place in 0..stand.children {
-        let next = enter(alloc, draft, trail, bench, aim, stand, place, values)?;
-        add_below(alloc, draft, trail, bench, aim, &next, values)?;
-        trail.line.pop();
-        trail.steps.pop();
+    for place in 0..last_stand(trail).children {
+        enter(alloc, draft, trail, bench, aim, place, values)?;
+        add_below(alloc, draft, trail, bench, aim, values)?;
+        leave(trail);
     }
     Ok(())
 }
@@ -212,17 +240,21 @@ fn add_root<'a, 'b, A: Allocator, B: Allocator, V: Values>(
     )
 }
 
-/// The trail of the root, whose position this is.
-fn root_trail<'a, A: Allocator>(alloc: &'a A, position: &Position) -> Result<Trail<'a, A>, NotMade>
+/// The trail of the root, whose walk state this is.
+fn root_trail<'a, A: Allocator>(alloc: &'a A, root: Stand) -> Result<Trail<'a, A>, NotMade>
     ensures steps { IfOk result (λ trail. trail.steps.items ≡ []) }
-    ensures line { IfOk result (λ trail. trail.line.items ≡ position.now ∷ []) }
+    ensures line { IfOk result (λ trail. trail.line.items ≡ root.position ∷ []) }
+    ensures stands { IfOk result (λ trail. trail.stands.items ≡ root ∷ []) }
     ensures memory { IfErr result (λ reason. reason ≡ NotMade.OutOfMemory) }
 {
     let mut line = Vec::new(alloc);
-    line.push(position.copied())?;
+    line.push(root.position.copied())?;
+    let mut stands = Vec::new(alloc);
+    stands.push(root)?;
     Ok(Trail {
         steps: Vec::new(alloc),
         line,
+        stands,
     })
 }
 
@@ -246,7 +278,7 @@ pub fn add_all<'a, 'b, A: Allocator, B: Allocator, V: Values>(
     let aim = aim_in(bench);
     let stand = root_stand(bench, count_at(bench, &[]));
     add_root(alloc, draft, bench, &aim, &stand, root, values)?;
-    let mut trail = root_trail(alloc, &stand.position)?;
-    add_below(alloc, draft, &mut trail, bench, &aim, &stand, values)?;
+    let mut trail = root_trail(alloc, stand)?;
+    add_below(alloc, draft, &mut trail, bench, &aim, values)?;
     Ok(())
 }

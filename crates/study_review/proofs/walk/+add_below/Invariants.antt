@@ -24,6 +24,7 @@ invariant-loop-place g l = record {
       (below_at (marked l.bench).tree.below l.fn.trail.steps.items) l.place l.fn.draft.time_faults l.draft.time_faults;
   steps : l.trail.steps.items ≡ l.fn.trail.steps.items;
   line : l.trail.line.items ≡ l.fn.trail.line.items;
+  stands : l.trail.stands.items ≡ l.fn.trail.stands.items;
   told : AllTold g.V.Values.held (within (marked l.bench).start.position g.V.Values.gives) g.V.Values.may_fail g.V.Values.asked_of g.V.Values.failed_of g.V.Values.is_honest
       l.fn.values l.values;
 }

@@ -2,8 +2,14 @@ use Rattle.study_marks.specs.BenchState.{marked}
 use Rattle.study_facts.specs.Asked.{within}
 use Rattle.study_facts.proofs.Asking.{all-then, asks-then, same-asks}
 use Rattle.study_facts.proofs.TimeCounted.{time-all}
+use Rattle.study_review.proofs.Trails.{root-stands}
 use Rattle.study_review.proofs.WholeReview.{faults-all, nodes-all}
 use Rattle.study_review.proofs.walk.add_all.Goals as goal
+
+pub add_below-requires-clause-stands : goal.add_below-requires-clause-stands
+add_below-requires-clause-stands g c =
+    root-stands (marked c.args.bench.now) c.in_ok-trail.trail.steps.items c.in_ok-trail.trail.stands.items c.root_stand-stand.result
+    c.in_ok-trail.ensures.steps c.in_ok-trail.ensures.stands c.root_stand-stand.ensures
 
 pub returns-in_err-add_below-clause-asked : goal.returns-in_err-add_below-clause-asked
 returns-in_err-add_below-clause-asked g c =
