@@ -1,24 +1,25 @@
 // @ts-check
 // For other programs: `studyboard` on window. Promises of texts, as the program writes them.
-import { app, doc, idle, parts, PAGES, study } from './app.js';
-import { editsTo, fensOf, gamesOf, joined, linesOf } from './script.js';
+import { idle } from './actions.js';
+import { app, doc, services, PAGES, study } from './state.js';
+import { editsTo, fensOf, gamesOf, toText, linesOf } from './script.js';
 import { openText } from './opening.js';
 
 /**
- * The tables of a script's positions are laid, and built where they lack.
+ * The tables of a script's positions are loaded, and built where they lack.
  * @param {string} script
  */
-const tablesOf = async script => { await parts.shelf.ready(fensOf(linesOf(script))); };
+const tablesOf = async script => { await services.tables.ready(fensOf(linesOf(script))); };
 /**
  * @param {string} request
  * @param {string} script
  * @param {import('./engine.js').Core} core
  * @param {number} pages
  */
-async function answer(request, script, core = parts.core, pages = PAGES) {
-  const told = await core.answer(request, script, pages);
-  if (told.ended !== 'done' && told.ended !== 'refused') throw new Error(told.ended);
-  return told.text;
+async function answer(request, script, core = services.core, pages = PAGES) {
+  const reply = await core.answer(request, script, pages);
+  if (reply.ended !== 'done' && reply.ended !== 'refused') throw new Error(reply.ended);
+  return reply.text;
 }
 /**
  * The facts of a script's studies, from the worker of facts.
@@ -27,8 +28,8 @@ async function answer(request, script, core = parts.core, pages = PAGES) {
  */
 async function factsOf(request, script) {
   await tablesOf(script);
-  await parts.shelf.lay(await parts.shelf.classesOf(fensOf(linesOf(script))), parts.facts);
-  return answer(request, script, parts.facts);
+  await services.tables.load(await services.tables.classesOf(fensOf(linesOf(script))), services.facts);
+  return answer(request, script, services.facts);
 }
 /** @param {() => import('./engine.js').Core} spawn */
 export function makeApi(spawn) {
@@ -39,14 +40,14 @@ export function makeApi(spawn) {
      * @param {number} [pages]
      */
     async run(script, pages) {
-      const core = spawn(), names = await parts.shelf.store.names();
+      const core = spawn(), names = await services.tables.store.names();
       try {
         const wanted = new Set([...script.matchAll(/^ *load +(\w+) *\r?$/gm)].map(m => m[1]));
-        await parts.shelf.lay(names.filter(name => wanted.has(name)), core);
-        const told = await core.ask('run', script, pages || 0);
-        for (const [name, bytes] of told.saved) await parts.shelf.keep(name, bytes);
-        if (told.ended !== 'done') throw new Error(told.ended);
-        return new TextDecoder().decode(told.bytes);
+        await services.tables.load(names.filter(name => wanted.has(name)), core);
+        const reply = await core.ask('run', script, pages || 0);
+        for (const [name, bytes] of reply.saved) await services.tables.keep(name, bytes);
+        if (reply.ended !== 'done') throw new Error(reply.ended);
+        return new TextDecoder().decode(reply.bytes);
       } finally { core.end(); }
     },
     /**
@@ -73,7 +74,7 @@ export function makeApi(spawn) {
      * @param {string} stipulation      as `white win`, `black draw`, `white mate 3`
      */
     async survey(fen, square, stipulation) {
-      await parts.shelf.ready([fen]);
+      await services.tables.ready([fen]);
       return answer(`survey ${square} ${stipulation} ${fen}`, '');
     },
     /**
@@ -82,14 +83,14 @@ export function makeApi(spawn) {
      * @param {'win' | 'draw'} goal
      */
     async row(fen, goal) {
-      await parts.shelf.ready([fen]);
+      await services.tables.ready([fen]);
       return answer(`row ${goal} ${fen}`, '');
     },
     /**
      * The tables that a script's positions need.
      * @param {string} script
      */
-    tables: script => parts.shelf.classesOf(fensOf(linesOf(script))),
+    tables: script => services.tables.classesOf(fensOf(linesOf(script))),
     /**
      * Opens a script in the board; undo brings the old one back.
      * @param {string} script
@@ -98,13 +99,13 @@ export function makeApi(spawn) {
     /** The script that is shown. */
     script: () => doc().lines.join('\n') + '\n',
     /** The lines of the study that is looked at, alone, and the path of its node. */
-    study: () => (study() ? joined(editsTo(doc().lines, study())) : ''),
+    study: () => (study() ? toText(editsTo(doc().lines, study())) : ''),
     path: () => doc().path,
     /** The games, as `Save PGN` writes them. */
     pgn: () => gamesOf(doc()),
-    /** Settles when all that was asked for before is done. */
+    /** Settles when all that was requested before is done. */
     idle,
     /** What the last answer took, for measures. */
-    last: () => ({...parts.core.last, facts: {...parts.facts.last}, reviewed: app.review !== null}),
+    last: () => ({...services.core.last, facts: {...services.facts.last}, reviewed: app.review !== null}),
   });
 }

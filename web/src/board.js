@@ -2,8 +2,9 @@
 // The board: its drawing, and the way from fingers and keys to squares.
 import { $, h, svg } from './dom.js';
 import { isWhite, manName, menOf, sideOf, spokenPosition, squareName, NAMES } from './fen.js';
-import { foreseeMoves } from './answers.js';
-import { app, change, doc, node, parts, say, study } from './app.js';
+import { prefetchMoves } from './prefetch.js';
+import { change } from './actions.js';
+import { app, doc, node, services, say, study } from './state.js';
 import { insertMoves } from './edits.js';
 import { draftFen, moveDraft, placeAt, removeAt } from './setup.js';
 import { holds } from './words.js';
@@ -153,7 +154,7 @@ function pressed(e) {
   if (app.chosen === null) notMovable(letter, s);
   if (app.chosen !== null) {
     hold = { from: s, letter, at: [e.clientX, e.clientY], over: s };
-    foreseeMoves(movesFrom(s), null);
+    prefetchMoves(movesFrom(s), null);
   }
   showBoard();
 }
@@ -167,7 +168,7 @@ function notMovable(letter, s) {
   if (!letter || !view || app.chosen === s || view.over || movesFrom(s).length) return;
   say('board',
       isWhite(letter) === (side === 'White') ? `The ${manName(letter).split(' ')[1]} on ${squareName(s)} has no legal move.` : `It is ${side}'s move.`);
-  parts.show();
+  services.show();
 }
 /** @param {PointerEvent} e */
 function dragged(e) {
@@ -179,7 +180,7 @@ function dragged(e) {
   use.classList.add('drag');
   if (use.nextSibling) use.parentNode.append(use);
   const over = squareOf(e);
-  if (hold.over !== over && hold.from !== null && !app.setup) foreseeMoves(movesFrom(hold.from), over);
+  if (hold.over !== over && hold.from !== null && !app.setup) prefetchMoves(movesFrom(hold.from), over);
   hold.over = over;
   use.setAttribute('x', (e.clientX - b.left) * unit - 22);
   use.setAttribute('y', (e.clientY - b.top) * unit - 24);
@@ -194,12 +195,12 @@ function released(e) {
   if (s === null || s === from || play(from, s)) return showBoard();
   app.chosen = null;
   say('board', `${letter.toUpperCase().replace('P', '')}${squareName(s)}: not a legal move here.`);
-  parts.show();
+  services.show();
 }
 export function listen() {
   document.addEventListener('pointermove', dragged);
   document.addEventListener('pointerup', released);
-  document.addEventListener('pointercancel', () => { hold = null; parts.show(); });
+  document.addEventListener('pointercancel', () => { hold = null; services.show(); });
   document.addEventListener('pointerdown', e => { if (!(/** @type {Element} */ (e.target).closest('.choose'))) closeChoice(); }, true);
 }
 

@@ -2,7 +2,7 @@
 // The page's side of the proved core: one instance, its memory, the tables in it, and calls over them.
 //
 // Memory, from below: the core's own (up to __heap_base) | the files of tables, one after another | what a call needs: request, script,
-// directory, room for the text, and the blocks that the core asks for while it runs. Nothing of the core outlives a call, so each call
+// directory, room for the text, and the blocks that the core requests while it runs. Nothing of the core outlives a call, so each call
 // begins again at the end of the tables. What the page owes: each block new within its call, aligned, inside of the memory, never null;
 // no export is called during a call; after a trap a new instance.
 
@@ -95,7 +95,7 @@ export function makeCore(module, most = 2 ** 32 - PAGE) {
    * @param {string} name
    * @param {Uint8Array} bytes
    */
-  function lay(name, bytes) {
+  function load(name, bytes) {
     if (CLASSES.indexOf(name) < 0) throw new Error('no class ' + name);
     drop(name);
     top = filled;
@@ -123,25 +123,28 @@ export function makeCore(module, most = 2 ** 32 - PAGE) {
   function once(request, script, pages, size) {
     top = filled;
     saved = new Map();
-    const numbers = directory(), asked = put(request), text = put(script), list = put(numbers), out = need(size);
+    const numbers = directory();
+    const requestAt = put(request), scriptAt = put(script), directoryAt = put(numbers), answerAt = need(size);
     const slice = (/** @type {number} */ at, /** @type {number} */ n) => [BigInt(at), BigInt(n)];
-    const n = Number(run(...slice(asked, request.length), ...slice(text, script.length), ...slice(list, numbers.length / 8), ...slice(base, filled - base),
-      pages, ...slice(out, size)));
-    return { length: n, bytes: bytesAt(out, Math.min(n, size)) };
+    const n = Number(run(
+      ...slice(requestAt, request.length), ...slice(scriptAt, script.length), ...slice(directoryAt, numbers.length / 8),
+      ...slice(base, filled - base), pages, ...slice(answerAt, size)));
+    return { length: n, bytes: bytesAt(answerAt, Math.min(n, size)) };
   }
   /**
-   * An answer over the tables, read by pages or whole (0). Where the text was longer than its room it is asked once more.
+   * An answer over the tables, read by pages or whole (0). Where the text was longer than its room the request is made once more.
    * @param {string} request
    * @param {string | Uint8Array} script
    * @param {number} pages
    */
   function answer(request, script, pages) {
-    const asked = encode(request), text = typeof script === 'string' ? encode(script) : script, first = Math.max(1 << 18, 16 * text.length);
-    let done = once(asked, text, pages, first);
-    if (done.length > first) done = once(asked, text, pages, done.length);
+    const words = encode(request), text = typeof script === 'string' ? encode(script) : script;
+    const first = Math.max(1 << 18, 16 * text.length);
+    let done = once(words, text, pages, first);
+    if (done.length > first) done = once(words, text, pages, done.length);
     if (!done.length) throw new Error('no memory is left');
     const line = done.bytes.indexOf(10);
     return { bytes: done.bytes.slice(line + 1), ended: ending(new TextDecoder().decode(done.bytes.subarray(0, line))), saved: [...saved] };
   }
-  return { lay, drop, answer, size: () => memory.buffer.byteLength };
+  return { load, drop, answer, size: () => memory.buffer.byteLength };
 }

@@ -1,7 +1,7 @@
 // @ts-check
 // The position that is shown as a picture of its own, and as a FEN to copy.
 import { $, button, download, h } from './dom.js';
-import { parts, say } from './app.js';
+import { services, say } from './state.js';
 import { shownFen } from './board.js';
 
 const STYLE = /** @type {Record<string, string>} */ ({
@@ -44,14 +44,14 @@ async function save(kind) {
   const name = shownFen().split(' ')[0].replace(/\//g, '-'), svg = diagramSvg();
   try { download(`${name}.${kind}`, kind === 'svg' ? svg : await picture(svg)); } catch (fault) {
     say('board', `No picture: ${/** @type {Error} */ (fault).message}.`);
-    parts.show();
+    services.show();
   }
 }
 async function copyFen() {
   const fen = shownFen();
   const copied = await navigator.clipboard?.writeText(fen).then(() => true, () => false);
   say('board', copied ? `Copied: ${fen}` : `The browser does not let this page copy. The FEN: ${fen}`, Boolean(copied));
-  parts.show();
+  services.show();
 }
 /** What can be done with the position that is shown. */
 export const diagramView = () => [

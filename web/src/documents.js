@@ -1,9 +1,10 @@
 // @ts-check
 // Which document this page works on: kept at each change, found again after a reload, and chosen from the list of all.
 import { $ } from './dom.js';
-import { app, arrive, doc, parts, say, work } from './app.js';
+import { arrive, work } from './actions.js';
+import { app, doc, services, say } from './state.js';
 import { freshId, makeKeeper } from './keep.js';
-import { begin as firstOf } from './past.js';
+import { begin as firstOf } from './history.js';
 import { fensOf } from './script.js';
 import { begin, draftKept } from './setup.js';
 import { blank } from './state.js';
@@ -34,7 +35,7 @@ export const { list, headAt } = keeper;
 export function holdLock() {
   if (navigator.locks) navigator.locks.request(LOCK + page, () => new Promise(() => {})).catch(() => {});
 }
-/** The other pages that stand open now, as far as the browser tells. */
+/** The other pages that stand open now, as far as the browser says. */
 export async function otherPages() {
   const held = navigator.locks ? (await navigator.locks.query().catch(() => ({ held: [] }))).held || [] : [];
   return new Set(held.map(lock => lock.name || '')
@@ -47,7 +48,7 @@ export async function otherPages() {
 export function keep() {
   const draft = draftKept(), own = ownDraft() === doc().id ? '' : ownDraft();
   let kept = true;
-  if (doc().id) kept = keeper.keep(app.history, own ? null : draft, parts.shelf.named(fensOf(doc().lines)));
+  if (doc().id) kept = keeper.keep(app.history, own ? null : draft, services.tables.named(fensOf(doc().lines)));
   if (own && draft) kept = keeper.keep(firstOf({ ...blank, id: own }), draft, []) && kept;
   else if (own && headAt(keeper.placeOf(own))) keeper.remove(keeper.placeOf(own));
   $('unkept').hidden = kept;
@@ -94,7 +95,7 @@ function moved(old) {
 export async function firstDocument() {
   moved(SESSION);
   const before = pointer(), [last] = before ? [before.id && headAt(before.id)] : list();
-  if (last) parts.shelf.fetchAhead(last.tables);
+  if (last) services.tables.fetchAhead(last.tables);
   const others = before ? null : await otherPages();
   const kept = last && !(others && others.size) ? keeper.open(last.id, false) : null,
         own = before && before.draft ? keeper.open(before.draft, false) : null;
@@ -109,16 +110,16 @@ export async function firstDocument() {
  */
 export const openKept = id => work(async () => {
   const head = headAt(id), copy = Boolean(head && (await otherPages()).has(head.page)), kept = keeper.open(id, copy);
-  if (!kept) { say('board', 'This document is not kept any more.'); return parts.show(); }
+  if (!kept) { say('board', 'This document is not kept any more.'); return services.show(); }
   app.setup = null;
   const draft = kept.head.draft, empty = !kept.history.now.lines.length;
   await arrive(empty ? firstOf(blank) : kept.history);
   if (draft) begin(draft);
   if (copy) say('board', 'It is open in another window; this is a copy of it.', true);
-  parts.show();
+  services.show();
 });
 /** @param {string} id */
-export const forget = id => { keeper.remove(id); parts.show(); };
+export const forget = id => { keeper.remove(id); services.show(); };
 /** The document that the set-up becomes, where that is a new one. */
 const ownDraft = () => (app.setup && app.setup.anew && !app.setup.more ? app.setup.id : '');
 /** @param {string} id */

@@ -1,9 +1,9 @@
 // @ts-check
 // The list of the documents that this browser keeps.
 import { $, button, h, put } from './dom.js';
-import { parts } from './app.js';
+import { services } from './state.js';
 import { forget, isHere, list, openKept, otherPages } from './documents.js';
-import { table } from './facts_view.js';
+import { table } from './review_view.js';
 /** @typedef {import('./keep.js').Head} Head */
 
 let elsewhere = new Set(), sure = '';
@@ -28,7 +28,7 @@ function rowView(head) {
     if (sure === head.id) forget(head.id);
     else {
       sure = head.id;
-      parts.show();
+      services.show();
     }
   }, { class: 'chip act', 'aria-label': `Remove ${name}` });
   const where = here ? 'open here' : other ? 'open in another window' : '';

@@ -50,7 +50,7 @@ export const svg = (tag, props, ...kids) => fill(document.createElementNS('http:
  */
 export const put = (id, ...kids) => $(id).replaceChildren(...some(kids));
 /**
- * What is to stand at a place: its key tells all that it shows of its own, `make` makes it, and `kids` come into it.
+ * An element that is wanted at a place: its key has all that it shows of its own, `make` makes it, `kids` come into it.
  * @typedef {{key: string, make: () => any, kids?: Wanted[]}} Wanted
  */
 /** @type {WeakMap<Node, string>} */
@@ -60,7 +60,7 @@ const madeFrom = new WeakMap();
  * @param {any} parent
  * @param {Wanted[]} wanted
  */
-export function mend(parent, wanted) {
+export function patch(parent, wanted) {
   let at = parent.firstChild, keys = /** @type {Set<string | undefined> | null} */ (null);
   for (const { key, make, kids } of wanted) {
     while (at && madeFrom.get(at) !== key) {
@@ -70,7 +70,7 @@ export function mend(parent, wanted) {
     }
     const there = at && madeFrom.get(at) === key, child = there ? at : parent.insertBefore(make(), at);
     if (!there) madeFrom.set(child, key);
-    if (kids) mend(child, kids);
+    if (kids) patch(child, kids);
     at = child.nextSibling;
   }
   while (at) at = without(at);

@@ -1,10 +1,10 @@
 // @ts-check
 // A study begins earlier: the moves that can have led to its start, each found by the program as a legal move of the
 // position before. Captures are not looked for: they would need one man more.
-import { parts, PAGES } from './state.js';
+import { services, PAGES } from './state.js';
 import { isWhite, menOf, placement } from './fen.js';
-import { readView } from './replies.js';
-import { joined } from './script.js';
+import { readView } from './parse_answers.js';
+import { toText } from './script.js';
 /** @typedef {{fen: string, san: string, mark: string}} Before      a position, and the move that leads from it; its mark in the study */
 
 /**
@@ -32,11 +32,11 @@ export function placesBefore(fen) {
  */
 export async function movesBefore(fen, aim) {
   const places = placesBefore(fen), texts = places.map(place => `position ${place.fen}\n`);
-  const { text } = await parts.core.answer('run', joined(texts.map(line => line.trim())), 1), replies = text.split('\n');
+  const { text } = await services.core.answer('run', toText(texts.map(line => line.trim())), 1), replies = text.split('\n');
   const found = /** @type {Before[]} */ ([]);
   for (const [i, place] of places.entries()) {
     if (!replies[i] || !replies[i].startsWith('position ')) continue;
-    const { text: shown } = await parts.core.answer('view root', `${texts[i]}stipulate ${aim}\n`, PAGES), view = readView(shown);
+    const { text: shown } = await services.core.answer('view root', `${texts[i]}stipulate ${aim}\n`, PAGES), view = readView(shown);
     const move = view && view.moves.find(m => m.from === place.from && m.to === place.to && !m.promoted);
     if (move) found.push({ fen: place.fen, san: move.san, mark: move.mark });
   }

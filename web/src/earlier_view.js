@@ -1,7 +1,8 @@
 // @ts-check
 // The panel 'Begin earlier': first the move of the opponent that led to the start, then the hero's before it.
 import { $, button, h, put } from './dom.js';
-import { app, change, counting, doc, parts, say, study } from './app.js';
+import { change, counting } from './actions.js';
+import { app, doc, services, say, study } from './state.js';
 import { movesBefore } from './earlier.js';
 import { withMoves } from './edits.js';
 import { control, sideOf } from './fen.js';
@@ -67,5 +68,5 @@ function draw() {
 }
 /** Offered at the start of a study that has a stipulation. */
 export const earlierButton = () => (study() && study().aim ? button('Begin earlier', 'put the moves before the start in front', () => {
-  openEarlier().catch(why => { say('board', `${why.message}.`); parts.show(); });
+  openEarlier().catch(why => { say('board', `${why.message}.`); services.show(); });
 }, { class: 'chip act', id: 'beginEarlier' }) : null);

@@ -4,7 +4,7 @@
 import { aimWords } from './words.js';
 import { TAGS, isEdit, isGame, oneGame, wordsOf } from './script.js';
 import { squareName } from './fen.js';
-import { nodeAt, written } from './replies.js';
+import { nodeAt, written } from './parse_answers.js';
 /** @typedef {import('./types.js').Study} Study @typedef {import('./types.js').Change} Change @typedef {import('./types.js').TreeNode} TreeNode */
 
 /**

@@ -2,8 +2,8 @@
 // A man on another square: how many only moves in a row the side to move would have to find, and what a study's tree
 // would be. Both are for the program to say.
 import { menOf, placement, sideOf } from './fen.js';
-import { readReview, readView, refusalIn } from './replies.js';
-import { joined } from './script.js';
+import { readReview, readView, refusalIn } from './parse_answers.js';
+import { toText } from './script.js';
 import { PAGES } from './state.js';
 import { insertions, legalPart, turnedTree } from './turning.js';
 import { counted, reason } from './words.js';
@@ -66,7 +66,7 @@ export async function treeAt(core, fen, aim, tree) {
   const head = [`position ${fen}`, `stipulate ${aim}`], of = insertions(tree).length;
   let view = /** @type {View | null} */ (null);
   const { lines } = await legalPart(turnedTree(tree, []), async lines => {
-    const answer = await core.answer('view root', joined([...head, ...lines]), PAGES);
+    const answer = await core.answer('view root', toText([...head, ...lines]), PAGES);
     const [, line = ''] = /^refused (\d+) /m.exec(answer.text) || [];
     view = readView(answer.text);
     if (!view || (line && Number(line) <= head.length)) throw new Error(reason(refusalIn(answer)));
@@ -85,7 +85,7 @@ async function stampThere(core, view, lines) {
   const { fen, aim: { hero }, root, verdict } = view;
   const solved = root.children.some(n => sideOf(fen) === hero || n.children.length);
   if (!root.faults) return { faults: 0, stamp: verdict === 'sound' && !solved ? 'holds' : verdict };
-  const review = readReview((await core.answer('review', joined(lines), PAGES)).text);
+  const review = readReview((await core.answer('review', toText(lines), PAGES)).text);
   return { faults: root.faults, stamp: (review && review.waste) || verdict };
 }
 /**

@@ -2,13 +2,13 @@
 // Workers around the proved core. A trap or a stop ends a worker and never the page; the next question begins a new one.
 
 export class Stopped extends Error {}
-/** @typedef {{bytes: Uint8Array, ended: string, saved: [string, Uint8Array][], ms: number, memory: number}} Told */
+/** @typedef {{bytes: Uint8Array, ended: string, saved: [string, Uint8Array][], ms: number, memory: number}} RawAnswer */
 
 /** @typedef {object} Core
  * @property {(request: string, script: string | Uint8Array, pages: number) => Promise<{text: string, ended: string}>} answer
- * @property {(request: string, script: string | Uint8Array, pages: number) => Promise<Told>} ask
- * @property {(name: string, bytes: Uint8Array) => Promise<any>} lay      the bytes are transferred
- * @property {(name: string) => boolean} holds
+ * @property {(request: string, script: string | Uint8Array, pages: number) => Promise<RawAnswer>} ask
+ * @property {(name: string, bytes: Uint8Array) => Promise<any>} load      the bytes are transferred
+ * @property {(name: string) => boolean} has
  * @property {(name: string) => void} drop
  * @property {() => number} waiting      how many questions are not answered yet
  * @property {(why?: Error) => void} end
@@ -22,8 +22,8 @@ export class Stopped extends Error {}
  */
 export function makeCore(spawn, compiled) {
   let worker = /** @type {Worker | null} */ (null), next = 0;
-  const waiting = /** @type {Map<number, {ok: (told: any) => void, no: (why: Error) => void}>} */ (new Map());
-  const laid = new Set(), last = { ms: 0, memory: 0 };
+  const waiting = /** @type {Map<number, {ok: (answer: any) => void, no: (why: Error) => void}>} */ (new Map());
+  const loaded = new Set(), last = { ms: 0, memory: 0 };
 
   /**
    * @param {any} message
@@ -57,7 +57,7 @@ export function makeCore(spawn, compiled) {
   function end(why = new Stopped('stopped')) {
     if (worker) worker.terminate();
     worker = null;
-    laid.clear();
+    loaded.clear();
     const left = [...waiting.values()];
     waiting.clear();
     left.forEach(w => w.no(why));
@@ -75,18 +75,18 @@ export function makeCore(spawn, compiled) {
    * @param {string} request
    * @param {string | Uint8Array} script
    * @param {number} pages
-   * @returns {Promise<Told>}
+   * @returns {Promise<RawAnswer>}
    */
   const ask = (request, script, pages) => ready({ kind: 'answer', request, script, pages });
   return {
     ask, end, last,
     answer: async (request, script, pages) => {
-      const told = await ask(request, script, pages);
-      return { text: new TextDecoder().decode(told.bytes), ended: told.ended };
+      const { bytes, ended } = await ask(request, script, pages);
+      return { text: new TextDecoder().decode(bytes), ended };
     },
-    lay(name, bytes) { laid.add(name); return ready({ kind: 'lay', name, bytes: bytes.buffer }, [bytes.buffer]); },
-    drop(name) { if (laid.delete(name)) ready({ kind: 'drop', name }).catch(() => {}); },
-    holds: name => laid.has(name),
+    load(name, bytes) { loaded.add(name); return ready({ kind: 'load', name, bytes: bytes.buffer }, [bytes.buffer]); },
+    drop(name) { if (loaded.delete(name)) ready({ kind: 'drop', name }).catch(() => {}); },
+    has: name => loaded.has(name),
     waiting: () => waiting.size,
   };
 }

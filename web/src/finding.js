@@ -1,7 +1,7 @@
 // @ts-check
 // What the tables know: the positions of a class that have a theme, found piece by piece in a core of their own.
-import { parts, PAGES } from './state.js';
-import { readValue, refusalIn } from './replies.js';
+import { services, PAGES } from './state.js';
+import { readValue, refusalIn } from './parse_answers.js';
 import { reason } from './words.js';
 /** @typedef {import('./types.js').Value} Value */
 /** @typedef {{fen: string, values: Value[], key: string}} Found      a zugzwang has two values, and no key move */
@@ -58,8 +58,8 @@ const PIECE = 1 << 14, ALIKE = 300;
 export async function search({ name, theme, filters, most }, spawn, tell) {
   const fens = placements(name), core = spawn(), now = /** @type {Search} */ ({ at: 0, of: 0, found: [], ended: '' });
   try {
-    await parts.shelf.ready(fens);
-    await parts.shelf.lay(await parts.shelf.classesOf(fens), core);
+    await services.tables.ready(fens);
+    await services.tables.load(await services.tables.classesOf(fens), core);
     for (let piece = PIECE; !now.ended;) {
       const began = performance.now(), request = ['find', name, theme, filters, now.at, now.at + piece].filter(word => word !== '').join(' ');
       const answer = await core.answer(request, '', PAGES);

@@ -1,12 +1,13 @@
 // @ts-check
 // The panel 'Find': a class, a theme and squares; what is found while it searches; a press opens one.
 import { $, button, h, put } from './dom.js';
-import { app, counting, parts } from './app.js';
+import { counting } from './actions.js';
+import { app, services } from './state.js';
 import { CLASSES } from './core_host.js';
 import { control, sideOf } from './fen.js';
 import { THEMES, search } from './finding.js';
 import { openText } from './opening.js';
-import { joined } from './script.js';
+import { toText } from './script.js';
 import { draftFen } from './setup.js';
 import { counted, valueText, winner } from './words.js';
 /** @typedef {import('./finding.js').Search} Search @typedef {import('./finding.js').Found} Found */
@@ -14,7 +15,7 @@ import { counted, valueText, winner } from './words.js';
 const MOST = 300;
 const form = { name: 'KPK', theme: 'zugzwang', n: '4', side: '', squares: '', quiet: false };
 /** @type {{spawn: () => import('./engine.js').Core, search: Search | null, going: boolean, fault: string, shown: string}} */
-const state = { spawn: () => parts.core, search: null, going: false, fault: '', shown: '' };
+const state = { spawn: () => services.core, search: null, going: false, fault: '', shown: '' };
 /** @param {() => import('./engine.js').Core} spawn */
 export function startFinding(spawn) { state.spawn = spawn; }
 
@@ -80,7 +81,7 @@ function soFar() {
 /** @param {Found} found */
 function linesOf({ fen, values, key }) {
   const mover = sideOf(fen), won = winner(mover, values[0]), hero = (won || 'White').toLowerCase();
-  return joined([`position ${fen}`, `stipulate ${hero} ${won ? 'win' : 'draw'}`, ...(key ? [`insert root ${key}`] : [])]);
+  return toText([`position ${fen}`, `stipulate ${hero} ${won ? 'win' : 'draw'}`, ...(key ? [`insert root ${key}`] : [])]);
 }
 /** @param {Found} found */
 function rowView(found) {

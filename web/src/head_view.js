@@ -2,15 +2,16 @@
 // The head of a study - title, stipulation, tags - and its verdict with the faults, each with what mends it.
 import { h } from './dom.js';
 import { gbr, numbered, other, sideOf } from './fen.js';
-import { app, change, doc, go, judgeAgain, parts, say } from './app.js';
+import { change, go, judgeAgain } from './actions.js';
+import { app, doc, services, say } from './state.js';
 import { insert } from './board.js';
 import { isDate, isKnown, setTag, stipulate, wholeDate } from './edits.js';
 import { nameOf, stampOf } from './entries.js';
 import { plainText } from './opening.js';
-import { nodeAt, written } from './replies.js';
+import { nodeAt, written } from './parse_answers.js';
 import { guess } from './setup.js';
-import { kept, promote, remove } from './node_view.js';
-import { TAGS, toldBefore } from './script.js';
+import { typedOr, promote, remove } from './node_view.js';
+import { TAGS, verdictsBefore } from './script.js';
 import { aimText, counted, difference, holds, moveName, numberedLine, otherAims, readAim, valueText, verdictSentence, winner } from './words.js';
 /** @typedef {import('./types.js').Study} Study @typedef {import('./types.js').TreeNode} TreeNode */
 /** @typedef {import('./types.js').Aim} Aim @typedef {import('./types.js').Also} Also */
@@ -18,7 +19,7 @@ import { aimText, counted, difference, holds, moveName, numberedLine, otherAims,
 export const LABELS =
     /** @type {Record<string, string>} */ ({Event: 'Title or source', White: 'Author', Black: 'Second name', Site: 'Site', Date: 'Date', Round: 'Entry'});
 /** @param {string} where */
-export const told = where => app.say && app.say.where === where && h('p', { class: app.say.good ? 'say good' : 'say', role: 'alert' }, app.say.text);
+export const messageAt = where => app.say && app.say.where === where && h('p', { class: app.say.good ? 'say good' : 'say', role: 'alert' }, app.say.text);
 const open = { tags: false };
 
 /** @param {Study} s */
@@ -33,7 +34,7 @@ export function headView(s) {
     h('div', {class: 'row'},
       aimView(s.aim, words => change(now => (now.studies[now.at] ? stipulate(now.lines, now.studies[now.at], words) : null), 'head'), 'aim'),
       h('span', {class: 'note'}, gbr(s.fen))),
-    told('head'),
+    messageAt('head'),
     h('details', {
       id: 'tags',
       open: open.tags,
@@ -59,7 +60,7 @@ const cleared = names => change(now => {
 const tagView = (name, text) => [h('label', { for: 'tag' + name
                                  }, LABELS[name], LABELS[name] !== name && h('small', {}, ' ' + name)), h('input', {
                                    id: 'tag' + name,
-                                   value: kept('tag' + name, isKnown(text) ? text : ''),
+                                   value: typedOr('tag' + name, isKnown(text) ? text : ''),
                                    autocomplete: 'off',
                                    placeholder: name === 'Date' ? '2026.11.24' : '',
                                    onchange: (/** @type {any} */ e) => tagged(name, e.target.value.trim())
@@ -74,13 +75,13 @@ async function tagged(name, typed) {
   if (name === 'Date' && text && !isDate(text)) {
     say('head', `${typed}: a date is a year, or a year, a month and a day, as 1921 or 1921.05.12.`);
     Object.assign(app.say || {}, { field: 'tagDate', typed });
-    return parts.show();
+    return services.show();
   }
   const original = name !== 'Date' && plain !== typed ? typed.slice(0, 80) : '';
   await change(now => (now.studies[now.at] ? setTag(now.lines, now.studies[now.at], name, text, original) : null), 'head');
   if (app.history === before && app.say) Object.assign(app.say, { field: 'tag' + name, typed });
   else if (original) say('head', `The script has it in plain letters, as ${text}; the page and Save PGN have it as you wrote it.`, true);
-  parts.show();
+  services.show();
 }
 /**
  * `White | to win`: two choices and a number.
@@ -150,7 +151,7 @@ export function mendView(s) {
  * @param {Study} s
  */
 function beforeView(s) {
-  const before = toldBefore(s);
+  const before = verdictsBefore(s);
   return before.length > 0 && h('p', { class: 'note', id: 'verdictsBefore' }, 'This is the study after its last line. Its script has ',
     before.length === 1 ? 'one more game' : `${before.length} more games`, ' of it: ', h('b', {}, before.join('; ')), '. Save PGN and Save report include ',
     before.length === 1 ? 'it.' : 'them.');
@@ -175,7 +176,7 @@ function sharedNames(root) {
 const fullName = n => (app.view && n.parent && n.parent.parent && sharedNames(app.view.root).has(moveName(n)) ?
   numberedLine(n.parent.parent.fen, [n.parent.san, n.san]) : moveName(n));
 /** @param {TreeNode} n */
-export const jump = n => h('button', { type: 'button', class: 'link', title: lineTo(n), onclick: () => go(n.path) }, fullName(n));
+export const nodeLink = n => h('button', { type: 'button', class: 'link', title: lineTo(n), onclick: () => go(n.path) }, fullName(n));
 /**
  * All moves from the start to a node.
  * @param {TreeNode} n
@@ -227,7 +228,7 @@ function faultView(s, root, f) {
   const n = nodeAt(root, f.path), all = app.review ? app.review.also.filter(a => a.path === f.path) : [];
   if (!n) return f.san;
   if (f.kind === 'mistake') return mistakeView(s, n);
-  return [jump(n), ': also ', alsoView(s, n, all.slice(0, 6)), all.length > 6 && `and ${all.length - 6} more `, cut(n, 'End before it')];
+  return [nodeLink(n), ': also ', alsoView(s, n, all.slice(0, 6)), all.length > 6 && `and ${all.length - 6} more `, cut(n, 'End before it')];
 }
 /**
  * @param {Study} s
@@ -236,7 +237,7 @@ function faultView(s, root, f) {
 function mistakeView(s, n) {
   const late = s.aim && s.aim.goal === 'mate' && winner(sideOf(n.fen), n.value) === s.aim.hero, better = n.parent ? n.parent.children.find(holds) : undefined;
   const left = late ? `mate comes on move ${Math.ceil((n.path.split('.').length + n.value.n) / 2)}` : valueText(sideOf(n.fen), n.value);
-  return [jump(n), h('b', {}, ' lets the aim go'), `: ${left} `,
+  return [nodeLink(n), h('b', {}, ' lets the aim go'), `: ${left} `,
     better && [h('button', { type: 'button', class: 'chip act', onclick: () => promote(better, true) }, `Put ${better.san} first`), ' '], cut(n, 'Delete it')];
 }
 /**

@@ -8,7 +8,7 @@ import { countsOf, stampOf, studyName } from './entries.js';
 import { control } from './fen.js';
 import { counted } from './words.js';
 /** @typedef {import('./types.js').Doc} Doc @typedef {import('./types.js').KeptDraft} KeptDraft */
-/** @typedef {import('./past.js').History<Doc>} History */
+/** @typedef {import('./history.js').History<Doc>} History */
 /**
  * The next script: lines from a place on that replace others.
  * @typedef {{at: number, path: string, from: number, gone: number, lines: string[]}} Step

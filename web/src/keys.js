@@ -1,7 +1,8 @@
 // @ts-check
 // What keys do.
 import { $ } from './dom.js';
-import { app, doc, go, goStudy, node, redo, undo } from './app.js';
+import { go, goStudy, redo, undo } from './actions.js';
+import { app, doc, node } from './state.js';
 import { closeChoice, flip, focusBoard, setupKey, showBoard } from './board.js';
 import { close } from './documents_view.js';
 import { close as closeEarlier } from './earlier_view.js';

@@ -1,16 +1,17 @@
 // @ts-check
 // The facts of all studies of a script, found one after the other while the user rests, and kept by their lines.
-import { app, counting, doc, parts, PAGES } from './app.js';
-import { readReview } from './replies.js';
-import { editsTo, fensOf, joined } from './script.js';
+import { counting } from './actions.js';
+import { app, doc, services, PAGES } from './state.js';
+import { readReview } from './parse_answers.js';
+import { editsTo, fensOf, toText } from './script.js';
 /** @typedef {import('./types.js').Doc} Doc @typedef {import('./types.js').Review} Review */
 
-const found = /** @type {Map<string, Review | null>} */ (new Map()), MOST = 3000, UNASKED = 200;
+const found = /** @type {Map<string, Review | null>} */ (new Map()), MOST = 3000, MOST_UNWANTED = 200;
 /**
  * The lines of each study that is judged, alone.
  * @param {Doc} d
  */
-const textsOf = d => d.studies.map(s => (s.verdict ? joined(editsTo(d.lines, s)) : ''));
+const textsOf = d => d.studies.map(s => (s.verdict ? toText(editsTo(d.lines, s)) : ''));
 let last = /** @type {{studies: any[] | null, known: number, reviews: (Review | null)[]}} */ ({ studies: null, known: 0, reviews: [] });
 /**
  * The facts of each study, as far as they are known: the same list as long as nothing was added.
@@ -23,27 +24,27 @@ export function listed(d) {
 const pause = (/** @type {number} */ ms) => new Promise(on => setTimeout(on, ms));
 /** @param {string} text */
 async function find(text) {
-  await parts.shelf.lay(await parts.shelf.classesOf(fensOf(text.split('\n'))), parts.facts);
-  const { text: facts } = await parts.facts.answer('review', text + 'pgn\n', PAGES);
+  await services.tables.load(await services.tables.classesOf(fensOf(text.split('\n'))), services.facts);
+  const { text: facts } = await services.facts.answer('review', text + 'pgn\n', PAGES);
   if (found.size >= MOST) found.clear();
   found.set(text, readReview(facts));
 }
 /**
- * Finds what is not known yet. Unless it is asked for it ends where the document changes, and leaves long lists alone.
+ * Finds what is not known yet. Unless the user wants it, it ends where the document changes, and leaves long lists alone.
  * @param {Doc} d
- * @param {boolean} asked
+ * @param {boolean} wanted
  */
-export async function reviewAll(d, asked) {
+export async function reviewAll(d, wanted) {
   const texts = textsOf(d).filter(text => text && !found.has(text)), stamp = app.stamp;
-  if (!texts.length || (!asked && texts.length > UNASKED)) return;
+  if (!texts.length || (!wanted && texts.length > MOST_UNWANTED)) return;
   for (const text of texts) {
-    if (!asked) {
+    if (!wanted) {
       await pause(40);
-      if (doc().lines !== d.lines || parts.facts.waiting()) return void (stamp === app.stamp && later(d));
+      if (doc().lines !== d.lines || services.facts.waiting()) return void (stamp === app.stamp && later(d));
     }
     await find(text).catch(() => { found.set(text, null); });
   }
-  parts.showFacts();
+  services.showFacts();
 }
 let timer = 0;
 /**

@@ -1,24 +1,25 @@
 // @ts-check
 // The list of a script's entries with their verdicts: how many of each kind, by which it is filtered, and as a file.
 import { button, download, h } from './dom.js';
-import { doc, goStudy, parts } from './app.js';
+import { goStudy } from './actions.js';
+import { doc, services } from './state.js';
 import { KIND_WORDS, countsOf, csvOf, entriesOf } from './entries.js';
 import { listed, reviewAll } from './list_facts.js';
-import { table } from './facts_view.js';
-import { toldBefore } from './script.js';
+import { table } from './review_view.js';
+import { verdictsBefore } from './script.js';
 /** @typedef {import('./entries.js').Entry} Entry */
 
 let filter = '';
 /** @param {string} kind */
 function filtered(kind) {
   filter = filter === kind ? '' : kind;
-  parts.show();
+  services.show();
 }
 /** All that the list is drawn from. */
 export const listFrom = () => [doc().studies, doc().refused, doc().at, listed(doc()), filter];
 /** @param {Entry} entry */
 function stampView(entry) {
-  const s = doc().studies[entry.at], before = s ? toldBefore(s) : [];
+  const s = doc().studies[entry.at], before = s ? verdictsBefore(s) : [];
   return [h('b', { class: `stamped ${entry.kind.replace(' ', '-')}` }, entry.stamp), before.map(text => h('div', { class: 'note' }, text))];
 }
 /** The entries in a table, below the numbers of each kind. */

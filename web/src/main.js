@@ -2,7 +2,8 @@
 // The beginning: workers, what was kept, the bar, files and keys.
 import { $, download } from './dom.js';
 import { makeApi } from './api.js';
-import { PAGES, app, arrive, counting, doc, goStudy, judgeAgain, parts, say, study, work } from './app.js';
+import { arrive, counting, goStudy, judgeAgain, work } from './actions.js';
+import { PAGES, app, doc, services, say, study } from './state.js';
 import { listen, showBoard } from './board.js';
 import { firstDocument, holdLock, keep, local } from './documents.js';
 import { close, openDocuments } from './documents_view.js';
@@ -11,16 +12,16 @@ import { close as closeFinding, openFinding, startFinding } from './finding_view
 import { makeCore } from './engine.js';
 import { back, forth, listenToKeys } from './keys.js';
 import { savedGames } from './notes.js';
-import { fensOf, gameLines, joined, savedScript } from './script.js';
-import { begin, closeSetup, judge, openSetup } from './setup.js';
+import { fensOf, gameLines, toText, savedScript } from './script.js';
+import { begin, closeSetup, judgeDraft, openSetup } from './setup.js';
 import { bytesOf } from './packed.js';
-import { makeReaders } from './readers.js';
-import { makeShelf } from './shelf.js';
+import { makeReaders } from './file_readers.js';
+import { makeTables } from './tables.js';
 import { show, showFacts, showJudged, showProgress, watch } from './show.js';
 import { makeStore } from './store.js';
 import { openFile, openText } from './opening.js';
 import { counted, reason } from './words.js';
-import { refusalIn } from './replies.js';
+import { refusalIn } from './parse_answers.js';
 
 // ---- the module, in the form that this browser can run; it stands after this script, so that tables are read while it comes
 const whole = new Promise(on => document.addEventListener('DOMContentLoaded', on));
@@ -45,13 +46,13 @@ const source = URL.createObjectURL(new Blob([$('workerSource').textContent], { t
 const spawn = () => makeCore(() => new Worker(source), compiled), readers = makeReaders(() => new Worker(source));
 
 const store = makeStore();
-parts.core = spawn();
-parts.facts = spawn();
-parts.shelf = makeShelf({ core: parts.core, spawn, readers, store, tell: p => { app.progress = p; showProgress(); } });
-parts.show = show;
-parts.showFacts = showFacts;
-parts.showJudged = showJudged;
-parts.keep = keep;
+services.core = spawn();
+services.facts = spawn();
+services.tables = makeTables({ core: services.core, spawn, readers, store, tell: p => { app.progress = p; showProgress(); } });
+services.show = show;
+services.showFacts = showFacts;
+services.showJudged = showJudged;
+services.keep = keep;
 
 // ---- files
 /**
@@ -64,7 +65,7 @@ function fileName(ending) {
 }
 /** @param {File[]} files */
 const openTables = files => work(async () => {
-  const { taken, bad, kept } = await parts.shelf.open(files);
+  const { taken, bad, kept } = await services.tables.open(files);
   say('board',
       [
         taken.length > 0 && `${counted(taken.length, 'table')} opened${kept ? ' and kept in this browser' : ', for as long as this page stands open'}`,
@@ -74,12 +75,12 @@ const openTables = files => work(async () => {
           '.',
       !bad.length);
   show();
-  if (app.setup) judge();
+  if (app.setup) judgeDraft();
   if (!doc().judged) judgeAgain();
 });
 /** Those that the script needs, else all that are kept, as downloads one after the other. */
 const saveTables = () => work(async () => {
-  const kept = new Set(await store.names()), need = (await parts.shelf.classesOf(fensOf(doc().lines))).filter(name => kept.has(name)),
+  const kept = new Set(await store.names()), need = (await services.tables.classesOf(fensOf(doc().lines))).filter(name => kept.has(name)),
         names = need.length ? need : [...kept];
   for (const name of names) {
     const file = await store.get(name);
@@ -111,7 +112,7 @@ document.addEventListener('pointerdown', e => {
 on('openTables', () => $('tableFiles').click());
 on('saveTables', saveTables);
 on('saveScript', () => work(async () => {
-  const classes = await parts.shelf.classesOf(fensOf(doc().lines)).catch(() => []);
+  const classes = await services.tables.classesOf(fensOf(doc().lines)).catch(() => []);
   download(fileName('.script'), savedScript(doc(), classes));
 }));
 on('savePgn', () => download(fileName('.pgn'), savedGames(doc())));
@@ -120,8 +121,8 @@ on('print', () => { if (app.setup) closeSetup(); window.print(); });
 /** The printed pages of all studies. */
 const saveReport = () => work(async () => {
   const { lines } = doc();
-  await parts.shelf.lay(await parts.shelf.classesOf(fensOf(lines)), parts.facts);
-  const answer = await parts.facts.answer('report', joined(gameLines(doc())), PAGES);
+  await services.tables.load(await services.tables.classesOf(fensOf(lines)), services.facts);
+  const answer = await services.facts.answer('report', toText(gameLines(doc())), PAGES);
   if (answer.ended === 'done') return download(fileName('.html'), answer.text);
   say('board', `No report: ${reason(refusalIn(answer))}.`);
   show();
@@ -129,7 +130,7 @@ const saveReport = () => work(async () => {
 on('saveReport', saveReport);
 on('undo', back);
 on('redo', forth);
-on('stop', () => parts.shelf.stop());
+on('stop', () => services.tables.stop());
 on('theme', () => theme(!document.documentElement.classList.contains('dark')));
 on('before', () => goStudy(doc().at - 1));
 on('after', () => goStudy(doc().at + 1));

@@ -2,7 +2,8 @@
 // Below the board: the way through the tree, and the legal moves of the node by what each leaves.
 import { button, h } from './dom.js';
 import { control, other, sideOf, squareName } from './fen.js';
-import { app, change, doc, go, node, parts, say } from './app.js';
+import { change, go } from './actions.js';
+import { app, doc, node, services, say } from './state.js';
 import { flip, insert } from './board.js';
 import { earlierButton } from './earlier_view.js';
 import { promoteNode, removeNode } from './edits.js';
@@ -24,7 +25,7 @@ export function endOf(n) {
  * @param {string} id
  * @param {string} text
  */
-export const kept = (id, text) => (app.say && app.say.field === id ? app.say.typed : text);
+export const typedOr = (id, text) => (app.say && app.say.field === id ? app.say.typed : text);
 
 /** @param {TreeNode} n */
 export function navView(n) {
@@ -37,7 +38,7 @@ export function navView(n) {
     autocomplete: 'off',
     autocapitalize: 'off',
     spellcheck: 'false',
-    value: kept('san', ''),
+    value: typedOr('san', ''),
     onchange: (/** @type {any} */ e) => typedMoves(e.target.value)
   });
   return [h('div', { class: 'group' }, button('«', 'to the start (Home)', to(root), { id: 'first', disabled: !up, 'aria-label': 'To the start' }),
@@ -62,12 +63,12 @@ async function typedMoves(text) {
       app.view.moves.find(m => squareName(m.from) + squareName(m.to) + m.promoted === squares(first));
   if (!sans.length) return;
   await insert(doc().path, named ? [named.san, ...sans.slice(1)] : sans);
-  if (app.say) { Object.assign(app.say, { field: 'san', typed: text }); parts.show(); }
+  if (app.say) { Object.assign(app.say, { field: 'san', typed: text }); services.show(); }
 }
 /** @param {string} path */
 export function remove(path) {
   const n = node();
-  if (path === 'root' || !n) { say('board', 'The start cannot be deleted; choose a move.'); return parts.show(); }
+  if (path === 'root' || !n) { say('board', 'The start cannot be deleted; choose a move.'); return services.show(); }
   return change(now => {
     const s = now.studies[now.at], found = app.view ? find(app.view.root, path) : null;
     return s && found ? removeNode(now.lines, s, found) : null;

@@ -1,11 +1,12 @@
 // @ts-check
 // A file or a text becomes the document: a script as it stands, a PGN by way of the program.
 import { $, button, h } from './dom.js';
-import { app, change, counting, doc, opened, parts, say, work } from './app.js';
+import { change, counting, opened, work } from './actions.js';
+import { app, doc, services, say } from './state.js';
 import { decoded, documentOf, importNote, leftOutBy, looksLikePgn, notKept, withoutAim } from './imported.js';
 import { freshId } from './keep.js';
 import { gamesIn, namesOf, remarksOf } from './notes.js';
-import { replace } from './past.js';
+import { replace } from './history.js';
 import { gamesOf, isCommand, isSilent, linesOf } from './script.js';
 import { aimText, counted, endedReason, readAim } from './words.js';
 
@@ -17,8 +18,8 @@ export function checkWhole() {
   if (!source || source.id !== d.id || !d.note || !d.judged) return;
   if (decoded(source.bytes).replace(/\r\n/g, '\n') !== gamesOf(d)) return;
   app.history = replace(app.history, { ...d, note: '', name: source.name.replace(/\.\w+$/, '') });
-  parts.keep();
-  parts.show();
+  services.keep();
+  services.show();
 }
 /**
  * The lines that the program makes of a PGN, each in the letters in which it came.
@@ -26,11 +27,11 @@ export function checkWhole() {
  * @param {string} aim      words of a stipulation for games that say none, or nothing
  */
 async function imported(bytes, aim) {
-  const told = await parts.core.ask(aim ? 'import ' + aim : 'import', bytes, 0), lines = /** @type {string[]} */ ([]);
-  if (told.ended !== 'done') throw new Error(endedReason(told.ended));
-  for (let at = 0; at < told.bytes.length;) {
-    const end = told.bytes.indexOf(10, at), next = end < 0 ? told.bytes.length : end;
-    lines.push(decoded(told.bytes.subarray(at, next)));
+  const answer = await services.core.ask(aim ? 'import ' + aim : 'import', bytes, 0), lines = /** @type {string[]} */ ([]);
+  if (answer.ended !== 'done') throw new Error(endedReason(answer.ended));
+  for (let at = 0; at < answer.bytes.length;) {
+    const end = answer.bytes.indexOf(10, at), next = end < 0 ? answer.bytes.length : end;
+    lines.push(decoded(answer.bytes.subarray(at, next)));
     at = next + 1;
   }
   return lines;
@@ -81,11 +82,11 @@ async function openPgn(bytes, where, name, aim = '') {
   source = { bytes, name, id: '', waiting: withoutAim(lines) };
   if (!lines.some(line => line.startsWith('position '))) {
     say(where, `No study was found in this PGN. ${importNote(lines)} Nothing was changed.`);
-    return parts.show();
+    return services.show();
   }
   await take(withRemarks(documentOf(lines), decoded(bytes)), where, checkedName(name), [importNote(lines), notKept(lines)].filter(Boolean).join(' '));
   source.id = doc().id;
-  parts.show();
+  services.show();
   checkWhole();
 }
 /**
@@ -114,12 +115,12 @@ async function openScript(text, where, name) {
   if (!lines.every(isSilent) && !lines.some(isCommand)) {
     say(where, 'This is neither a script nor a PGN. Nothing was changed.');
     if (where === 'script') Object.assign(app.say || {}, { field: 'script', typed: text });
-    return parts.show();
+    return services.show();
   }
   await take(lines, where, name.replace(/\.\w+$/, ''), where === 'script' ? doc().note : '');
   if (app.say && app.say.where === where && !app.say.good) {
     Object.assign(app.say, { field: 'script', typed: text });
-    parts.show();
+    services.show();
   }
 }
 /**

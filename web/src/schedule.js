@@ -49,7 +49,7 @@ export function makeBuilds(most, make, tell) {
   }
   return {
     /**
-     * Settles when all of these are made. What is asked last is begun first, since somebody waits for it now.
+     * Settles when all of these are made. What is wanted last is begun first, since somebody waits for it now.
      * @param {string[]} names      in the order in which they can be built one after the other
      * @returns {Promise<void>}
      */

@@ -2,7 +2,7 @@
 // The script is the document: lines of edits, run from the first to the last. Here its replies become studies.
 import { aimText, aimWords } from './words.js';
 import { originalsIn } from './imported.js';
-import { readStipulation } from './replies.js';
+import { readStipulation } from './parse_answers.js';
 /** @typedef {import('./types.js').Script} Script @typedef {import('./types.js').Study} Study @typedef {import('./types.js').Aim} Aim */
 /** @typedef {{text: string, line: number}} Sent      a line that is run, and its place in the script; -1 for one of our own */
 
@@ -42,16 +42,16 @@ export const isGame = line => /^ *pgn *$/.test(line);
  */
 export function toRun(lines) {
   const sent = /** @type {Sent[]} */ ([]);
-  let begun = false, untold = false;
+  let begun = false, open = false;
   lines.forEach((text, line) => {
     const position = wordsOf(text)[0] === 'position';
-    if (position && untold) sent.push({ text: 'pgn', line: -1 });
+    if (position && open) sent.push({ text: 'pgn', line: -1 });
     begun = begun || position;
-    if (isEdit(text)) untold = begun;
-    else if (isGame(text)) untold = false;
+    if (isEdit(text)) open = begun;
+    else if (isGame(text)) open = false;
     sent.push({ text, line });
   });
-  if (untold) sent.push({ text: 'pgn', line: -1 });
+  if (open) sent.push({ text: 'pgn', line: -1 });
   return sent;
 }
 const MOST_BYTES = 1024, MOST_LINES = 100000;
@@ -109,10 +109,10 @@ function withRemarks(lines, study) {
 }
 
 /**
- * A script as it is if each of its lines is accepted, so that its view can be asked for before its replies are there.
+ * A script as it is if each of its lines is accepted, so that its view can be requested before its replies are there.
  * @param {string[]} lines
  */
-export function supposed(lines) {
+export function assumeAccepted(lines) {
   const sent = toRun(lines);
   return readScript(lines, sent, sent.map(({ text }) => {
     const [command, hero = '', goal = '', k = ''] = wordsOf(text);
@@ -134,10 +134,10 @@ function take(script, carried, { text, line }, reply) {
   } else if (command === 'position') {
     script.studies.push(begun(line, reply.slice(9), carried));
   } else if (study && command === 'pgn') {
-    if (line >= 0 || !study.told) study.games.push(reply);
-    Object.assign(study, { pgn: reply, verdict: openingOf(reply).verdict, told: true });
+    if (line >= 0 || !study.ended) study.games.push(reply);
+    Object.assign(study, { pgn: reply, verdict: openingOf(reply).verdict, ended: true });
   } else if (isEdit(text)) {
-    if (study) Object.assign(study, { told: false, last: Math.max(line, study.last) });
+    if (study) Object.assign(study, { ended: false, last: Math.max(line, study.last) });
     if (command === 'tag') carry(carried, study, name, text.trim().replace(/^tag +\w+ +/, ''), line);
     else if (command === 'stipulate') stipulated(carried, study, reply, line);
     else if (study && command === 'shift') study.fen = reply.slice(6);
@@ -153,7 +153,7 @@ function take(script, carried, { text, line }, reply) {
 function begun(line, fen, carried) {
   const old = [...(carried.aim ? ['stipulate ' + aimWords(carried.aim)] : []), ...Object.entries(carried.tags).map(([k, v]) => `tag ${k} ${v}`)];
   return { head: line, from: line, end: line + 1, last: line, fen, aim: carried.aim, tags: { ...carried.tags }, originals: {}, place: {},
-    carried: old, made: null, pgn: '', verdict: '', games: [], told: false };
+    carried: old, made: null, pgn: '', verdict: '', games: [], ended: false };
 }
 /**
  * @param {Carried} carried
@@ -190,10 +190,10 @@ function openingOf(pgn) {
   return readStipulation(comment ? comment[1] : '');
 }
 /**
- * What the script tells of a study before its last edit, as `White to win: unsound 3`.
+ * The verdicts of a script on a study before its last edit, as `White to win: unsound 3`.
  * @param {Study} study
  */
-export const toldBefore = study => study.games.filter(game => game !== study.pgn).map(openingOf)
+export const verdictsBefore = study => study.games.filter(game => game !== study.pgn).map(openingOf)
                                        .map(({ aim, verdict }) => `${aim ? aimText(aim) : ''}: ${verdict}`);
 
 /**
@@ -209,7 +209,7 @@ export function editsTo(lines, study) {
  * Lines as a text that is run.
  * @param {string[]} lines
  */
-export const joined = lines => lines.map(line => line + '\n').join('');
+export const toText = lines => lines.map(line => line + '\n').join('');
 
 /**
  * The script as a file that studybench runs as it is: its tables first, `pgn` after the last edit of each study.
@@ -221,17 +221,17 @@ export function savedScript(script, classes) {
   for (const study of [...script.studies].reverse())
     if (study.aim && !lines.slice(study.last + 1, study.end).some(isGame)) lines.splice(study.last + 1, 0, 'pgn');
   const tables = lines.some(isTableLine) ? [] : classes.map(name => 'build ' + name);
-  return joined([...tables, ...lines]);
+  return toText([...tables, ...lines]);
 }
 /**
- * The games that a script tells: those that studybench writes when it runs the saved script.
+ * The games of a script: those that studybench writes when it runs the saved script.
  * @param {Script} script
  */
 export const gamesOf = script => script.studies.flatMap(study => study.games).join('');
 /** Remarks of an import that a report prints: games that were left out, and names in their own letters. */
 const PRINTED = /^# (game \d+, line |(Event|Site|Date|Round|White|Black) was: )/;
 /**
- * The lines of the saved script that tell them, with the remarks that a report prints.
+ * The lines of the saved script that write them, with the remarks that a report prints.
  * @param {Script} script
  */
 export const gameLines = script =>

@@ -1,11 +1,12 @@
 // @ts-check
 // The set-up of men: a draft until it is taken over. The program says of each draft what is wrong with it, or what its value is.
 import { EMPTY, menOf, placement, sideOf, typedFen } from './fen.js';
-import { app, parts, say, silent, study, viewOf } from './app.js';
+import { viewOf } from './answer_cache.js';
+import { app, services, say, clearMessage, study } from './state.js';
 import { Stopped } from './engine.js';
 import { freshId } from './keep.js';
 import { aimText, aimWords, counted, holds, movesTo, reason } from './words.js';
-import { joined } from './script.js';
+import { toText } from './script.js';
 import { isTurn, turnedAim, turnedFen } from './turning.js';
 /** @typedef {import('./fen.js').Men} Men */
 /** @typedef {{bad: string, text: string, lacking: string[], mate: number}} Judged */
@@ -53,11 +54,11 @@ export function begin({ placed, past, future, anew, more, id }) {
   const rest = { tool: 'K', man: null, cursor: null, judged: null, passed: [], survey: null, waits: [] };
   app.setup = { ...rest, ...stateOf(placed), anew, more, id, past, future };
   app.chosen = null;
-  silent();
-  parts.show();
-  judge();
+  clearMessage();
+  services.show();
+  judgeDraft();
 }
-export function closeSetup() { app.setup = null; silent(); parts.keep(); parts.show(); }
+export function closeSetup() { app.setup = null; clearMessage(); services.keep(); services.show(); }
 /** @param {string} placed */
 function stateOf(placed) {
   const [fen, aim = '', turns = ''] = placed.split('|'), [, mover, ...tail] = fen.split(' ');
@@ -91,7 +92,7 @@ export function draftKept() {
 const noPassed = (/** @type {string} */ tail) => '- - ' + tail.split(' ').slice(2).join(' ');
 
 /** @param {Partial<Draft>} changes */
-export function drafted(changes) {
+export function changeDraft(changes) {
   const d = app.setup;
   if (!d) return;
   const before = placedOf(d);
@@ -102,10 +103,10 @@ export function drafted(changes) {
   redrafted();
 }
 function redrafted() {
-  if (app.say && app.say.where === 'fen') silent();
-  parts.keep();
-  parts.show();
-  judge();
+  if (app.say && app.say.where === 'fen') clearMessage();
+  services.keep();
+  services.show();
+  judgeDraft();
 }
 /**
  * The set-up as it was before the last change, or after it again; a set-up that nothing was done to is left by it.
@@ -144,13 +145,13 @@ const nextTool = (men, tool) => (tool === 'K' && !Object.values(men).includes('k
  */
 export function placeAt(s, letter) {
   const d = /** @type {Draft} */ (app.setup), men = withMan(d.men, s, letter || d.tool);
-  drafted({ men, man: s, ...(letter ? {} : { tool: nextTool(men, d.tool) }) });
+  changeDraft({ men, man: s, ...(letter ? {} : { tool: nextTool(men, d.tool) }) });
 }
 /** @param {number} s */
 export function removeAt(s) {
   const men = { .../** @type {Draft} */ (app.setup).men };
   delete men[s];
-  drafted({ men });
+  changeDraft({ men });
 }
 /**
  * A man dragged: from the palette or a square, to a square or off the board.
@@ -161,15 +162,15 @@ export function removeAt(s) {
  */
 export function moveDraft(from, to, letter, moved) {
   const d = /** @type {Draft} */ (app.setup), rest = { ...d.men };
-  if (from === null && (to === null || !moved)) return parts.show();
+  if (from === null && (to === null || !moved)) return services.show();
   if (from !== null) delete rest[from];
-  if (to === null) return drafted({ men: rest });
+  if (to === null) return changeDraft({ men: rest });
   if (from === to) {
-    if (moved || d.survey) return parts.show();
-    return d.tool === letter || d.tool === 'x' ? drafted({ men: rest }) : placeAt(to);
+    if (moved || d.survey) return services.show();
+    return d.tool === letter || d.tool === 'x' ? changeDraft({ men: rest }) : placeAt(to);
   }
   const men = withMan(rest, to, letter);
-  drafted({ men, man: to, ...(from === null ? { tool: nextTool(men, letter) } : {}) });
+  changeDraft({ men, man: to, ...(from === null ? { tool: nextTool(men, letter) } : {}) });
 }
 /**
  * The whole diagram is turned; the moves of its study can come along.
@@ -177,23 +178,23 @@ export function moveDraft(from, to, letter, moved) {
  */
 export function turnDraft(turn) {
   const d = /** @type {Draft} */ (app.setup), fen = turnedFen(turn, draftFen());
-  if (!fen) { say('fen', 'A man would leave the board.'); return parts.show(); }
+  if (!fen) { say('fen', 'A man would leave the board.'); return services.show(); }
   const [placed, mover, ...tail] = fen.split(' ');
-  silent();
-  drafted({ men: menOf(placed), mover, tail: tail.join(' '), aim: turnedAim(turn, d.aim), turns: [...d.turns, turn], man: null });
+  clearMessage();
+  changeDraft({ men: menOf(placed), mover, tail: tail.join(' '), aim: turnedAim(turn, d.aim), turns: [...d.turns, turn], man: null });
 }
 /** @param {string} text */
-export function typed(text) {
+export function setTypedFen(text) {
   const d = /** @type {Draft} */ (app.setup), read = typedFen(text, d.mover);
-  if ('bad' in read) { say('fen', read.bad); Object.assign(app.say || {}, { field: 'fen', typed: text }); return parts.show(); }
+  if ('bad' in read) { say('fen', read.bad); Object.assign(app.say || {}, { field: 'fen', typed: text }); return services.show(); }
   const fields = read.fen.split(' ');
-  silent();
-  drafted({ men: menOf(read.fen), mover: fields[1] === 'b' ? 'b' : 'w', tail: fields.slice(2).join(' '), man: null });
+  clearMessage();
+  changeDraft({ men: menOf(read.fen), mover: fields[1] === 'b' ? 'b' : 'w', tail: fields.slice(2).join(' '), man: null });
 }
 
 let judging = 0;
 /** What the program says of the draft. Tables of two and three men are built for it; larger ones when the user asks. */
-export async function judge(build = false) {
+export async function judgeDraft(build = false) {
   const mine = ++judging, d = app.setup;
   if (!d) return;
   const judged = await judgement(d, build).catch(fault => ({ bad: '', text: `The program did not answer: ${fault.message}.`, lacking: [], mate: 0 }));
@@ -201,7 +202,7 @@ export async function judge(build = false) {
   const passed = judged.bad ? [] : await passedSquares().catch(() => []);
   if (mine !== judging || app.setup !== d) return;
   Object.assign(d, { judged, passed });
-  parts.showJudged();
+  services.showJudged();
 }
 /**
  * @param {Draft} d
@@ -211,13 +212,13 @@ export async function judge(build = false) {
 async function judgement(d, build) {
   const fen = draftFen(), none = { bad: '', text: '', lacking: /** @type {string[]} */ ([]), mate: 0 };
   if (!Object.values(d.men).includes('K') || !Object.values(d.men).includes('k')) return { ...none, bad: 'each side needs exactly one king' };
-  const check = await parts.core.answer('run', `position ${fen}\n`, 1);
+  const check = await services.core.answer('run', `position ${fen}\n`, 1);
   if (check.text.startsWith('error')) return { ...none, bad: reason(check.text.trim()) };
-  let lacking = await parts.shelf.lacking([fen]);
-  if (lacking.length && (build || Object.keys(d.men).length < 4 || parts.shelf.isComing(lacking))) {
+  let lacking = await services.tables.lacking([fen]);
+  if (lacking.length && (build || Object.keys(d.men).length < 4 || services.tables.isComing(lacking))) {
     d.waits = lacking;
-    parts.showJudged();
-    lacking = await parts.shelf.ready([fen]).then(() => [], fault => {
+    services.showJudged();
+    lacking = await services.tables.ready([fen]).then(() => [], fault => {
       if (fault instanceof Stopped) return lacking;
       throw fault;
     });
@@ -235,7 +236,7 @@ async function judgement(d, build) {
   };
 }
 async function passedSquares() {
-  const { text } = await parts.core.answer('passed ' + draftFen().replace(/^(\S+ \S+) .*/, '$1 - - 0 1'), '', 1);
+  const { text } = await services.core.answer('passed ' + draftFen().replace(/^(\S+ \S+) .*/, '$1 - - 0 1'), '', 1);
   return text.split(/\s+/).filter(word => /^[a-h][36]$/.test(word));
 }
 /** The number of moves that an aim of mate begins with. */

@@ -2,11 +2,11 @@
 // The set-up of men: palette, side to move, stipulation, FEN, what the program says of it, and what it becomes.
 import { $, button, h, put } from './dom.js';
 import { manName, menOf } from './fen.js';
-import { app, node, parts, study } from './app.js';
+import { app, node, services, study } from './state.js';
 import { manIcon, takeUp } from './board.js';
-import { aimView, told } from './head_view.js';
-import { kept } from './node_view.js';
-import { closeSetup, draftFen, drafted, judge, turnDraft, typed } from './setup.js';
+import { aimView, messageAt } from './head_view.js';
+import { typedOr } from './node_view.js';
+import { closeSetup, draftFen, changeDraft, judgeDraft, turnDraft, setTypedFen } from './setup.js';
 import { surveyView } from './survey_view.js';
 import { takeOver } from './taking_over.js';
 import { moveName, readAim } from './words.js';
@@ -17,27 +17,27 @@ export function setupView() {
   const d = app.setup;
   if (!d) return null;
   const mover = (/** @type {string} */ m, /** @type {string} */ text) => button(
-      text, '', () => drafted({mover: m, tail: '- - ' + d.tail.split(' ').slice(2).join(' ')}),
+      text, '', () => changeDraft({mover: m, tail: '- - ' + d.tail.split(' ').slice(2).join(' ')}),
       {id: 'mover' + m, class: d.mover === m ? 'on' : '', 'aria-pressed': `${d.mover === m}`, 'data-mover': m});
   return [
     h('h2', { id: 'setupFor' }, study() ? purpose(d) : 'Set up the men'),
     h('div', { class: 'palette', role: 'group', 'aria-label': 'Men' },
         [...'KQRBNPxkqrbnp'].map(letter => toolView(d, letter)),
-        button('clear', 'take all men away', () => drafted({ men: {}, tool: 'K' }), { id: 'clear', class: 'text' })),
+        button('clear', 'take all men away', () => changeDraft({ men: {}, tool: 'K' }), { id: 'clear', class: 'text' })),
     h('div', { class: 'row' },
         h('div', { class: 'group', role: 'group', 'aria-label': 'Side to move' }, mover('w', 'White to play'),
             mover('b', 'Black to play')),
-        h('span', { class: 'row aim' }, aimView(readAim(d.aim), words => drafted({ aim: words }), 'draft')),
+        h('span', { class: 'row aim' }, aimView(readAim(d.aim), words => changeDraft({ aim: words }), 'draft')),
         h('span', { id: 'passedBox' }, passedView(d))),
     h('input', {
       class: 'fen',
       id: 'fen',
-      value: kept('fen', draftFen()),
+      value: typedOr('fen', draftFen()),
       'aria-label': HELP,
       title: HELP,
       autocomplete: 'off',
       spellcheck: 'false',
-      onchange: (/** @type {any} */ e) => typed(e.target.value)
+      onchange: (/** @type {any} */ e) => setTypedFen(e.target.value)
     }),
     h('div', { id: 'judgedBox' }, judgedBox(d)), fromNode(d), turnView(),
     h('p', { class: 'note keys' },
@@ -60,7 +60,7 @@ function fromNode(d) {
   const n = node();
   if (d.anew || !n || !n.parent) return null;
   const [placed, mover, ...tail] = n.fen.split(' ');
-  const take = () => drafted({ men: menOf(placed), mover, tail: tail.join(' '), man: null });
+  const take = () => changeDraft({ men: menOf(placed), mover, tail: tail.join(' '), man: null });
   return h('p', {}, button(`The position after ${moveName(n)}`, 'set up these men instead', take, { id: 'fromNode' }));
 }
 const TURN_WORDS = /** @type {[import('./turning.js').Turn, string, string][]} */ ([['left', '←', 'one file to the left'],
@@ -73,7 +73,7 @@ const turnView = () => h('p', { class: 'row', role: 'group', 'aria-label': 'The 
  * What comes late: what the program says of the draft, and what can be done with it.
  * @param {Draft} d
  */
-const judgedBox = d => [told('fen'), judgedView(d), h('div', { class: 'row' }, startView(d, Boolean(study()))), surveyView(d)];
+const judgedBox = d => [messageAt('fen'), judgedView(d), h('div', { class: 'row' }, startView(d, Boolean(study()))), surveyView(d)];
 /** Only these parts are drawn again, so that nothing moves under a finger that is on the palette. */
 export function redrawJudged() {
   if (!app.setup || !$('judgedBox')) return;
@@ -103,7 +103,7 @@ function toolView(d, letter) {
         onpointerdown: down,
         onclick: () => {
           d.tool = letter;
-          parts.show();
+          services.show();
         }
       },
       away ? name : manIcon(letter));
@@ -114,7 +114,7 @@ function passedView(d) {
   if (!d.passed.length) return null;
   return h(
       'label', {class: 'note'}, 'en passant on ',
-      h('select', {id: 'passedSquare', onchange: (/** @type {any} */ e) => drafted({tail: `- ${e.target.value} 0 1`})},
+      h('select', {id: 'passedSquare', onchange: (/** @type {any} */ e) => changeDraft({tail: `- ${e.target.value} 0 1`})},
         ['-', ...d.passed].map(square => h('option', {value: square, selected: square === now}, square === '-' ? 'no square' : square))));
 }
 /** @param {Draft} d */
@@ -123,7 +123,7 @@ function judgedText({ judged, men, waits }) {
   if (!judged) return waits.length ? `Building its tables: ${waits.join(' ')} …` : '…';
   if (judged.bad) return `Not a position yet: ${judged.bad}.`;
   const { lacking } = judged;
-  return lacking.length ? `Its tables are not there yet: ${lacking.join(' ')} (${parts.shelf.estimate(lacking)}).` : judged.text;
+  return lacking.length ? `Its tables are not there yet: ${lacking.join(' ')} (${services.tables.estimate(lacking)}).` : judged.text;
 }
 /** @param {Draft} d */
 function judgedView(d) {
@@ -131,7 +131,7 @@ function judgedView(d) {
   return [
     h('p', {id: 'judged', class: judged && judged.text && !judged.bad ? 'judged' : 'note', role: 'status'}, text),
     judged && judged.lacking.length > 0 &&
-        h('p', {}, button('Build them now', 'some seconds for each; once for all', () => judge(true), {id: 'buildNow'}))
+        h('p', {}, button('Build them now', 'some seconds for each; once for all', () => judgeDraft(true), {id: 'buildNow'}))
   ];
 }
 /**

@@ -2,16 +2,16 @@
 // What is shown: each part a function of the document, its view and its facts.
 import { $, button, h, put } from './dom.js';
 import { spokenMove } from './fen.js';
-import { foresee } from './answers.js';
-import { app, doc, node, study } from './app.js';
+import { prefetch } from './prefetch.js';
+import { app, doc, node, study } from './state.js';
 import { showBoard, tell } from './board.js';
 import { listView, showDocuments } from './documents_view.js';
-import { reviewView } from './facts_view.js';
+import { reviewView } from './review_view.js';
 import { headView, mendView, verdictView } from './head_view.js';
 import { hereView, navView } from './node_view.js';
 import { isKnown } from './edits.js';
 import { PAWN, SAAVEDRA } from './samples.js';
-import { joined } from './script.js';
+import { toText } from './script.js';
 import { redrawJudged, setupView } from './setup_view.js';
 import { checkWhole, importView, openText } from './opening.js';
 import { listFrom, listView as entriesView } from './list_view.js';
@@ -40,7 +40,7 @@ function pointedAt(e) {
   const button = /** @type {Element} */ (e.target).closest('[data-san], [data-sans]');
   if (!button) return;
   const sans = button.getAttribute('data-sans') || button.getAttribute('data-san') || '';
-  foresee(button.getAttribute('data-path') || doc().path, [sans.split(' ')]);
+  prefetch(button.getAttribute('data-path') || doc().path, [sans.split(' ')]);
 }
 function afterwards() {
   const list = [...late];
@@ -184,7 +184,7 @@ export function showProgress() {
   $('progressBar').value = p.done;
 }
 function welcomeView() {
-  const sample = (/** @type {string[]} */ lines) => () => openText(joined(lines), 'board'), kept = listView(8);
+  const sample = (/** @type {string[]} */ lines) => () => openText(toText(lines), 'board'), kept = listView(8);
   const keptList = kept && [h('h2', {}, 'Kept in this browser'), kept];
   return study() ? keptList : [
     h('h1', {}, 'Compose a study'),

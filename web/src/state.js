@@ -1,7 +1,7 @@
 // @ts-check
-// What there is: the document with its past, what is shown of it, and the parts that the page is made of. Views read this; actions change it.
-import { begin } from './past.js';
-import { nodeAt } from './replies.js';
+// What there is: the document with its past, what is shown of it, and the services that the page is made of. Views read this; actions change it.
+import { begin } from './history.js';
+import { nodeAt } from './parse_answers.js';
 /** @typedef {import('./types.js').Doc} Doc */
 /** @typedef {{where: string, text: string, good: boolean, field?: string, typed?: string}} Say */
 
@@ -20,9 +20,9 @@ export const blank = {
 };
 
 /**
- * @type {{history: import('./past.js').History<Doc>, view: import('./types.js').View | null, noView: string,
+ * @type {{history: import('./history.js').History<Doc>, view: import('./types.js').View | null, noView: string,
  *   review: import('./types.js').Review | null, noReview: string, say: Say | null, chosen: number | null, flip: boolean,
- *   setup: import('./setup.js').Draft | null, progress: import('./shelf.js').Progress | null, stamp: number}}
+ *   setup: import('./setup.js').Draft | null, progress: import('./tables.js').Progress | null, stamp: number}}
  */
 export const app = {
   history: begin(blank),
@@ -38,11 +38,11 @@ export const app = {
   stamp: 0
 };
 /**
- * The parts that main.js puts in.
- * @type {{core: import('./engine.js').Core, facts: import('./engine.js').Core, shelf: ReturnType<typeof import('./shelf.js').makeShelf>,
+ * The services that main.js puts in.
+ * @type {{core: import('./engine.js').Core, facts: import('./engine.js').Core, tables: ReturnType<typeof import('./tables.js').makeTables>,
  *   show: () => void, showFacts: () => void, showJudged: () => void, keep: () => void}}
  */
-export const parts = /** @type {any} */ ({});
+export const services = /** @type {any} */ ({});
 
 export const doc = () => app.history.now;
 export const study = () => doc().studies[doc().at];
@@ -52,4 +52,4 @@ export const node = () => (app.view ? nodeAt(app.view.root, doc().path) || app.v
  * @param {string} text
  */
 export function say(where, text, good = false) { app.say = text ? { where, text, good } : null; }
-export const silent = () => { app.say = null; };
+export const clearMessage = () => { app.say = null; };

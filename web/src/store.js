@@ -9,7 +9,7 @@ export function makeStore(name = 'studyboard') {
    * @param {IDBRequest<T>} request
    * @returns {Promise<T>}
    */
-  const asked = request => new Promise((ok, no) => { request.onsuccess = () => ok(request.result); request.onerror = () => no(request.error); });
+  const settled = request => new Promise((ok, no) => { request.onsuccess = () => ok(request.result); request.onerror = () => no(request.error); });
   function base() {
     return opened = opened || new Promise((ok, no) => {
       const request = indexedDB.open(name, 1);
@@ -23,7 +23,7 @@ export function makeStore(name = 'studyboard') {
   return {
     /** @returns {Promise<string[]>} */
     async names() {
-      const kept = await objects('readonly').then(s => asked(s.getAllKeys())).catch(() => []);
+      const kept = await objects('readonly').then(s => settled(s.getAllKeys())).catch(() => []);
       return [...new Set([...here.keys(), ...kept.map(String)])];
     },
     /**
@@ -32,7 +32,7 @@ export function makeStore(name = 'studyboard') {
      */
     async get(key) {
       try {
-        const blob = here.get(key) || await asked((await objects('readonly')).get(key));
+        const blob = here.get(key) || await settled((await objects('readonly')).get(key));
         return blob instanceof Blob ? blob : undefined;
       } catch { return undefined; }
     },
@@ -54,7 +54,7 @@ export function makeStore(name = 'studyboard') {
     /** @param {string} key */
     async remove(key) {
       here.delete(key);
-      await objects('readwrite').then(s => asked(s.delete(key))).catch(() => {});
+      await objects('readwrite').then(s => settled(s.delete(key))).catch(() => {});
     },
   };
 }

@@ -1,10 +1,11 @@
 // @ts-check
 // Where else a man could stand: the squares on which the stipulation holds. What more is known of them comes one square
 // after the other, so that nothing waits for it.
-import { PAGES, app, counting, parts, say, work } from './app.js';
+import { counting, work } from './actions.js';
+import { PAGES, app, services, say } from './state.js';
 import { fenWith, rowAt, treeAt } from './elsewhere.js';
 import { sideOf, squareName } from './fen.js';
-import { readSurvey, refusalIn } from './replies.js';
+import { readSurvey, refusalIn } from './parse_answers.js';
 import { draftFen } from './setup.js';
 import { bareOf, turnedTree } from './turning.js';
 import { readAim, reason } from './words.js';
@@ -19,12 +20,12 @@ export const survey = man => work(async () => {
   const d = app.setup;
   if (!d || !d.men[man]) return;
   d.man = man;
-  const answer = await parts.core.answer(`survey ${squareName(man)} ${d.aim} ${draftFen()}`, '', PAGES);
+  const answer = await services.core.answer(`survey ${squareName(man)} ${d.aim} ${draftFen()}`, '', PAGES);
   const stands = readSurvey(answer.text);
   if (app.setup !== d || d.man !== man) return;
   if (!stands.length) say('fen', `No survey: ${reason(refusalIn(answer))}.`);
   else d.survey = stands.filter(s => s.kind === 'holds' || s.kind === 'only').map(spotOf);
-  parts.showJudged();
+  services.showJudged();
   if (stands.length) counting(rows(d, man)).catch(() => {});
 }, 'fen');
 /**
@@ -43,15 +44,15 @@ export function hideSurvey() {
   const d = app.setup;
   if (!d || !d.survey) return false;
   d.survey = null;
-  parts.showJudged();
+  services.showJudged();
   return true;
 }
 
 /**
- * The worker of facts has the tables of a position: what it is asked, no move waits for.
+ * Loads the tables of a position into the worker of facts: no move waits for it.
  * @param {string} fen
  */
-const laid = async fen => parts.shelf.lay(await parts.shelf.classesOf([fen]), parts.facts);
+const loadTables = async fen => services.tables.load(await services.tables.classesOf([fen]), services.facts);
 const OFTEN = 150;
 /**
  * Does something for some squares of a survey, as long as it is shown, and draws it now and then.
@@ -66,10 +67,10 @@ async function forEach(d, all, spots, look) {
   for (const spot of spots) {
     if (!shown() || !await look(spot)) break;
     if (performance.now() - drawn < OFTEN) continue;
-    parts.showJudged();
+    services.showJudged();
     drawn = performance.now();
   }
-  if (shown()) parts.showJudged();
+  if (shown()) services.showJudged();
 }
 let known = true;
 /**
@@ -81,21 +82,21 @@ async function rows(d, man) {
   const { hero, goal } = readAim(d.aim), fen = draftFen(), spots = d.survey;
   const dots = (spots || []).filter(spot => spot.sign === 'dot');
   if (!known || !dots.length || goal === 'mate' || hero !== sideOf(fen)) return;
-  await laid(fen);
+  await loadTables(fen);
   await forEach(d, spots, dots, async spot => {
-    const row = await rowAt(parts.facts, goal, fenWith(fen, man, spot.to));
+    const row = await rowAt(services.facts, goal, fenWith(fen, man, spot.to));
     known = row !== undefined;
     spot.row = row === undefined ? null : row;
     return known;
   });
 }
 
-const asked = /** @type {WeakSet<Spot[]>} */ (new WeakSet());
+const requested = /** @type {WeakSet<Spot[]>} */ (new WeakSet());
 /**
- * Whether the trees of a survey were asked for.
+ * Whether the trees of a survey were requested.
  * @param {Spot[]} spots
  */
-export const isAsked = spots => asked.has(spots);
+export const treesRequested = spots => requested.has(spots);
 /**
  * Whether the set-up has a tree that could come along.
  * @param {Draft} d
@@ -104,18 +105,18 @@ export const hasTree = d => !d.anew && app.view !== null && app.view.root.childr
 /** What the tree of the study would be on each square of the survey, the dots first. */
 export const lookAtTrees = () => counting(trees()).catch(fault => {
   say('fen', `Not looked at: ${fault.message}.`);
-  parts.showJudged();
+  services.showJudged();
 });
 async function trees() {
   const d = app.setup, spots = d && d.survey, view = app.view;
-  if (!d || !spots || !view || d.man === null || isAsked(spots)) return;
+  if (!d || !spots || !view || d.man === null || treesRequested(spots)) return;
   const man = d.man, fen = draftFen(), tree = turnedTree(bareOf(view.root), d.turns);
   const first = (/** @type {Spot} */ spot) => Number(spot.sign !== 'dot');
-  asked.add(spots);
-  parts.showJudged();
-  await laid(fen);
+  requested.add(spots);
+  services.showJudged();
+  await loadTables(fen);
   await forEach(d, spots, [...spots].sort((x, y) => first(x) - first(y)), async spot => {
-    spot.there = await treeAt(parts.facts, fenWith(fen, man, spot.to), d.aim, tree);
+    spot.there = await treeAt(services.facts, fenWith(fen, man, spot.to), d.aim, tree);
     return true;
   });
 }

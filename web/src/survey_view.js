@@ -1,10 +1,10 @@
 // @ts-check
-// 'Where else': the man that is asked for, the squares on which it could stand, and what is known of them.
+// 'Where else': the man that is chosen, the squares on which it could stand, and what is known of them.
 import { button, h, svg } from './dom.js';
 import { isWhite, squareName } from './fen.js';
 import { MOST_IN_ROW, byRow, byTree, thereText } from './elsewhere.js';
 import { moveDraft } from './setup.js';
-import { hasTree, isAsked, lookAtTrees, survey } from './survey.js';
+import { hasTree, treesRequested, lookAtTrees, survey } from './survey.js';
 /** @typedef {import('./setup.js').Draft} Draft @typedef {import('./elsewhere.js').Spot} Spot */
 
 const FIRST = 12;
@@ -57,7 +57,7 @@ function rowsView(spots) {
  * @param {Spot[]} spots
  */
 function treesView(d, spots) {
-  if (!isAsked(spots))
+  if (!treesRequested(spots))
     return h('p', {}, button('What becomes of the moves there?', 'the faults that this study would have on each square',
       lookAtTrees, { id: 'lookAtTrees', class: 'chip act' }));
   const kept = byTree(spots), done = spots.filter(spot => spot.there).length, none = done - kept.length,

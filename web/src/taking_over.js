@@ -1,7 +1,8 @@
 // @ts-check
 // A set-up becomes lines: a new study, another position for this one with an empty tree, or with as much of its tree as is legal.
 import { $ } from './dom.js';
-import { app, change, counting, doc, evaluate, opened, parts, say } from './app.js';
+import { change, counting, evaluate, opened } from './actions.js';
+import { app, doc, services, say } from './state.js';
 import { addStudy, replacePosition, withMoves } from './edits.js';
 import { fensOf } from './script.js';
 import { closeSetup, draftFen } from './setup.js';
@@ -16,7 +17,7 @@ import { counted } from './words.js';
  */
 async function movesFrom(d, fen) {
   const tree = turnedTree(bareOf(/** @type {import('./types.js').View} */ (app.view).root), d.turns), head = ['position ' + fen, 'stipulate ' + d.aim];
-  await parts.shelf.ready(fensOf(head));
+  await services.tables.ready(fensOf(head));
   return legalPart(tree, async lines => {
     const { refused } = await evaluate([...head, ...lines]), first = refused.find(r => r.line >= head.length);
     return first ? first.line - head.length : -1;
@@ -48,7 +49,7 @@ async function taken(how) {
   const d = /** @type {Draft} */ (app.setup), fen = draftFen(), before = doc();
   const kept = how === 'keep' && app.view ? await movesFrom(d, fen).catch(fault => {
     say('fen', `${fault.message}.`);
-    parts.show();
+    services.show();
     return null;
   }) : { lines: [], fallen: [] };
   if (!kept || app.setup !== d) return;
@@ -60,6 +61,6 @@ async function taken(how) {
   closeSetup();
   $('board').firstChild.focus({ preventScroll: true });
   if (kept.fallen.length) say('board', `${counted(kept.lines.length, 'move')} kept. ${fallenText(kept.fallen)}`, true);
-  parts.show();
+  services.show();
   if (d.anew && !d.more) opened(before);
 }

@@ -1,12 +1,13 @@
 // @ts-check
 // The texts: the game as PGN, the script, and refused lines.
 import { button, h } from './dom.js';
-import { app, change, doc, goStudy } from './app.js';
+import { change, goStudy } from './actions.js';
+import { app, doc } from './state.js';
 import { dropStudy, tidy } from './edits.js';
 import { copyStudy, moveStudy } from './study_edits.js';
 import { numbersOf } from './entries.js';
-import { table } from './facts_view.js';
-import { told } from './head_view.js';
+import { table } from './review_view.js';
+import { messageAt } from './head_view.js';
 import { diagramView } from './diagram.js';
 import { openText } from './opening.js';
 import { counted, reason } from './words.js';
@@ -43,7 +44,7 @@ function scriptView(s) {
       },
       h('summary', { onclick: (/** @type {any} */ e) => { open.script = !e.target.parentNode.open; } }, 'Script'),
       h('p', {class: 'note'}, 'The script is the study: what you do writes its lines. It can be changed or pasted here, a PGN too.'), script,
-      told('script'),
+      messageAt('script'),
       h('div', {class: 'row'}, button('Run the script', 'take the text as it stands', () => openText(script.value), {id: 'runScript'}),
         s && app.view &&
             button(

@@ -1,9 +1,10 @@
 // @ts-check
 // The solution, as it is printed: first children in a line, variations below the move that they replace.
-import { $, h, mend } from './dom.js';
+import { $, h, patch } from './dom.js';
 import { numbered, sideOf } from './fen.js';
-import { app, doc, go } from './app.js';
-import { written } from './replies.js';
+import { go } from './actions.js';
+import { app, doc } from './state.js';
+import { written } from './parse_answers.js';
 import { editsTo } from './script.js';
 import { bareTree } from './unmarked.js';
 import { counted, markMeaning, moveName, valueSign, valueText, zugzwangText } from './words.js';
@@ -102,11 +103,11 @@ function bareView(s) {
  */
 export function showTree(s) {
   const view = app.view, nodes = s && view ? written(view.root).length - 1 : 0;
-  if (!s || !view) return mend($('tree'), s ? bareView(s) : []);
+  if (!s || !view) return patch($('tree'), s ? bareView(s) : []);
   const title = () => h('h2', { id: 'solution' }, 'Solution ', nodes > 0 && h('small', {}, counted(nodes, 'move')));
   const none = () => h('p', { class: 'note' }, 'Play a move on the board, choose one below it, or type it.');
   const tree = () => h('div', { class: 'tree', role: 'group', 'aria-labelledby': 'solution' });
-  mend($('tree'), [{ key: `solution ${nodes}`, make: title },
+  patch($('tree'), [{ key: `solution ${nodes}`, make: title },
     ...(nodes ? [{ key: 'tree', make: tree, kids: lineItems(s, view.root, true) }, { key: 'key', make: keyView }] : [{ key: 'none', make: none }])]);
 }
 /** A press on a move of the tree leads to it. */

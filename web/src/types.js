@@ -24,7 +24,7 @@
  * @property {TreeNode | null} parent
  * @property {TreeNode[]} children
  *
- * @typedef {object} View          what `view` tells of a study at one of its nodes
+ * @typedef {object} View          the answer to `view`: a study at one of its nodes
  * @property {string} fen
  * @property {string} verdict      `sound`, `unsound 3`, `wrong`; empty without a stipulation
  * @property {string} start        the value at the root in words
@@ -58,8 +58,8 @@
  * @property {{line: number, path: string} | null} made      the node that the last `insert` or `promote` made
  * @property {string} pgn          its game after its last edit
  * @property {string} verdict
- * @property {string[]} games      those that its script tells: at each `pgn` line, and after the last edit
- * @property {boolean} told        whether the last of them is `pgn`
+ * @property {string[]} games      those of its script: at each `pgn` line, and after the last edit
+ * @property {boolean} ended       whether no edit follows its last `pgn` line
  *
  * @typedef {{line: number, text: string, reply: string}} Refused
  * @typedef {{lines: string[], studies: Study[], refused: Refused[]}} Script

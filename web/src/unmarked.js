@@ -1,6 +1,6 @@
 // @ts-check
 // A study before the program has read it: its moves as its lines have them, without marks, values or boards.
-import { isEdit, supposed, wordsOf } from './script.js';
+import { isEdit, assumeAccepted, wordsOf } from './script.js';
 /** @typedef {{path: string, san: string, children: Bare[]}} Bare      a move of the tree; the root has none */
 
 /**
@@ -9,8 +9,8 @@ import { isEdit, supposed, wordsOf } from './script.js';
  * @returns {import('./types.js').Script}
  */
 export function unjudged(lines) {
-  const script = supposed(lines);
-  for (const study of script.studies) Object.assign(study, { pgn: '', verdict: '', games: [], told: false });
+  const script = assumeAccepted(lines);
+  for (const study of script.studies) Object.assign(study, { pgn: '', verdict: '', games: [], ended: false });
   return script;
 }
 /**

@@ -1,10 +1,10 @@
 // @ts-check
 // The worker around one core: messages in, one answer each, in their order.
 //   {id, kind: 'start', module}                      a compiled module
-//   {id, kind: 'lay', name, bytes}                   a table's file (an ArrayBuffer, transferred)
+//   {id, kind: 'load', name, bytes}                   a table's file (an ArrayBuffer, transferred)
 //   {id, kind: 'drop', name}
 //   {id, kind: 'answer', request, script, pages}     -> {bytes, ended, saved: [[name, bytes] ..]}
-//   {id, kind: 'read', blob, digested}               -> {bytes, digest}: a file and, where asked for, its SHA-256; no core is needed
+//   {id, kind: 'read', blob, digested}               -> {bytes, digest}: a file and, where wanted, its SHA-256; no core is needed
 // Each answer has {id, ms, memory}, or {id, failed} after a trap: then the page ends this worker.
 import { makeCore } from './core_host.js';
 
@@ -17,7 +17,7 @@ let core = null;
 function act(message) {
   if (message.kind === 'start') { core = makeCore(message.module); return {}; }
   if (!core) throw new Error('no core yet');
-  if (message.kind === 'lay') { core.lay(message.name, new Uint8Array(message.bytes)); return {}; }
+  if (message.kind === 'load') { core.load(message.name, new Uint8Array(message.bytes)); return {}; }
   if (message.kind === 'drop') { core.drop(message.name); return {}; }
   return core.answer(message.request, message.script, message.pages);
 }

@@ -1,9 +1,9 @@
 // Elements that are mended in place, over made-up nodes: what is the same at its place is kept, with all below it that is the same.
 import test from 'node:test';
 import assert from 'node:assert/strict';
-import { mend } from '../src/dom.js';
+import { patch } from '../src/dom.js';
 
-/** A node with children, as much of it as `mend` asks for. */
+/** A node with children, as much of it as `patch` asks for. */
 class Made {
   constructor(name) { this.name = name; this.kids = []; this.parent = null; }
   get firstChild() { return this.kids[0] || null; }
@@ -26,22 +26,22 @@ test('what is wanted stands there, and only what differs is made', () => {
   ];
   for (const [list, most] of steps) {
     made = 0;
-    mend(root, wanted(list));
+    patch(root, wanted(list));
     assert.deepEqual(told(root), list);
     assert.equal(made, most, JSON.stringify(list));
   }
 });
 test('a node that is kept is the same one', () => {
   const root = new Made('root');
-  mend(root, wanted(['a', ['b', ['c']]]));
+  patch(root, wanted(['a', ['b', ['c']]]));
   const [first, second] = root.kids;
-  mend(root, wanted(['a', ['b', ['c', 'd']], 'e']));
+  patch(root, wanted(['a', ['b', ['c', 'd']], 'e']));
   assert.ok(root.kids[0] === first && root.kids[1] === second && second.kids.length === 2);
 });
 test('what another hand put there gives way', () => {
   const root = new Made('root');
   root.insertBefore(new Made('a'), null);
   made = 0;
-  mend(root, wanted(['a']));
+  patch(root, wanted(['a']));
   assert.equal(made, 1);
 });

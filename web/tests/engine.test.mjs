@@ -33,12 +33,12 @@ test('answers come to those who asked', async () => {
 });
 test('a trap ends the worker, with the tables in it; the next question begins anew', async () => {
   const { core, workers } = begun();
-  await core.lay('KK', new Uint8Array(8));
-  assert.ok(core.holds('KK'));
+  await core.load('KK', new Uint8Array(8));
+  assert.ok(core.has('KK'));
   const waiting = core.answer('sleep', '', 1), other = assert.rejects(waiting, /unreachable/);
   await assert.rejects(core.answer('trap', '', 1), /unreachable/);
   await other;
-  assert.ok(!core.holds('KK') && workers[0].ended);
+  assert.ok(!core.has('KK') && workers[0].ended);
   assert.equal((await core.answer('again', '', 1)).text, 'again');
   assert.equal(workers.length, 2);
 });

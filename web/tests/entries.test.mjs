@@ -2,7 +2,7 @@
 import test from 'node:test';
 import assert from 'node:assert/strict';
 import { countsOf, csvOf, entriesOf, hasSolution, nameOf, stampOf } from '../src/entries.js';
-import { readReview, readReviews } from '../src/replies.js';
+import { readReview, readReviews } from '../src/parse_answers.js';
 import { readScript } from '../src/script.js';
 import { copyStudy, moveStudy } from '../src/study_edits.js';
 import { insertions, isTurn, legalPart, turnedAim, turnedFen, turnedSan, turnedTree } from '../src/turning.js';

@@ -3,7 +3,7 @@ import test from 'node:test';
 import assert from 'node:assert/strict';
 import { decoded, documentOf, importNote, leftOut, looksLikePgn, notKept, originalsIn, whyLeftOut, withoutAim } from '../src/imported.js';
 import { savedGames } from '../src/notes.js';
-import { readScript, supposed } from '../src/script.js';
+import { readScript, assumeAccepted } from '../src/script.js';
 
 const LINES = [
   '# game 1, line 1: stipulated by its comment', '# not taken over: comments 9, NAGs 4, tags 1, repeated 1, moves behind 2',
@@ -34,7 +34,7 @@ test('what a script has no place for', () => {
   assert.equal(notKept(['# game 1, line 1: stipulated by its result']), '');
 });
 test('remarks above a position are the study\'s, and names stay in their letters', () => {
-  const lines = documentOf(LINES), { studies } = supposed(lines);
+  const lines = documentOf(LINES), { studies } = assumeAccepted(lines);
   assert.equal(lines.length, LINES.length - 2);
   assert.deepEqual(studies.map(s => [s.head, s.from, s.end]), [[0, 3, 14], [14, 16, lines.length]]);
   assert.deepEqual(studies.map(s => s.originals), [{ White: 'Троицкий' }, {}]);

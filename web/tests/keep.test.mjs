@@ -2,7 +2,7 @@
 import test from 'node:test';
 import assert from 'node:assert/strict';
 import { difference, makeKeeper, packed, summary, unpacked } from '../src/keep.js';
-import { advance, begin, undo } from '../src/past.js';
+import { advance, begin, undo } from '../src/history.js';
 
 /** Storage for so many letters. */
 function made(room = 1e6) {

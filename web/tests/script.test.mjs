@@ -3,10 +3,10 @@ import test from 'node:test';
 import assert from 'node:assert/strict';
 import { readFileSync } from 'node:fs';
 import * as edits from '../src/edits.js';
-import { advance, begin, redo, undo } from '../src/past.js';
-import { readView } from '../src/replies.js';
-import { editsTo, fensOf, gameLines, gamesOf, joined, linesOf, oneGame, overLimit, readScript, repliesOf, savedScript, supposed, toldBefore, toRun } from '../src/script.js';
-import { isListed, progressText } from '../src/shelf.js';
+import { advance, begin, redo, undo } from '../src/history.js';
+import { readView } from '../src/parse_answers.js';
+import { editsTo, fensOf, gameLines, gamesOf, toText, linesOf, oneGame, overLimit, readScript, repliesOf, savedScript, assumeAccepted, verdictsBefore, toRun } from '../src/script.js';
+import { isListed, progressText } from '../src/tables.js';
 import { DIGESTS } from '../src/digests.js';
 import { SECONDS } from '../src/seconds.js';
 import { typedMove, typedMoves } from '../src/typed.js';
@@ -77,9 +77,9 @@ test('what studybench would not read to its end', () => {
   assert.equal(overLimit(Array(100000).fill('#')), '');
   assert.equal(overLimit(Array(100001).fill('#')), 'TooManyLines');
 });
-test('a script whose lines are all accepted is as it was supposed to be', () => {
+test('a script whose lines are all accepted is as it was assumed to be', () => {
   for (const name of ['saavedra_1895', 'reti_1921']) {
-    const { lines, script } = gallery(name), before = supposed(lines);
+    const { lines, script } = gallery(name), before = assumeAccepted(lines);
     assert.equal(script.refused.length, 0);
     assert.deepEqual(before.studies.map(s => editsTo(lines, s)), script.studies.map(s => editsTo(lines, s)));
     assert.deepEqual(before.studies.map(s => s.aim), script.studies.map(s => s.aim));
@@ -98,7 +98,7 @@ test('a study that is told more than once', () => {
     'stipulate White to draw', 'insert 0 Kb2', game('White to draw: sound'), 'mark root draw - faults 0'
   ];
   const script = readScript(lines, sent, replies);
-  assert.deepEqual(script.studies.map(s => [s.verdict, s.games.length, toldBefore(s)]), [['wrong', 2, ['White to win: wrong']], ['sound', 1, []]]);
+  assert.deepEqual(script.studies.map(s => [s.verdict, s.games.length, verdictsBefore(s)]), [['wrong', 2, ['White to win: wrong']], ['sound', 1, []]]);
   assert.equal(gamesOf(script), replies.filter(r => r.startsWith('[')).join(''));
   assert.equal(savedScript(script, []).split('\n').filter(line => line === 'pgn').length, 3);
   assert.equal(gameLines(script).length, 9);
@@ -217,7 +217,7 @@ test('tidy writes the tree anew', () => {
 });
 test('a saved script has its tables in front and a game behind each study', () => {
   const script = { lines: START.slice(0, 5), studies: [{ ...study, end: 5 }], refused: [] };
-  assert.equal(savedScript(script, ['KK', 'KRK']), joined(['build KK', 'build KRK', ...START]));
+  assert.equal(savedScript(script, ['KK', 'KRK']), toText(['build KK', 'build KRK', ...START]));
 });
 test('undo and redo', () => {
   let h = begin(0);

@@ -1,27 +1,27 @@
 // Tables: which positions need them, over a made-up core; and nobody waits for a table that he does not need.
 import test from 'node:test';
 import assert from 'node:assert/strict';
-import { makeShelf } from '../src/shelf.js';
+import { makeTables } from '../src/tables.js';
 
 if (!globalThis.navigator) globalThis.navigator = { hardwareConcurrency: 2 };
 const RIGHT = '8/8/8/8/8/1k6/7Q/K7 w - - 0 1', REFUSED = '8/8/8/8/8/1k6/1Q6/K7 w - - 0 1',
       PAWN = '8/8/8/6k1/8/8/1P5K/8 w - - 0 1';
 /** A core that knows two positions; each other one is refused. Builders end when they are stopped. */
 function made(kept = []) {
-  const asked = [], laid = new Set(), told = [], classes = { [RIGHT]: 'KK KQK', [PAWN]: 'KK KQK KRK KBK KNK KPK' };
+  const asked = [], loaded = new Set(), told = [], classes = { [RIGHT]: 'KK KQK', [PAWN]: 'KK KQK KRK KBK KNK KPK' };
   const core = {
     answer: async (request, script) => {
       asked.push(script);
       const all = script.trim().split('\n').flatMap(line => (classes[line.slice(9)] || '').split(' '));
       return { text: [...new Set(all)].reverse().join('\n'), ended: 'done' };
     },
-    holds: name => laid.has(name), lay: async name => { laid.add(name); }
+    has: name => loaded.has(name), load: async name => { loaded.add(name); }
   };
   const spawn = () => {
     let end = () => {};
     return {
-      holds: () => false,
-      lay: async () => {},
+      has: () => false,
+      load: async () => {},
       ask: () => new Promise((ok, no) => {
         end = no;
       }),
@@ -34,40 +34,40 @@ function made(kept = []) {
     remove: async () => {}
   };
   const readers = { start() {}, read: async () => ({ bytes: new Uint8Array(1), digest: '' }) };
-  const shelf = makeShelf({ core, spawn, readers, store, tell: p => told.push(p) });
-  return { shelf, asked, laid, told };
+  const tables = makeTables({ core, spawn, readers, store, tell: p => told.push(p) });
+  return { tables, asked, loaded, told };
 }
 test('a refused position of the same men takes no classes from a right one, in either order', async () => {
   for (const order of [[RIGHT, REFUSED], [REFUSED, RIGHT]]) {
-    const { shelf } = made();
-    for (const fen of order) await shelf.classesOf([fen]);
-    assert.deepEqual(await shelf.classesOf([RIGHT]), ['KK', 'KQK']);
-    assert.deepEqual(await shelf.classesOf([REFUSED]), []);
-    assert.deepEqual(await shelf.classesOf(order), ['KK', 'KQK']);
+    const { tables } = made();
+    for (const fen of order) await tables.classesOf([fen]);
+    assert.deepEqual(await tables.classesOf([RIGHT]), ['KK', 'KQK']);
+    assert.deepEqual(await tables.classesOf([REFUSED]), []);
+    assert.deepEqual(await tables.classesOf(order), ['KK', 'KQK']);
     assert.deepEqual(
-        [shelf.named([RIGHT]), shelf.named([REFUSED]), shelf.named(order)], [['KK', 'KQK'], [], ['KK', 'KQK']]);
+        [tables.named([RIGHT]), tables.named([REFUSED]), tables.named(order)], [['KK', 'KQK'], [], ['KK', 'KQK']]);
   }
 });
 test('each position is asked for once, and classes come in the order in which they are built', async () => {
-  const { shelf, asked } = made();
-  assert.deepEqual(await shelf.classesOf([PAWN, RIGHT]), ['KK', 'KQK', 'KRK', 'KBK', 'KNK', 'KPK']);
-  await shelf.classesOf([RIGHT, PAWN]);
+  const { tables, asked } = made();
+  assert.deepEqual(await tables.classesOf([PAWN, RIGHT]), ['KK', 'KQK', 'KRK', 'KBK', 'KNK', 'KPK']);
+  await tables.classesOf([RIGHT, PAWN]);
   assert.equal(asked.length, 2);
   const many = [...Array(100).keys()].map(i => `${i} w`);
-  assert.deepEqual(await shelf.classesOf([...many, RIGHT]), ['KK', 'KQK']);
+  assert.deepEqual(await tables.classesOf([...many, RIGHT]), ['KK', 'KQK']);
   assert.equal(asked.length, 3);
 });
 test('while tables are built, a position whose tables are there is ready', async () => {
-  const { shelf, laid, told } = made();
-  const first = assert.rejects(shelf.ready([PAWN]), /Stopped/), pause = () => new Promise(on => setTimeout(on, 5));
+  const { tables, loaded, told } = made();
+  const first = assert.rejects(tables.ready([PAWN]), /Stopped/), pause = () => new Promise(on => setTimeout(on, 5));
   await pause();
-  assert.ok(shelf.isBuilding() && /^Building the table/.test(told[told.length - 1].text));
-  assert.deepEqual(await shelf.lacking([RIGHT]), ['KK', 'KQK']);
-  for (const name of ['KK', 'KQK']) laid.add(name);
-  await shelf.ready([RIGHT]);
-  const ended = assert.rejects(shelf.ready([PAWN]), /Stopped/);
+  assert.ok(tables.isBuilding() && /^Building the table/.test(told[told.length - 1].text));
+  assert.deepEqual(await tables.lacking([RIGHT]), ['KK', 'KQK']);
+  for (const name of ['KK', 'KQK']) loaded.add(name);
+  await tables.ready([RIGHT]);
+  const ended = assert.rejects(tables.ready([PAWN]), /Stopped/);
   await pause();
-  shelf.stop();
+  tables.stop();
   await Promise.all([first, ended]);
   await pause();
   assert.equal(told[told.length - 1], null);

@@ -1,18 +1,19 @@
 // @ts-check
-// What the review tells: duals in side lines, tries and their refutations, defences that are missing, best play from open ends.
+// The review: duals in side lines, tries and their refutations, defences that are missing, best play from open ends.
 import { button, h } from './dom.js';
 import { other, sideOf } from './fen.js';
-import { app, change } from './app.js';
+import { change } from './actions.js';
+import { app } from './state.js';
 import { insertLines } from './edits.js';
-import { depth, nodeAt, written } from './replies.js';
-import { add, alsoView, jump } from './head_view.js';
+import { depth, nodeAt, written } from './parse_answers.js';
+import { add, alsoView, nodeLink } from './head_view.js';
 import { counted, numberedLine, valueSign, valueText, winner, zugzwangText } from './words.js';
 /** @typedef {import('./types.js').Study} Study @typedef {import('./types.js').TreeNode} TreeNode */
 /** @typedef {import('./types.js').Review} Review @typedef {import('./types.js').Missing} Missing */
 
 const MOST = 60;
 /**
- * A table; of a long one the first rows, and the others once they are asked for, or printed.
+ * A table; of a long one the first rows, and the others on demand, or when it is printed.
  * @template T
  * @param {string[]} head
  * @param {T[]} items
@@ -63,7 +64,7 @@ export function reviewView(s) {
   const view = app.view, review = app.review;
   if (!view || !s.aim) return null;
   if (!review)
-    return app.noReview ? h('p', {class: 'note'}, `The facts were not told: ${app.noReview}.`) : h('p', {class: 'note'}, 'The facts are being found …');
+    return app.noReview ? h('p', {class: 'note'}, `The facts were not found: ${app.noReview}.`) : h('p', {class: 'note'}, 'The facts are being found …');
   return [dualsView(s, review, view.root), triesView(s, review, view.root), zugzwangView(view.root), defencesView(s, review, view.root), endsView(review, view.root)];
 }
 /**
@@ -73,7 +74,7 @@ export function reviewView(s) {
  */
 function dualsView(s, review, root) {
   const main = new Set(review.faults.map(f => f.path)), rows = byNode(review.also.filter(a => !main.has(a.path)), root);
-  return rows.length > 0 && section('duals', 'Duals in side lines', null, table(['Move', 'Also'], rows, ([n, list]) => [jump(n), alsoView(s, n, list)]));
+  return rows.length > 0 && section('duals', 'Duals in side lines', null, table(['Move', 'Also'], rows, ([n, list]) => [nodeLink(n), alsoView(s, n, list)]));
 }
 /**
  * @param {Study} s
@@ -95,14 +96,14 @@ function tryView(n, list) {
   const cell = stalemate ? 'stalemate' : [open.slice(0, 10).map(san => add(n.path, [san], san)), open.length > 10 && ` and ${open.length - 10} more`,
     one && !open.length && refuting[0], one ? h('b', {}, ' only') : h('small', {}, ` (${refuting.length} in all)`)];
   return [
-    jump(n), valueText(sideOf(n.fen), n.value), cell, n.children.map(c => c.san + (refuting.includes(c.san) ? '' : ' (does not refute)')).join(' ') || '–'
+    nodeLink(n), valueText(sideOf(n.fen), n.value), cell, n.children.map(c => c.san + (refuting.includes(c.san) ? '' : ' (does not refute)')).join(' ') || '–'
   ];
 }
 /** @param {TreeNode} root */
 function zugzwangView(root) {
   const rows = written(root).filter(n => n.zugzwang);
   return rows.length > 0 && section('zugzwangs', 'Mutual zugzwangs', 'Whoever is to move there would rather not be.',
-    table(['After', 'What is at stake'], rows, n => [n.parent ? jump(n) : 'the start', zugzwangText(n.zugzwang)]));
+    table(['After', 'What is at stake'], rows, n => [n.parent ? nodeLink(n) : 'the start', zugzwangText(n.zugzwang)]));
 }
 /**
  * @param {Study} s
@@ -157,7 +158,7 @@ function missingView(s, n, list) {
     d.count === 1 ? [' ', h('i', {}, d.answer)] : d.count === 0 ? ' stalemate' : h('small', {}, ` ${d.count} answers`), '; '];
   const rest = sorted.slice(FIRST), more = h('button', { type: 'button', class: 'chip act more', onclick: () => more.replaceWith(...rest.flatMap(d => view(d)).flat()) },
     `and ${rest.length} more`);
-  return [jump(n), n.children.map(c => c.san).join(' ') || '–', [...sorted.slice(0, FIRST).map(view), rest.length > 0 && more]];
+  return [nodeLink(n), n.children.map(c => c.san).join(' ') || '–', [...sorted.slice(0, FIRST).map(view), rest.length > 0 && more]];
 }
 /**
  * All defences that one answer alone meets, each with it.
@@ -196,7 +197,7 @@ function endsView(review, root) {
              'ends', 'Best play from the open ends', null,
              table(
                  ['End', 'Goes on'], rows,
-                 ([n, [end]]) => [n.parent ? jump(n) : 'the start', end.value ? playView(n, end.sans, end.value.n) : keepView(n, end)]));
+                 ([n, [end]]) => [n.parent ? nodeLink(n) : 'the start', end.value ? playView(n, end.sans, end.value.n) : keepView(n, end)]));
 }
 /**
  * @param {TreeNode} n

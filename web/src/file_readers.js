@@ -1,7 +1,7 @@
 // @ts-check
-// Files of tables, each with its digest, read by workers: a digest of 17 MB holds up the thread that asks for it, though it is a promise.
+// Files of tables, each with its digest, read by workers: a digest of 17 MB blocks the thread that computes it, though it is a promise.
 
-/** @typedef {{bytes: Uint8Array, digest: string}} Read      the digest is empty where none was asked for */
+/** @typedef {{bytes: Uint8Array, digest: string}} Read      the digest is empty where none was wanted */
 const MOST = 3, REST = 2000;
 
 /** @param {() => Worker} spawn */

@@ -3,7 +3,7 @@ import test from 'node:test';
 import assert from 'node:assert/strict';
 import { readFileSync, readdirSync } from 'node:fs';
 import { menOf, sideOf, squareName, isWhite } from '../src/fen.js';
-import { nodeAt, readReview, readSurvey, readView, refusalIn, written } from '../src/replies.js';
+import { nodeAt, readReview, readSurvey, readView, refusalIn, written } from '../src/parse_answers.js';
 import { aimText, valueSign, valueText, verdictSentence } from '../src/words.js';
 
 const folder = new URL('./data/', import.meta.url), text = name => readFileSync(new URL(name, folder), 'utf8');

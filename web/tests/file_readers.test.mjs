@@ -1,7 +1,7 @@
 // Files read by workers: three at a time, each answer to its own question.
 import assert from 'node:assert/strict';
 import { test } from 'node:test';
-import { makeReaders } from '../src/readers.js';
+import { makeReaders } from '../src/file_readers.js';
 
 /** Workers that answer when they are told to, a file named `bad` by a fault and one named `dead` by none at all. */
 function fakes() {

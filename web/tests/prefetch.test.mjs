@@ -1,10 +1,11 @@
 // What is asked of the program ahead, over made-up workers: nobody waits for it, it is not asked twice, and what the user does goes first.
 import test from 'node:test';
 import assert from 'node:assert/strict';
-import { arrived, decided, foresee, repliesTo, viewAhead, viewOf } from '../src/answers.js';
-import { readView } from '../src/replies.js';
-import { supposed } from '../src/script.js';
-import { app, parts } from '../src/state.js';
+import { repliesTo, viewOf } from '../src/answer_cache.js';
+import { readView } from '../src/parse_answers.js';
+import { cancelPrefetch, dropPrefetched, prefetch, prefetchView } from '../src/prefetch.js';
+import { assumeAccepted } from '../src/script.js';
+import { app, services } from '../src/state.js';
 
 const FEN = '8/8/8/6k1/8/8/1P5K/8 w - - 0 1', VIEW = `study ${FEN}\nnode root - - win 51 reply faults 0 ${FEN}\nat root 0\n`;
 /** A worker that answers when it is told to, or at once. */
@@ -12,7 +13,7 @@ function made(asked, name) {
   const held = [];
   return {
     held,
-    holds: () => true,
+    has: () => true,
     waiting: () => held.length,
     answer: (request, text) => {
       asked.push(`${name} ${request} ${text.split('\n').length - 1}`);
@@ -24,19 +25,19 @@ function made(asked, name) {
 function begin() {
   const asked = [], lines = ['position ' + FEN, 'stipulate white win'];
   made.slow = '';
-  Object.assign(parts, {
+  Object.assign(services, {
     core: made(asked, 'core'), facts: made(asked, 'facts'),
-    shelf: { named: () => ['KPK'], classesOf: async () => ['KPK'], lay: async () => [] }
+    tables: { named: () => ['KPK'], classesOf: async () => ['KPK'], load: async () => [] }
   });
-  Object.assign(app, { history: { now: { ...supposed(lines), at: 0, path: 'root', name: '' }, past: [], future: [] }, view: readView(VIEW), setup: null });
-  arrived();
+  Object.assign(app, { history: { now: { ...assumeAccepted(lines), at: 0, path: 'root', name: '' }, past: [], future: [] }, view: readView(VIEW), setup: null });
+  dropPrefetched();
   return { asked, lines };
 }
 const text = lines => lines.map(line => line + '\n').join('');
 
 test('what follows from moves is asked one after the other, and then nobody asks again', async () => {
   const { asked, lines } = begin();
-  await foresee('root', [['Kg3'], ['b4']]);
+  await prefetch('root', [['Kg3'], ['b4']]);
   assert.equal(asked.filter(a => a.startsWith('core run')).length, 2);
   assert.equal(asked.filter(a => a.startsWith('facts view')).length, 2);
   const sent = ['load KPK', ...lines, 'insert root Kg3', 'pgn'];
@@ -45,32 +46,32 @@ test('what follows from moves is asked one after the other, and then nobody asks
   assert.equal(asked.length, 4);
 });
 test('what the user does ends it, and at another node it is not used', async () => {
-  const { asked, lines } = begin(), going = foresee('root', [['Kh3'], ['b3'], ['Kg1']]);
-  decided();
+  const { asked, lines } = begin(), going = prefetch('root', [['Kh3'], ['b3'], ['Kg1']]);
+  cancelPrefetch();
   await going;
   assert.deepEqual(asked, []);
-  await foresee('root', [['Kh3']]);
-  arrived();
+  await prefetch('root', [['Kh3']]);
+  dropPrefetched();
   await repliesTo(text(['load KPK', ...lines, 'insert root Kh3', 'pgn']));
   assert.equal(asked.filter(a => a.startsWith('core run')).length, 2);
 });
 test('a view does not wait behind facts', async () => {
   const { asked, lines } = begin(), now = app.history.now;
   made.slow = 'facts';
-  parts.facts.answer('review', '');
-  await viewAhead(now, { lines: [...lines, 'insert root Kh1'], path: '0' });
+  services.facts.answer('review', '');
+  await prefetchView(now, { lines: [...lines, 'insert root Kh1'], path: '0' });
   assert.deepEqual(asked, ['facts review 0', 'core view 0 3']);
 });
 test('a view that is coming is waited for, and asked again where it fails', async () => {
   const { asked, lines } = begin(), now = app.history.now, wanted = [...lines, 'insert root Kg2'];
   made.slow = 'facts';
-  viewAhead(now, { lines: wanted, path: '0' });
+  prefetchView(now, { lines: wanted, path: '0' });
   const view = viewOf(text(wanted), '0');
-  parts.facts.held.pop()();
+  services.facts.held.pop()();
   assert.equal((await view).fen, FEN);
   assert.deepEqual(asked, ['facts view 0 3']);
-  parts.facts.answer = () => Promise.reject(new Error('stopped'));
-  viewAhead(now, { lines: [...lines, 'insert root b3'], path: '0' });
+  services.facts.answer = () => Promise.reject(new Error('stopped'));
+  prefetchView(now, { lines: [...lines, 'insert root b3'], path: '0' });
   assert.equal(typeof await viewOf(text([...lines, 'insert root b3']), '0'), 'object');
   assert.deepEqual(asked.slice(1), ['core view 0 3']);
 });

@@ -1,5 +1,5 @@
 // @ts-check
-// What the core writes of a study - its view, its review, a survey - read into records.
+// The core's answers about a study - its view, its review, a survey - read into records.
 import { squareAt } from './fen.js';
 /** @typedef {import('./types.js').Value} Value @typedef {import('./types.js').TreeNode} TreeNode @typedef {import('./types.js').View} View */
 /** @typedef {import('./types.js').Move} Move @typedef {import('./types.js').Review} Review @typedef {import('./types.js').Stand} Stand */
@@ -138,16 +138,16 @@ export const readReviews = text => text.split(/^(?=study )/m).map(readReview).fi
  */
 export function readReview(text) {
   const review = /** @type {Review} */ ({ empty: false, waste: '', faults: [], also: [], refuted: [], missing: [], ends: [] });
-  let told = false;
+  let found = false;
   for (const row of rowsOf(text)) {
-    if (row[0] === 'study') told = true;
+    if (row[0] === 'study') found = true;
     else if (row[0] === 'empty') review.empty = true;
     else if (row[0] === 'waste') review.waste = row.slice(1).join(' ');
     else if (row[0] === 'fault' || row[0] === 'also' || row[0] === 'refuted' || row[0] === 'missing') addFact(review, row);
     else if (row[0] === 'play') { const [value, at] = readValue(row, 2); review.ends.push({ path: row[1], value, keeping: 0, of: 0, sans: row.slice(at) }); }
     else if (row[0] === 'keep') review.ends.push({ path: row[1], value: null, keeping: Number(row[2]), of: Number(row[3]), sans: row.slice(4) });
   }
-  return told ? review : null;
+  return found ? review : null;
 }
 /**
  * @param {Review} review

@@ -1,16 +1,15 @@
 // @ts-check
 // What is done to the document, one action after the other.
-import { arrived, decided, factsOf, linesToRun, lookAround, repliesTo, viewAhead, viewOf } from './answers.js';
-import { advance, redo as redone, replace, undo as undone } from './past.js';
-import { editsTo, fensOf, isEdit, joined, overLimit, readScript, repliesOf, wordsOf } from './script.js';
-import { nodeAt } from './replies.js';
+import { linesToRun, repliesTo, reviewOf, viewOf } from './answer_cache.js';
+import { advance, redo as redone, replace, undo as undone } from './history.js';
+import { editsTo, fensOf, isEdit, toText, overLimit, readScript, repliesOf, wordsOf } from './script.js';
+import { nodeAt } from './parse_answers.js';
+import { cancelPrefetch, dropPrefetched, prefetchNeighbours, prefetchView } from './prefetch.js';
 import { Stopped } from './engine.js';
 import { freshId } from './keep.js';
-import { app, blank, doc, parts, say } from './state.js';
+import { app, blank, doc, services, say } from './state.js';
 import { unjudged } from './unmarked.js';
 import { counted, endedReason, moveName, reason } from './words.js';
-export { viewOf } from './answers.js';
-export * from './state.js';
 /** @typedef {import('./types.js').Doc} Doc @typedef {import('./types.js').Change} Change @typedef {import('./types.js').Script} Script */
 /** @typedef {import('./state.js').Say} Say */
 
@@ -25,7 +24,7 @@ export function opened(before) {
   if (app.say || !(refused || place)) return;
   const lines = refused ? `${counted(refused, 'line')} of this script ${refused === 1 ? 'was' : 'were'} refused; they are listed below the study. ` : '';
   say('board', lines + place, !refused);
-  parts.show();
+  services.show();
 }
 
 let queue = Promise.resolve();
@@ -36,17 +35,17 @@ let queue = Promise.resolve();
  * @returns {Promise<void>}
  */
 export function work(job, where = 'board') {
-  queue = queue.then(job).catch(fault => told(fault, where));
+  queue = queue.then(job).catch(fault => showFault(fault, where));
   return queue;
 }
 /**
  * @param {any} fault
  * @param {string} where
  */
-function told(fault, where) {
+function showFault(fault, where) {
   if (!(fault instanceof Stopped)) console.error(fault);
   say(where, fault instanceof Stopped ? `${fault.message}.` : `The program did not finish: ${fault.message}. Nothing was changed.`);
-  parts.show();
+  services.show();
 }
 
 /**
@@ -56,7 +55,7 @@ function told(fault, where) {
  */
 export async function evaluate(lines) {
   readable(lines);
-  const { sent, texts } = await linesToRun(lines), { text, ended } = await repliesTo(joined(texts));
+  const { sent, texts } = await linesToRun(lines), { text, ended } = await repliesTo(toText(texts));
   if (ended === 'TooManyLines') throw notRun(ended);
   if (ended !== 'done') throw new Error(endedReason(ended));
   return readScript(lines, sent, repliesOf(texts, text).slice(texts.length - sent.length));
@@ -73,7 +72,7 @@ function readable(lines) {
 }
 
 const changing = /** @type {Set<Promise<any>>} */ (new Set());
-/** Settles when all that was asked for before is done. */
+/** Settles when all that was requested before is done. */
 export async function idle() {
   while (changing.size) await Promise.allSettled(changing);
   await work(async () => {});
@@ -101,28 +100,28 @@ export function counting(done) {
 async function changeOnce(make, where) {
   const first = make(doc()), before = app.history;
   if (!first) return false;
-  decided();
+  cancelPrefetch();
   try {
-    const lacking = first.lines === doc().lines ? [] : await parts.shelf.lacking(fensOf(first.lines));
+    const lacking = first.lines === doc().lines ? [] : await services.tables.lacking(fensOf(first.lines));
     if (lacking.length && (first.lenient || !doc().judged)) {
       await work(() => unmarked(make), where);
       return app.history !== before;
     }
     if (lacking.length) await tablesFor(first.lines, lacking, where);
-  } catch (fault) { told(fault, where); return false; }
+  } catch (fault) { showFault(fault, where); return false; }
   await work(() => changed(make, where), where);
   return app.history !== before;
 }
 /**
- * What is asked for waits until its tables are built, and says so.
+ * A change waits until its tables are built, and says so.
  * @param {string[]} lines
  * @param {string[]} lacking
  * @param {string} where
  */
 async function tablesFor(lines, lacking, where) {
   say(where, `This waits for the ${lacking.length === 1 ? 'table' : 'tables'} ${lacking.join(' ')}.`, true);
-  parts.show();
-  await parts.shelf.ready(fensOf(lines));
+  services.show();
+  await services.tables.ready(fensOf(lines));
 }
 /**
  * Lines whose tables lack stand there at once, unmarked; they are judged when the tables are there.
@@ -158,7 +157,7 @@ async function changed(make, where) {
   const now = doc(), wanted = make(now);
   if (!wanted) return;
   if (wanted.lines === now.lines) return look(wanted.at, wanted.path === 'made' ? undefined : wanted.path);
-  viewAhead(now, wanted).catch(() => {});
+  prefetchView(now, wanted).catch(() => {});
   const script = await evaluate(wanted.lines),
         newly = script.refused.find(
             r => isEdit(r.text) && !now.refused.some(o => o.text === r.text && o.reply === r.reply));
@@ -167,7 +166,7 @@ async function changed(make, where) {
     say(where,
         subject ? `${subject}: ${reason(newly.reply)}.` :
                   `Refused: ${brokenMove(newly.reply) || reason(newly.reply)}.`);
-    return parts.show();
+    return services.show();
   }
   await arrive(advance(app.history, docAfter(now, wanted, script, true)));
 }
@@ -211,13 +210,13 @@ export const redo = () => step(redone);
 
 /**
  * A state that the program has not read yet is read, if its tables are there; else it is shown as its lines have it.
- * @param {import('./past.js').History<Doc>} history
+ * @param {import('./history.js').History<Doc>} history
  */
 async function read(history) {
   const now = history.now;
   if (now.judged) return history;
-  const here = !(await parts.shelf.lacking(fensOf(now.lines))).length;
-  if (here) viewAhead({ ...now, studies: [] }, { lines: now.lines, at: now.at, path: now.path }).catch(() => {});
+  const here = !(await services.tables.lacking(fensOf(now.lines))).length;
+  if (here) prefetchView({ ...now, studies: [] }, { lines: now.lines, at: now.at, path: now.path }).catch(() => {});
   const script = here ? await evaluate(now.lines) : unjudged(now.lines);
   return replace(
       history, {...now, ...script, at: Math.max(0, Math.min(now.at, script.studies.length - 1)), judged: here });
@@ -234,7 +233,7 @@ function judgeLater({ lines, id }) {
     halted = { id, why: `${fault.message}. Without its tables a study is not judged` };
     if (!mine()) return;
     app.noView = halted.why;
-    parts.show();
+    services.show();
   };
   const built = async () => {
     if (!mine()) return;
@@ -243,7 +242,7 @@ function judgeLater({ lines, id }) {
     app.say = null;
     opened(blank);
   };
-  counting(parts.shelf.ready(fensOf(lines)).then(() => work(() => built().catch(failed)), failed));
+  counting(services.tables.ready(fensOf(lines)).then(() => work(() => built().catch(failed)), failed));
 }
 /** A document that was not judged, since its tables lacked, is tried again. */
 export function judgeAgain() {
@@ -252,13 +251,13 @@ export function judgeAgain() {
 }
 /**
  * A new state is shown once all is there that is shown of it; its facts come after.
- * @param {import('./past.js').History<Doc>} wanted
+ * @param {import('./history.js').History<Doc>} wanted
  * @param {Say | null} note
  */
 export async function arrive(wanted, note = null) {
   const stamp = ++app.stamp;
   let next = await read(wanted);
-  const s = next.now.studies[next.now.at], text = s ? joined(editsTo(next.now.lines, s)) : '', judged = next.now.judged;
+  const s = next.now.studies[next.now.at], text = s ? toText(editsTo(next.now.lines, s)) : '', judged = next.now.judged;
   let view = s && judged ? await viewOf(text, next.now.path) : null;
   if (typeof view === 'string' && next.now.path !== 'root') {
     next = replace(next, { ...next.now, path: 'root' });
@@ -273,10 +272,10 @@ export async function arrive(wanted, note = null) {
     review: null,
     noReview: ''
   });
-  arrived();
-  if (app.view && s && s.aim) factsOf(text, s.fen, stamp);
-  parts.keep();
-  parts.show();
-  if (app.view) lookAround(text, stamp);
+  dropPrefetched();
+  if (app.view && s && s.aim) reviewOf(text, s.fen, stamp);
+  services.keep();
+  services.show();
+  if (app.view) prefetchNeighbours(text, stamp);
   if (!judged && !app.noView) judgeLater(next.now);
 }

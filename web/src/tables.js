@@ -8,7 +8,7 @@ import { SECONDS } from './seconds.js';
 import { Stopped } from './engine.js';
 import { makeBuilds, readingOrder, secondsLeft } from './schedule.js';
 import { reason } from './words.js';
-import { joined } from './script.js';
+import { toText } from './script.js';
 /** @typedef {import('./engine.js').Core} Core */
 /** @typedef {{text: string, done: number, of: number}} Progress */
 
@@ -39,32 +39,32 @@ export function progressText(running, made, all, seconds, left) {
 }
 
 /**
- * @param {{core: Core, spawn: () => Core, readers: ReturnType<typeof import('./readers.js').makeReaders>,
+ * @param {{core: Core, spawn: () => Core, readers: ReturnType<typeof import('./file_readers.js').makeReaders>,
  *   store: ReturnType<typeof import('./store.js').makeStore>, tell: (p: Progress | null) => void}} parts
  */
-export function makeShelf({ core, spawn, readers, store, tell }) {
+export function makeTables({ core, spawn, readers, store, tell }) {
   const known = /** @type {Map<string, string[]>} */ (new Map());
   const right = /** @type {Map<string, Blob>} */ (new Map());       // compared with the list in this visit: a blob never changes
   let builders = /** @type {Core[]} */ ([]), stops = 0, kept = true;
 
   /** @param {string[]} fens */
-  async function ask(fens) {
-    const { text } = await core.answer('tables', joined(fens.map(fen => 'position ' + fen)), 1);
+  async function request(fens) {
+    const { text } = await core.answer('tables', toText(fens.map(fen => 'position ' + fen)), 1);
     return text.split(/\s+/).filter(word => DIGESTS[word] !== undefined);
   }
   /**
-   * The classes that positions need, in the order in which to build them. Each position is asked for and kept by
+   * The classes that positions need, in the order in which to build them. Each position is requested and kept by
    * itself: one that is refused needs none, though another of the same men may.
    * @param {string[]} fens
    * @returns {Promise<string[]>}
    */
   async function classesOf(fens) {
-    const fresh = [...new Set(fens)].filter(fen => !known.has(fen)), together = joined(fresh);
+    const fresh = [...new Set(fens)].filter(fen => !known.has(fen)), together = toText(fresh);
     if (fresh.length > MANY) {
-      if (!known.has(together)) known.set(together, await ask(fresh));
+      if (!known.has(together)) known.set(together, await request(fresh));
       return merged([...fens, together]);
     }
-    await Promise.all(fresh.map(async fen => known.set(fen, await ask([fen]))));
+    await Promise.all(fresh.map(async fen => known.set(fen, await request([fen]))));
     return merged(fens);
   }
   /** @param {string[]} keys */
@@ -73,10 +73,10 @@ export function makeShelf({ core, spawn, readers, store, tell }) {
     return CLASSES.filter(name => all.has(name));
   }
   /**
-   * The classes that positions need, as far as they were asked for before.
+   * The classes that positions need, as far as they were requested before.
    * @param {string[]} fens
    */
-  const named = fens => merged([...fens, joined([...new Set(fens)])]);
+  const named = fens => merged([...fens, toText([...new Set(fens)])]);
   const fetched = /** @type {Map<string, Promise<Uint8Array | null>>} */ (new Map());
   /**
    * Tables that will be wanted are read, and compared with the list, while the program starts.
@@ -109,17 +109,17 @@ export function makeShelf({ core, spawn, readers, store, tell }) {
     return file.bytes;
   }
   /** @type {WeakMap<Core, Map<string, Promise<boolean>>>} */
-  const laying = new WeakMap();
+  const loading = new WeakMap();
   /**
    * Puts a kept table into a core, once though several ask for it; false where it is not kept.
    * @param {string} name
    * @param {Core} into
    */
-  function layOne(name, into) {
-    const now = laying.get(into) || new Map(), before = now.get(name);
-    laying.set(into, now);
+  function loadOne(name, into) {
+    const now = loading.get(into) || new Map(), before = now.get(name);
+    loading.set(into, now);
     const done = before || taken(name).then(async bytes => {
-      if (bytes && !into.holds(name)) await into.lay(name, bytes);
+      if (bytes && !into.has(name)) await into.load(name, bytes);
       return bytes !== null;
     }).finally(() => now.delete(name));
     now.set(name, done);
@@ -130,9 +130,9 @@ export function makeShelf({ core, spawn, readers, store, tell }) {
    * @param {string[]} names
    * @param {Core} into
    */
-  async function lay(names, into = core) {
-    const wanted = readingOrder(names.filter(name => !into.holds(name)), sizeOf, SMALL);
-    const there = await Promise.all(wanted.map(name => layOne(name, into))),
+  async function load(names, into = core) {
+    const wanted = readingOrder(names.filter(name => !into.has(name)), sizeOf, SMALL);
+    const there = await Promise.all(wanted.map(name => loadOne(name, into))),
           lacking = wanted.filter((_, i) => !there[i]);
     return names.filter(name => lacking.includes(name));
   }
@@ -141,7 +141,7 @@ export function makeShelf({ core, spawn, readers, store, tell }) {
    * @param {string[]} fens
    */
   async function lacking(fens) {
-    const missing = await lay(await classesOf(fens));
+    const missing = await load(await classesOf(fens));
     fetched.clear();
     return missing;
   }
@@ -157,12 +157,12 @@ export function makeShelf({ core, spawn, readers, store, tell }) {
     if (navigator.storage && navigator.storage.persist) navigator.storage.persist().catch(() => false);
     for (const name of missing) needs.set(name, names);
     await builds.want(missing);
-    await lay(names);
+    await load(names);
   }
   const needs = /** @type {Map<string, string[]>} */ (new Map()),
         began = /** @type {Map<string, number>} */ (new Map());
   const most = Math.max(1, Math.min(3, (navigator.hardwareConcurrency || 2) - 1)),
-        builds = makeBuilds(most, build, told);
+        builds = makeBuilds(most, build, reportBuilds);
   let first = 0, least = Infinity, ticking = 0, shown = /** @type {[string[], string[], number]} */ ([[], [], 0]),
       pace = 1, spent = [0, 0];
   /** @param {string} name */
@@ -183,7 +183,7 @@ export function makeShelf({ core, spawn, readers, store, tell }) {
    * @param {string[]} waiting
    * @param {number} made
    */
-  function told(running, waiting, made) {
+  function reportBuilds(running, waiting, made) {
     const now = performance.now(), all = made + running.length + waiting.length,
           before = shown[2] + shown[0].length + shown[1].length;
     shown = [running, waiting, made];
@@ -194,7 +194,7 @@ export function makeShelf({ core, spawn, readers, store, tell }) {
     }
     first = first || now;
     if (all > before) least = Infinity;
-    ticking = ticking || setInterval(() => told(...shown), 500);
+    ticking = ticking || setInterval(() => reportBuilds(...shown), 500);
     const left = running.map(
         name => Math.max(weight(name) / 20, weight(name) - (now - (began.get(name) || now)) / 1000));
     least = Math.min(least, secondsLeft(left, waiting.map(weight), most));
@@ -209,7 +209,7 @@ export function makeShelf({ core, spawn, readers, store, tell }) {
     builders.push(builder);
     began.delete(name);
     try {
-      await lay((needs.get(name) || []).filter(other => other !== name), builder);
+      await load((needs.get(name) || []).filter(other => other !== name), builder);
       if (before !== stops) throw new Stopped(STOPPED);
       began.set(name, performance.now());
       const { bytes, ended } = await builder.ask('make ' + name, '', 0);
@@ -223,7 +223,7 @@ export function makeShelf({ core, spawn, readers, store, tell }) {
       if (!isListed(name, file.digest)) throw new Error(`the table ${name} is not the one of the list; the browser or the machine is faulty`);
       right.set(name, blob);
       if (!await store.put(name, blob)) kept = false;
-      await core.lay(name, file.bytes);
+      await core.load(name, file.bytes);
       return true;
     } catch (fault) {
       for (const other of builders) other.end();
@@ -246,7 +246,7 @@ export function makeShelf({ core, spawn, readers, store, tell }) {
     const named = files.map(file => ({ file, name: (/K[QRBNP]*K[QRBNP]*(?=[^A-Z]*$)/.exec(file.name.replace(/\.dtm$/i, '')) || [''])[0] }));
     for (const { file, name } of named)
       if (!DIGESTS[name]) bad.push(`${file.name}: the name of a table is KQK.dtm, KRKP.dtm and so on`);
-    const tables = named.filter(({ name }) => DIGESTS[name]), read = /** @type {Promise<import('./readers.js').Read | null>[]} */ ([]);
+    const tables = named.filter(({ name }) => DIGESTS[name]), read = /** @type {Promise<import('./file_readers.js').Read | null>[]} */ ([]);
     for (const [i, { file, name }] of tables.entries()) {
       for (const { file } of tables.slice(read.length, i + 3)) read.push(readers.read(file).catch(() => null));
       const found = await read[i];
@@ -273,7 +273,7 @@ export function makeShelf({ core, spawn, readers, store, tell }) {
     classesOf,
     named,
     fetchAhead,
-    lay,
+    load,
     lacking,
     ready,
     estimate,

@@ -1,0 +1,127 @@
+// @ts-check
+// What the program has answered, kept by the text of its script: replies, views and reviews.
+import { readReview, readView, refusalIn } from './parse_answers.js';
+import { fensOf, toRun } from './script.js';
+import { PAGES, app, services } from './state.js';
+import { reason } from './words.js';
+/** @typedef {import('./types.js').View} View @typedef {import('./types.js').Review} Review */
+/** @typedef {import('./types.js').Answer} Answer @typedef {import('./types.js').Engine} Engine */
+
+/** A script with more letters is large: fewer of its answers are kept, and fewer are requested ahead. */
+export const LARGE = 10000;
+export const pause = (/** @type {number} */ ms) => new Promise(on => setTimeout(on, ms));
+/**
+ * @template T
+ * @param {Map<string, T>} map
+ * @param {string} key
+ * @param {T} value
+ */
+function remember(map, key, value) {
+  while (map.size >= (key.length < LARGE ? 400 : 40)) map.delete(map.keys().next().value || '');
+  map.set(key, value);
+}
+
+// ---- replies
+const runs = /** @type {Map<string, Promise<Answer>>} */ (new Map());      // from the node that is shown
+let lastRun = 0;
+/** How long the last run took, in milliseconds. */
+export const lastRunTime = () => lastRun;
+/**
+ * The lines that are run for a script, those that load its tables first.
+ * @param {string[]} lines
+ */
+export async function linesToRun(lines) {
+  const sent = toRun(lines), names = (await services.tables.classesOf(fensOf(lines))).filter(services.core.has);
+  return { sent, texts: [...names.map(name => 'load ' + name), ...sent.map(s => s.text)] };
+}
+/** @param {string} text */
+export function repliesTo(text) {
+  const kept = runs.get(text), began = performance.now(), answer = kept || services.core.answer('run', text, PAGES);
+  if (!kept) answer.then(() => { lastRun = performance.now() - began; }, () => {});
+  return answer;
+}
+/**
+ * Requests the replies to a script, and keeps them.
+ * @param {string} text
+ */
+export async function keepReplies(text) {
+  const answer = repliesTo(text);
+  runs.set(text, answer);
+  await answer.catch(() => runs.delete(text));
+}
+/** Replies that were requested ahead at one node are of no use at another. */
+export function clearRuns() { runs.clear(); }
+
+// ---- views
+const views = /** @type {Map<string, View>} */ (new Map());
+const pending = /** @type {Map<string, Promise<View | null>>} */ (new Map());      // requested ahead
+/**
+ * @param {string} text
+ * @param {string} path
+ */
+const keyOf = (text, path) => `${path}\n${text}`;
+/**
+ * A view that is kept or on its way.
+ * @param {string} text
+ * @param {string} path
+ */
+export const keptView = (text, path) => views.get(keyOf(text, path)) || pending.get(keyOf(text, path));
+/**
+ * Requests a view, and keeps it; a fault is left to whoever needs the view.
+ * @param {Engine} core
+ * @param {string} text
+ * @param {string} path
+ */
+export async function keepView(core, text, path) {
+  const key = keyOf(text, path);
+  const answer = core.answer('view ' + path, text, PAGES).then(({ text }) => readView(text)).catch(() => null);
+  pending.set(key, answer);
+  const view = await answer;
+  pending.delete(key);
+  if (view) remember(views, key, view);
+}
+/**
+ * The view of a script's one study at a path; where there is none, why.
+ * @param {string} text
+ * @param {string} path
+ * @returns {Promise<View | string>}
+ */
+export async function viewOf(text, path) {
+  const kept = await keptView(text, path);
+  if (kept) return kept;
+  // A core that was started again has no tables.
+  await services.tables.load(await services.tables.classesOf(fensOf(text.split('\n'))));
+  const answer = await services.core.answer('view ' + path, text, PAGES), view = readView(answer.text);
+  if (!view) return reason(refusalIn(answer));
+  remember(views, keyOf(text, path), view);
+  return view;
+}
+
+// ---- reviews
+const reviews = /** @type {Map<string, Review>} */ (new Map());
+let last = { letters: 1, ms: 0 };
+/**
+ * Shows the review of a study, from a worker of its own, so that no move waits for it. A review that takes long is
+ * requested once the user rests.
+ * @param {string} text
+ * @param {string} fen
+ * @param {number} stamp
+ */
+export async function reviewOf(text, fen, stamp) {
+  const kept = reviews.get(text), expected = last.ms * Math.min(1, text.length / last.letters);
+  if (kept) { app.review = kept; return; }
+  await pause(expected > 150 ? Math.min(1000, 2 * expected) : 30);
+  if (stamp !== app.stamp) return;
+  try {
+    await services.tables.load(await services.tables.classesOf([fen]), services.facts);
+    if (stamp !== app.stamp) return;
+    const began = performance.now(), answer = await services.facts.answer('review', text + 'pgn\n', PAGES);
+    const review = readReview(answer.text);
+    last = { letters: text.length, ms: performance.now() - began };
+    if (review) remember(reviews, text, review);
+    if (stamp !== app.stamp) return;
+    app.review = review;
+    if (!review) app.noReview = reason(refusalIn(answer));
+  } catch (fault) { if (stamp === app.stamp) app.noReview = /** @type {Error} */ (fault).message; }
+  if (stamp === app.stamp) services.showFacts();
+}
