@@ -17,7 +17,7 @@ export function placesBefore(fen) {
   for (const [at, letter] of Object.entries(men)) {
     if (isWhite(letter) !== (before === 'w')) continue;
     for (let from = 0; from < 64; from++) {
-      if (men[from] || (/p/i.test(letter) && (from < 8 || from > 55))) continue;
+      if (men[from]) continue;
       const { [Number(at)]: _, ...rest } = men;
       out.push({ fen: `${placement({ ...rest, [from]: letter })} ${before} - - 0 ${moves}`, from, to: Number(at) });
     }

@@ -5,9 +5,9 @@ import { change, counting } from './actions.js';
 import { app, doc, services, say, study } from './state.js';
 import { movesBefore } from './earlier.js';
 import { withMoves } from './edits.js';
-import { control, sideOf } from './fen.js';
+import { control, other, sideOf } from './fen.js';
 import { bareOf, insertions } from './turning.js';
-import { aimWords } from './words.js';
+import { aimWords, markSign } from './words.js';
 /** @typedef {import('./earlier.js').Before} Before */
 
 /** The moves chosen so far, the last one first; and those to choose from, or none while they are looked for. */
@@ -52,10 +52,10 @@ function begin() {
 }
 /** @param {Before} move */
 const moveView = move => h('button', { type: 'button', class: `chip m ${move.mark}`, 'data-before': move.san, title: control(move.fen), onclick: () => choose(move) },
-  move.san, move.mark === 'only' && h('b', {}, '!'), move.mark === 'mistake' && h('b', {}, '?'));
+  move.san, markSign(move) && h('b', {}, markSign(move)));
 function draw() {
   if ($('earlier').hidden) return;
-  const at = chosen.length ? chosen[0].fen : study() ? study().fen : '', mover = sideOf(at) === 'White' ? 'Black' : 'White';
+  const at = chosen.length ? chosen[0].fen : study() ? study().fen : '', mover = other(sideOf(at));
   const words = fault ? `Not found: ${fault}.` : offered === null ? 'The moves before are looked for …' :
     offered.length ? `${mover}'s move before ${chosen.length ? chosen[0].san : 'the start'}; those first that alone hold:` : `No move of ${mover} without a capture can have led here.`;
   put('earlier',

@@ -7,6 +7,7 @@ import { isEdit, wordsOf } from './script.js';
 import { bareTree } from './unmarked.js';
 import { aimText, reason } from './words.js';
 /** @typedef {import('./types.js').Study} Study @typedef {import('./types.js').Doc} Doc @typedef {import('./types.js').Review} Review */
+/** @typedef {import('./types.js').Aim} Aim */
 /**
  * `kind` is what the list is filtered by; `at` the place of a study, -1 of an entry that was left out.
  * @typedef {{line: number, at: number, kind: string, title: string, author: string, fen: string, aim: string, stamp: string,
@@ -26,13 +27,22 @@ export const nameOf = (s, name) => s.originals[name] || (isKnown(s.tags[name]) ?
 export const studyName = s => [nameOf(s, 'Event'), nameOf(s, 'White')].filter(Boolean).join(', ') || control(s.fen);
 
 /**
- * Whether some move of the side that has something to do is in the tree that lines make.
+ * Whether some move of the hero is in a tree: what a review calls `empty`, for a tree that has no review yet.
+ * @param {{children: {children: any[]}[]}} root
+ * @param {string} fen
+ * @param {Aim} aim
+ */
+export const hasHeroMove = ({ children }, fen, aim) =>
+  children.some(child => sideOf(fen) === aim.hero || child.children.length > 0);
+/**
+ * Whether some move of the hero is in the tree of a study.
  * @param {string[]} lines
  * @param {Study} s
+ * @param {Review | null} review
  */
-export function hasSolution(lines, s) {
-  const { children } = bareTree(lines.slice(s.from, s.end));
-  return s.aim !== null && children.some(child => sideOf(s.fen) === s.aim?.hero || child.children.length > 0);
+export function hasSolution(lines, s, review) {
+  if (review) return !review.empty;
+  return s.aim !== null && hasHeroMove(bareTree(lines.slice(s.from, s.end)), s.fen, s.aim);
 }
 /** @param {{text: string}} line */
 const isPosition = ({ text }) => wordsOf(text)[0] === 'position';
@@ -58,7 +68,7 @@ export function stampOf(doc, s, review) {
   const unread = unreadIn(doc, s), [kind] = s.verdict.split(' ');
   if (unread) return { kind: 'not read', text: `not read: ${wordsOf(unread.text).slice(unread.text.trim().startsWith('insert') ? 2 : 0).join(' ').slice(0, 40)}` };
   if (!kind) return { kind: 'not judged', text: 'not judged' };
-  if (kind === 'sound' && !hasSolution(doc.lines, s)) return { kind: 'holds', text: 'holds' };
+  if (kind === 'sound' && !hasSolution(doc.lines, s, review)) return { kind: 'holds', text: 'holds' };
   if (review && review.waste.startsWith('sound')) return { kind: 'time', text: review.waste };
   return { kind, text: (review && review.waste) || s.verdict };
 }

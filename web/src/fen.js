@@ -96,8 +96,10 @@ export function fromControl(text) {
   return placement(men);
 }
 
+const NO_DRAWING = 'No position: write a FEN, eight ranks of eight squares with / between them, or the men as ' +
+  'Kb6 Pc6 / Ka1 Rd5.';
 /**
- * Six fields of what was typed, or why it is none.
+ * Six fields of what was typed, if it can be drawn, or why it cannot. Whether it is a position is for the program to say.
  * @param {string} text
  * @param {string} mover
  * @returns {{fen: string} | {bad: string}}
@@ -105,9 +107,9 @@ export function fromControl(text) {
 export function typedFen(text, mover) {
   const listing = fromControl(text), fields = (listing ? `${listing} ${mover} - - 0 1` : text).trim().split(/\s+/);
   if (!/^([1-8KQRBNPkqrbnp]+\/){7}[1-8KQRBNPkqrbnp]+$/.test(fields[0]))
-    return { bad: 'No position: write a FEN, eight ranks with / between them, or the men as Kb6 Pc6 / Ka1 Rd5.' };
+    return { bad: NO_DRAWING };
   if (fields[0].split('/').some(r => [...r].reduce((n, c) => n + (Number(c) || 1), 0) !== 8))
-    return { bad: 'Each rank of a FEN has eight squares.' };
+    return { bad: NO_DRAWING };
   const rest = ['w', '-', '-', '0', '1'].map((d, i) => fields[i + 1] || (i === 0 ? mover : d));
   return { fen: [fields[0], ...rest].join(' ') };
 }
@@ -123,12 +125,6 @@ export function gbr(fen) {
   const pieces = [...'QRBN'].map(c => count(c) + 3 * count(c.toLowerCase())).join('');
   return `${white} + ${men.length - white} · ${pieces}.${count('P')}${count('p')} ${king('K')}${king('k')}`;
 }
-
-/**
- * The letters of the men, whatever their squares: what decides which tables are asked.
- * @param {string} fen
- */
-export const material = fen => [...fen.trim().split(/ +/)[0].replace(/[^KQRBNPkqrbnp]/g, '')].sort().join('');
 
 /**
  * What a screen reader hears of a move: `white rook c8, check`.

@@ -41,7 +41,7 @@ export function placements(name, many = 80) {
     const board = /** @type {string[]} */ (Array(64).fill('1'));
     for (const letter of men) {
       let at = 0;
-      do at = /p/i.test(letter) ? 8 + dice(48) : dice(64); while (board[at] !== '1');
+      do at = dice(64); while (board[at] !== '1');
       board[at] = letter;
     }
     const ranks = [0, 1, 2, 3, 4, 5, 6, 7].map(rank => board.slice(8 * rank, 8 * rank + 8).join('').replace(/1+/g, run => `${run.length}`));

@@ -14,17 +14,16 @@ import { counted, valueText, winner } from './words.js';
 
 const MOST = 300;
 const form = { name: 'KPK', theme: 'zugzwang', n: '4', side: '', squares: '', quiet: false };
-/** @type {{spawn: () => import('./engine.js').Core, search: Search | null, going: boolean, fault: string, shown: string}} */
-const state = { spawn: () => services.core, search: null, going: false, fault: '', shown: '' };
+/** @type {{spawn: () => import('./engine.js').Core, search: Search | null, going: boolean, fault: string, shown: string,
+ *   here: string, chosen: boolean}} */
+const state = { spawn: () => services.core, search: null, going: false, fault: '', shown: '', here: '', chosen: false };
 /** @param {() => import('./engine.js').Core} spawn */
 export function startFinding(spawn) { state.spawn = spawn; }
 
-/** The material of the set-up or the study at hand, as a class; or nothing where there is no such class. */
-function classHere() {
-  const fen = app.setup ? draftFen() : app.view ? app.view.fen : '', letters = (/** @type {RegExp} */ of) => [...'QRBNP'].flatMap(
-      letter => (fen.split(' ')[0].match(of) || []).filter(c => c.toUpperCase() === letter).map(() => letter)).join('');
-  const white = letters(/[QRBNP]/g), black = letters(/[qrbnp]/g);
-  return [`K${white}K${black}`, `K${black}K${white}`].find(name => CLASSES.includes(name)) || '';
+/** The class of the set-up or of the study at hand: the last of those that its position needs. */
+async function classHere() {
+  const fen = app.setup ? draftFen() : app.view ? app.view.fen : '';
+  return (fen && (await services.tables.classesOf([fen])).pop()) || '';
 }
 /**
  * @param {string} id
@@ -43,11 +42,16 @@ const choice = (id, label, options, now, done) => h('select', { id, 'aria-label'
  */
 const field = (id, label, field, props) => h('input', { id, 'aria-label': label, title: label, value: form[field], autocomplete: 'off', spellcheck: 'false',
   oninput: (/** @type {any} */ e) => { form[field] = e.target.value; }, ...props });
+/** @param {string} name */
+function chooseClass(name) {
+  form.name = name;
+  state.chosen = true;
+}
 function formView() {
-  const here = classHere(), takesNumber = form.theme.endsWith('N');
+  const { here } = state, takesNumber = form.theme.endsWith('N');
   return h('div', { class: 'row' },
-    choice('findClass', 'The men', CLASSES.map(name => [name, name]), form.name, value => { form.name = value; }),
-    here && here !== form.name && button('these men', `the class ${here}`, () => { form.name = here; showFinding(); }, { class: 'chip act', id: 'findHere' }),
+    choice('findClass', 'The men', CLASSES.map(name => [name, name]), form.name, chooseClass),
+    here && here !== form.name && button('these men', `the class ${here}`, () => { chooseClass(here); showFinding(); }, { class: 'chip act', id: 'findHere' }),
     choice('findTheme', 'What is sought', THEMES, form.theme, value => { form.theme = value; }),
     takesNumber && field('findN', 'How many only moves in a row, 1 to 12', 'n', { type: 'number', min: 1, max: 12, class: 'num' }),
     choice('findSide', 'The side to move', [['', 'either side to move'], ['white', 'White to move'], ['black', 'Black to move']], form.side,
@@ -101,16 +105,17 @@ export function showFinding() {
   const again = id && $(id);
   if (again) again.focus({ preventScroll: true });
 }
-export function openFinding() {
+export async function openFinding() {
   const panel = $('finding');
-  if (!panel.hidden) return close();
+  if (!panel.hidden) return void close();
   panel.hidden = false;
-  const here = classHere();
-  if (here && !state.going && !state.search) form.name = here;
   $('findButton').setAttribute('aria-expanded', 'true');
   showFinding();
   $('findClass').focus();
-  return true;
+  state.chosen = false;
+  state.here = await classHere().catch(() => '');
+  if (state.here && !state.chosen && !state.going && !state.search) form.name = state.here;
+  showFinding();
 }
 /** Whether it was open. */
 export function close() {

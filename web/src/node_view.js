@@ -7,9 +7,10 @@ import { app, doc, node, services, say } from './state.js';
 import { flip, insert } from './board.js';
 import { earlierButton } from './earlier_view.js';
 import { promoteNode, removeNode } from './edits.js';
+import { nodeAt } from './parse_answers.js';
 import { openSetup } from './setup.js';
 import { typedMoves as movesIn } from './typed.js';
-import { counted, markMeaning, moveName, valueSign, valueText, zugzwangText } from './words.js';
+import { counted, markMeaning, markSign, moveName, valueSign, valueText, zugzwangText } from './words.js';
 /** @typedef {import('./types.js').TreeNode} TreeNode @typedef {import('./types.js').Move} Move @typedef {import('./types.js').Study} Study */
 
 /** @param {TreeNode | null} n */
@@ -70,15 +71,10 @@ export function remove(path) {
   const n = node();
   if (path === 'root' || !n) { say('board', 'The start cannot be deleted; choose a move.'); return services.show(); }
   return change(now => {
-    const s = now.studies[now.at], found = app.view ? find(app.view.root, path) : null;
+    const s = now.studies[now.at], found = app.view ? nodeAt(app.view.root, path) : null;
     return s && found ? removeNode(now.lines, s, found) : null;
   });
 }
-/**
- * @param {TreeNode} root
- * @param {string} path
- */
-const find = (root, path) => path.split('.').reduce((/** @type {TreeNode | null} */ n, k) => (n ? n.children[Number(k)] || null : null), root);
 /**
  * @param {TreeNode} n
  * @param {boolean} [front]
@@ -120,7 +116,7 @@ function movesView(s, n) {
  * @param {Move} m
  */
 function chip(s, n, m) {
-  const sign = m.mark === 'only' ? '!' : m.mark === 'mistake' ? '?' : '', after = other(sideOf(n.fen)), there = n.children.find(c => c.san === m.san);
+  const sign = markSign(m), after = other(sideOf(n.fen)), there = n.children.find(c => c.san === m.san);
   const meaning = {
     only: 'the only one that holds',
     dual: `one of ${m.duals + 1} that hold`,

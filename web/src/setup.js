@@ -211,7 +211,6 @@ export async function judgeDraft(build = false) {
  */
 async function judgement(d, build) {
   const fen = draftFen(), none = { bad: '', text: '', lacking: /** @type {string[]} */ ([]), mate: 0 };
-  if (!Object.values(d.men).includes('K') || !Object.values(d.men).includes('k')) return { ...none, bad: 'each side needs exactly one king' };
   const check = await services.core.answer('run', `position ${fen}\n`, 1);
   if (check.text.startsWith('error')) return { ...none, bad: reason(check.text.trim()) };
   let lacking = await services.tables.lacking([fen]);
@@ -237,7 +236,7 @@ async function judgement(d, build) {
 }
 async function passedSquares() {
   const { text } = await services.core.answer('passed ' + draftFen().replace(/^(\S+ \S+) .*/, '$1 - - 0 1'), '', 1);
-  return text.split(/\s+/).filter(word => /^[a-h][36]$/.test(word));
+  return text.split(/\s+/).filter(word => /^[a-h][1-8]$/.test(word));
 }
 /** The number of moves that an aim of mate begins with. */
 export const guess = () => {

@@ -7,7 +7,7 @@ import { app, doc } from './state.js';
 import { written } from './parse_answers.js';
 import { editsTo } from './script.js';
 import { bareTree } from './unmarked.js';
-import { counted, markMeaning, moveName, valueSign, valueText, zugzwangText } from './words.js';
+import { counted, markMeaning, markSign, moveName, valueSign, valueText, zugzwangText } from './words.js';
 /** @typedef {import('./types.js').TreeNode} TreeNode @typedef {import('./types.js').Study} Study */
 
 /**
@@ -17,7 +17,7 @@ import { counted, markMeaning, moveName, valueSign, valueText, zugzwangText } fr
  */
 function moveView(s, n, first) {
   const before = n.parent ? n.parent.fen : n.fen, num = first || sideOf(before) === 'White' ? numbered(before).replace(' ', '\u00a0') : '';
-  const sign = n.mark === 'only' ? '!' : n.mark === 'mistake' ? '?' : '';
+  const sign = markSign(n);
   const title = [valueText(sideOf(n.fen), n.value), markMeaning(n, s.aim ? s.aim.hero : undefined)].filter(Boolean).join('; ');
   return h('span', {class: 'mv'},
     h('button', { type: 'button', class: `m ${n.mark}`, 'data-path': n.path, title, 'aria-label': `${moveName(n)}: ${title}` }, num + n.san,

@@ -1,6 +1,6 @@
 // @ts-check
 // Values, verdicts and refusals in the words of the printed page.
-import { other, sideOf } from './fen.js';
+import { numbered, other, sideOf } from './fen.js';
 /** @typedef {import('./types.js').Value} Value @typedef {import('./types.js').Side} Side @typedef {import('./types.js').Aim} Aim */
 /** @typedef {import('./types.js').TreeNode} TreeNode */
 
@@ -62,7 +62,7 @@ export const moveName = node => (node.parent ? numberedName(node.parent.fen, nod
  * @param {string} before
  * @param {string} san
  */
-export const numberedName = (before, san) => `${before.split(' ')[5]}${sideOf(before) === 'White' ? '. ' : '... '}${san}`;
+export const numberedName = (before, san) => numbered(before) + san;
 /**
  * A line of moves with its numbers.
  * @param {string} fen
@@ -95,6 +95,8 @@ export function verdictSentence(view, kind) {
   const unsound = `The stipulation holds; the solution has ${n === '1' ? 'one fault' : n + ' faults'}.`;
   return `${kind === 'unsound' ? unsound : SENTENCES[kind] || ''} At the start: ${view.start}.`;
 }
+/** @param {{mark: string}} move */
+export const markSign = ({ mark }) => (mark === 'only' ? '!' : mark === 'mistake' ? '?' : '');
 /**
  * What the mark of a node means.
  * @param {TreeNode} node

@@ -30,7 +30,7 @@ test('each entry has a row and a stamp', () => {
   ]);
   assert.deepEqual(countsOf(rows), [['time', 1], ['holds', 1], ['not read', 1], ['left out', 2]]);
   assert.equal(stampOf(d, d.studies[0], null).text, 'unsound 1');
-  assert.deepEqual(d.studies.map(s => hasSolution(d.lines, s)), [true, false, true]);
+  assert.deepEqual(d.studies.map(s => hasSolution(d.lines, s, null)), [true, false, true]);
   assert.equal(nameOf({ ...d.studies[0], originals: { White: 'Réti' } }, 'White'), 'Réti');
 });
 test('a game that was left out has its title and its author, where remarks behind it have them', () => {
