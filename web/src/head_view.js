@@ -1,22 +1,18 @@
 // @ts-check
-// The head of a study - title, stipulation, tags - and its verdict with the faults, each with what mends it.
+// The head of a study: title, stipulation, tags.
 import { h } from './dom.js';
-import { gbr, numbered, other, sideOf } from './fen.js';
-import { change, go, judgeAgain } from './actions.js';
-import { app, doc, services, say } from './state.js';
-import { insert } from './board.js';
+import { gbr } from './fen.js';
+import { change } from './actions.js';
+import { app, services, say } from './state.js';
 import { isDate, isKnown, setTag, stipulate, wholeDate } from './edits.js';
-import { nameOf, stampOf } from './entries.js';
+import { nameOf } from './entries.js';
 import { plainText } from './opening.js';
-import { nodeAt, written } from './parse_answers.js';
 import { guess } from './setup.js';
-import { typedOr, promote, remove } from './node_view.js';
-import { TAGS, verdictsBefore } from './script.js';
-import { aimText, counted, difference, holds, moveName, numberedLine, otherAims, readAim, valueText, verdictSentence, winner } from './words.js';
-/** @typedef {import('./types.js').Study} Study @typedef {import('./types.js').TreeNode} TreeNode */
-/** @typedef {import('./types.js').Aim} Aim @typedef {import('./types.js').Also} Also */
+import { typedOr } from './node_view.js';
+import { TAGS } from './script.js';
+/** @typedef {import('./types.js').Study} Study @typedef {import('./types.js').Aim} Aim */
 
-export const LABELS =
+const LABELS =
     /** @type {Record<string, string>} */ ({Event: 'Title or source', White: 'Author', Black: 'Second name', Site: 'Site', Date: 'Date', Round: 'Entry'});
 /** @param {string} where */
 export const messageAt = where => app.say && app.say.where === where && h('p', { class: app.say.good ? 'say good' : 'say', role: 'alert' }, app.say.text);
@@ -110,190 +106,4 @@ export function aimView(aim, done, id) {
     onchange: tell
   });
   return [hero, goal, k];
-}
-
-// ---- the verdict
-/** @param {Study} s */
-export function verdictView(s) {
-  const view = app.view;
-  if (!view) return notJudged();
-  if (!s.aim || !view.verdict) return h('p', { class: 'say' }, 'No stipulation yet: choose who is to win or to draw.');
-  const { kind, text } = stampOf(doc(), { ...s, verdict: view.verdict }, app.review);
-  return [
-    h('p', {class: 'verdict'}, h('span', {class: 'stamp ' + kind.replace(' ', '-'), id: 'stamp'}, text),
-      h('span', {id: 'sentence'}, verdictSentence(view, kind))),
-    beforeView(s)
-  ];
-}
-/** Why there are no marks: tables are on their way, or something failed. */
-function notJudged() {
-  if (!app.noView)
-    return h('p', { class: 'note', role: 'status', id: 'unjudged' },
-        'Not judged yet: its tables are being built. The marks come then, and the board follows the moves.');
-  return h('p', { class: 'say', id: 'unjudged' }, `This study is not judged: ${app.noView}. `,
-      / table|ables /.test(app.noView) &&
-          h('button', { type: 'button', class: 'chip act', id: 'buildNow', onclick: judgeAgain }, 'Build the tables'));
-}
-/**
- * The faults, each with what mends it.
- * @param {Study} s
- */
-export function mendView(s) {
-  const view = app.view, faults = app.review ? app.review.faults : [];
-  if (!view || !s.aim || !view.verdict) return null;
-  return [
-    faults.length > 0 && h('ul', {class: 'faults'}, faults.slice(0, 40).map(f => h('li', {}, faultView(s, view.root, f)))), timeView(s, view.root),
-    adviceView(s)
-  ];
-}
-/**
- * The board shows a study as it is after its last line; its script may tell games before that.
- * @param {Study} s
- */
-function beforeView(s) {
-  const before = verdictsBefore(s);
-  return before.length > 0 && h('p', { class: 'note', id: 'verdictsBefore' }, 'This is the study after its last line. Its script has ',
-    before.length === 1 ? 'one more game' : `${before.length} more games`, ' of it: ', h('b', {}, before.join('; ')), '. Save PGN and Save report include ',
-    before.length === 1 ? 'it.' : 'them.');
-}
-/**
- * Names of moves that more than one node of the tree has.
- * @type {WeakMap<TreeNode, Set<string>>}
- */
-const shared = new WeakMap();
-/** @param {TreeNode} root */
-function sharedNames(root) {
-  const known = shared.get(root), first = new Set();
-  if (known) return known;
-  const twice = new Set(written(root).map(moveName).filter(name => first.has(name) || !first.add(name)));
-  shared.set(root, twice);
-  return twice;
-}
-/**
- * A move's name, with the move before it where another move of the tree has the same name.
- * @param {TreeNode} n
- */
-const fullName = n => (app.view && n.parent && n.parent.parent && sharedNames(app.view.root).has(moveName(n)) ?
-  numberedLine(n.parent.parent.fen, [n.parent.san, n.san]) : moveName(n));
-/** @param {TreeNode} n */
-export const nodeLink = n => h('button', { type: 'button', class: 'link', title: lineTo(n), onclick: () => go(n.path) }, fullName(n));
-/**
- * All moves from the start to a node.
- * @param {TreeNode} n
- */
-function lineTo(n) {
-  const sans = [];
-  let at = n;
-  for (; at.parent; at = at.parent) sans.unshift(at.san);
-  return numberedLine(at.fen, sans);
-}
-/**
- * A move that can be put into the tree below a node, with what follows it at once.
- * @param {string} path
- * @param {string[]} sans
- * @param {any} label
- * @param {string} [title]
- * @param {boolean} [named]      whether the title is its name for a screen reader too
- */
-export const add = (path, sans, label, title, named = false) =>
-    h('button', {
-      type: 'button',
-      class: 'chip add',
-      title: title || `put ${sans.join(' ')} into the tree`,
-      'aria-label': named && title,
-      'data-path': path,
-      'data-sans': sans.join(' '),
-      onclick: () => insert(path, sans)
-    },
-      label);
-/**
- * @param {Study} s
- * @param {TreeNode} n
- * @param {Also[]} list
- */
-export function alsoView(s, n, list) {
-  const parent = n.parent;
-  return parent && list.map(a => {
-    const there = parent.children.some(c => c.san === a.san);
-    const notes = [s.aim && difference(s.aim, n.value, a.value), a.time >= 0 && 'loses time', there && 'in the tree'].filter(Boolean).join(', ');
-    return [add(parent.path, [a.san], [h('b', {}, a.san), notes && h('small', {}, ' ' + notes)]), ' '];
-  });
-}
-/**
- * @param {Study} s
- * @param {TreeNode} root
- * @param {import('./types.js').Fault} f
- */
-function faultView(s, root, f) {
-  const n = nodeAt(root, f.path), all = app.review ? app.review.also.filter(a => a.path === f.path) : [];
-  if (!n) return f.san;
-  if (f.kind === 'mistake') return mistakeView(s, n);
-  return [nodeLink(n), ': also ', alsoView(s, n, all.slice(0, 6)), all.length > 6 && `and ${all.length - 6} more `, cut(n, 'End before it')];
-}
-/**
- * @param {Study} s
- * @param {TreeNode} n
- */
-function mistakeView(s, n) {
-  const late = s.aim && s.aim.goal === 'mate' && winner(sideOf(n.fen), n.value) === s.aim.hero, better = n.parent ? n.parent.children.find(holds) : undefined;
-  const left = late ? `mate comes on move ${Math.ceil((n.path.split('.').length + n.value.n) / 2)}` : valueText(sideOf(n.fen), n.value);
-  return [nodeLink(n), h('b', {}, ' lets the aim go'), `: ${left} `,
-    better && [h('button', { type: 'button', class: 'chip act', onclick: () => promote(better, true) }, `Put ${better.san} first`), ' '], cut(n, 'Delete it')];
-}
-/**
- * A button that takes a move out of the tree; it says how much goes with it, and which move comes to its place.
- * @param {TreeNode} n
- * @param {string} text
- */
-function cut(n, text) {
-  const below = written(n).length - 1, row = n.parent ? n.parent.children : [];
-  const next = row[0] === n && row[1] ? `${moveName(row[1])} comes to its place` : '';
-  const gone = below ? `delete ${counted(below + 1, 'move')}: ${lineFrom(n)}` : `delete ${moveName(n)}`;
-  const words = [below && counted(below + 1, 'move'), next].filter(Boolean).join('; ');
-  return h('button', {
-    type: 'button',
-    class: 'chip act',
-    title: [gone, next].filter(Boolean).join('; '),
-    'data-cut': n.path,
-    onclick: () => remove(n.path)
-  }, '✕ ', text, words && h('small', {}, ` (${words})`));
-}
-/**
- * A move with the first ones below it.
- * @param {TreeNode} n
- */
-function lineFrom(n) {
-  const sans = [n.san];
-  let at = n;
-  for (; at.children[0] && sans.length < 8; at = at.children[0]) sans.push(at.children[0].san);
-  return numberedLine(n.parent ? n.parent.fen : n.fen, sans) + (at.children[0] ? ' ..' : '');
-}
-/**
- * How many of the other moves only lose time.
- * @param {Study} s
- * @param {TreeNode} root
- */
-function timeView(s, root) {
-  const duals = app.review ? app.review.faults.filter(f => f.kind === 'dual') : [], all = duals.reduce((sum, f) => sum + f.duals, 0),
-        idle = duals.reduce((sum, f) => sum + f.time, 0);
-  if (!idle || !s.aim || !app.review) return null;
-  const also = app.review.also, rest = duals.flatMap(f => also.filter(a => a.path === f.path && a.time < 0).map(a => {
-    const n = nodeAt(root, f.path);
-    return (n && n.parent ? numbered(n.parent.fen) : '') + a.san;
-  }));
-  return h(
-      'p', {}, h('b', {}, all === 1 ? 'This one loses time' : `${idle} of these ${all} ${idle === 1 ? 'loses' : 'lose'} time`),
-      `: ${other(s.aim.hero)} forces a position of the same line again. `,
-      rest.length ? ['There remains: ', h('b', {}, rest.slice(0, 8).join(', ')), '.'] : 'None remains.');
-}
-/**
- * What could be said of this position instead.
- * @param {Study} s
- */
-function adviceView(s) {
-  const view = app.view;
-  if (!view || !s.aim) return null;
-  const offers = otherAims(s.aim, view.verdict, sideOf(view.fen), view.root.value, Boolean(app.review && app.review.faults.some(f => f.kind === 'dual')));
-  return offers.length > 0 && h('p', { class: 'act' }, 'Say instead: ', offers.map(words => [h('button', { type: 'button', class: 'chip add', 'data-aim': words,
-    onclick: () => change(now => (now.studies[now.at] ? stipulate(now.lines, now.studies[now.at], words) : null), 'head') }, aimText(readAim(words))), ' ']));
 }

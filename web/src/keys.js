@@ -3,7 +3,8 @@
 import { $ } from './dom.js';
 import { go, goStudy, redo, undo } from './actions.js';
 import { app, doc, node } from './state.js';
-import { closeChoice, flip, focusBoard, setupKey, showBoard } from './board.js';
+import { flip, focusBoard, showBoard } from './board.js';
+import { closeChoice, setupKey } from './board_input.js';
 import { close } from './documents_view.js';
 import { close as closeEarlier } from './earlier_view.js';
 import { close as closeFinding } from './finding_view.js';

@@ -6,7 +6,7 @@ import { change } from './actions.js';
 import { app } from './state.js';
 import { insertLines } from './edits.js';
 import { depth, nodeAt, written } from './parse_answers.js';
-import { add, alsoView, nodeLink } from './head_view.js';
+import { add, alsoView, nodeLink } from './verdict_view.js';
 import { counted, numberedLine, valueSign, valueText, winner, zugzwangText } from './words.js';
 /** @typedef {import('./types.js').Study} Study @typedef {import('./types.js').TreeNode} TreeNode */
 /** @typedef {import('./types.js').Review} Review @typedef {import('./types.js').Missing} Missing */

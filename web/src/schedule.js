@@ -83,6 +83,20 @@ export function secondsLeft(running, waiting, most) {
 }
 
 /**
+ * The words for builds that are under way.
+ * @param {string[]} running
+ * @param {number} made
+ * @param {number} all
+ * @param {number} seconds
+ * @param {number} left
+ */
+export function progressText(running, made, all, seconds, left) {
+  const more = left >= 90 ? `about ${Math.round(left / 60)} minutes left` : left >= 1 ? `about ${Math.max(5, Math.round(left / 5) * 5)} s left` : 'almost done';
+  return `Building the table${running.length > 1 ? 's' : ''} ${running.join(', ')} · ${Math.min(made + 1, all)} of ${all} · ${Math.round(seconds)} s, ${
+      more}. It is done once, and kept.`;
+}
+
+/**
  * The order in which files are read: the largest first, which takes longest; then the small ones, which are there at
  * once; then the others by size.
  * @param {string[]} names

@@ -6,7 +6,6 @@ import { app, services, say, clearMessage, study } from './state.js';
 import { Stopped } from './engine.js';
 import { freshId } from './keep.js';
 import { aimText, aimWords, counted, holds, movesTo, reason } from './words.js';
-import { toText } from './script.js';
 import { isTurn, turnedAim, turnedFen } from './turning.js';
 /** @typedef {import('./fen.js').Men} Men */
 /** @typedef {{bad: string, text: string, lacking: string[], mate: number}} Judged */

@@ -3,7 +3,8 @@
 import { $, button, h, put } from './dom.js';
 import { manName, menOf } from './fen.js';
 import { app, node, services, study } from './state.js';
-import { manIcon, takeUp } from './board.js';
+import { manIcon } from './board.js';
+import { takeUp } from './board_input.js';
 import { aimView, messageAt } from './head_view.js';
 import { typedOr } from './node_view.js';
 import { closeSetup, draftFen, changeDraft, judgeDraft, turnDraft, setTypedFen } from './setup.js';

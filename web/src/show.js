@@ -4,10 +4,11 @@ import { $, button, h, put } from './dom.js';
 import { spokenMove } from './fen.js';
 import { prefetch } from './prefetch.js';
 import { app, doc, node, study } from './state.js';
-import { showBoard, tell } from './board.js';
+import { showBoard } from './board.js';
+import { tell } from './board_input.js';
 import { listView, showDocuments } from './documents_view.js';
 import { reviewView } from './review_view.js';
-import { headView, mendView, verdictView } from './head_view.js';
+import { headView } from './head_view.js';
 import { hereView, navView } from './node_view.js';
 import { isKnown } from './edits.js';
 import { PAWN, SAAVEDRA } from './samples.js';
@@ -18,6 +19,7 @@ import { listFrom, listView as entriesView } from './list_view.js';
 import { later, listed } from './list_facts.js';
 import { numbersOf, stampOf, studyName } from './entries.js';
 import { textsView } from './texts_view.js';
+import { faultsView, verdictView } from './verdict_view.js';
 import { keyView, listenToTree, markCurrent, showTree } from './tree_view.js';
 
 let pressing = false;
@@ -139,7 +141,7 @@ function hint() {
 function drawFacts() {
   const s = study();
   part('verdict', [s, app.view !== null, app.noView, app.review], () => s && verdictView(s));
-  part('mend', [s, app.view !== null, app.review], () => s && mendView(s));
+  part('mend', [s, app.view !== null, app.review], () => s && faultsView(s));
   part('review', [s, app.view !== null, app.review, app.noReview], () => s && reviewView(s));
   part('list', listFrom(), entriesView);
 }

@@ -6,7 +6,7 @@ import { CLASSES } from './core_host.js';
 import { DIGESTS } from './digests.js';
 import { SECONDS } from './seconds.js';
 import { Stopped } from './engine.js';
-import { makeBuilds, readingOrder, secondsLeft } from './schedule.js';
+import { makeBuilds, progressText, readingOrder, secondsLeft } from './schedule.js';
 import { reason } from './words.js';
 import { toText } from './script.js';
 /** @typedef {import('./engine.js').Core} Core */
@@ -23,20 +23,6 @@ const secondsOf = name => SECONDS[name] || 5;
 const STOPPED = 'Stopped. The tables that were built are kept';
 /** @param {string} name */
 const sizeOf = name => (DIGESTS[name] ? DIGESTS[name][0] : 5000000);
-
-/**
- * The words for builds that are under way.
- * @param {string[]} running
- * @param {number} made
- * @param {number} all
- * @param {number} seconds
- * @param {number} left
- */
-export function progressText(running, made, all, seconds, left) {
-  const more = left >= 90 ? `about ${Math.round(left / 60)} minutes left` : left >= 1 ? `about ${Math.max(5, Math.round(left / 5) * 5)} s left` : 'almost done';
-  return `Building the table${running.length > 1 ? 's' : ''} ${running.join(', ')} · ${Math.min(made + 1, all)} of ${all} · ${Math.round(seconds)} s, ${
-      more}. It is done once, and kept.`;
-}
 
 /**
  * @param {{core: Core, spawn: () => Core, readers: ReturnType<typeof import('./file_readers.js').makeReaders>,
