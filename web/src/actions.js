@@ -10,7 +10,8 @@ import { freshId } from './keep.js';
 import { app, blank, doc, services, say } from './state.js';
 import { unjudged } from './unmarked.js';
 import { counted, endedReason, moveName, reason } from './words.js';
-/** @typedef {import('./types.js').Doc} Doc @typedef {import('./types.js').Change} Change @typedef {import('./types.js').Script} Script */
+/** @typedef {import('./types.js').Doc} Doc @typedef {import('./types.js').Change} Change */
+/** @typedef {import('./types.js').Script} Script */
 /** @typedef {import('./state.js').Say} Say */
 
 /**
@@ -22,8 +23,9 @@ export function opened(before) {
         place = before.studies.length ? 'The document before is kept: Undo brings it back, and Documents lists it.' :
                                         '';
   if (app.say || !(refused || place)) return;
-  const lines = refused ? `${counted(refused, 'line')} of this script ${refused === 1 ? 'was' : 'were'} refused; they are listed below the study. ` : '';
-  say('board', lines + place, !refused);
+  const were = refused === 1 ? 'was' : 'were';
+  const lines = `${counted(refused, 'line')} of this script ${were} refused; they are listed below the study. `;
+  say('board', (refused ? lines : '') + place, !refused);
   services.show();
 }
 
@@ -176,9 +178,8 @@ async function changed(make, where) {
  */
 function brokenMove(reply) {
   const path = /^error ShiftBroken (\S+)/.exec(reply), broken = path && app.view ? nodeAt(app.view.root, path[1]) : null;
-  return broken ?
-      `the tree's ${moveName(broken)} starts on a square that its man has left, or is not legal from here. Take the position without the moves` :
-      '';
+  const why = 'starts on a square that its man has left, or is not legal from here. Take the position without the moves';
+  return broken ? `the tree's ${moveName(broken)} ${why}` : '';
 }
 /**
  * Looks at another study or node.

@@ -29,8 +29,10 @@ function look(fen) {
   const s = study(), mine = doc().lines;
   [offered, fault] = [null, ''];
   draw();
-  return counting(movesBefore(fen, s.aim ? aimWords(s.aim) : 'white win').then(list => { offered = list; }, why => { fault = why.message; })
-    .finally(() => { if (doc().lines === mine) draw(); else close(); }));
+  const found = (/** @type {Before[]} */ list) => { offered = list; };
+  const failed = (/** @type {Error} */ why) => { fault = why.message; };
+  const done = movesBefore(fen, s.aim ? aimWords(s.aim) : 'white win').then(found, failed);
+  return counting(done.finally(() => (doc().lines === mine ? draw() : close())));
 }
 /** @param {Before} move */
 function choose(move) {
@@ -56,8 +58,9 @@ const moveView = move => h('button', { type: 'button', class: `chip m ${move.mar
 function draw() {
   if ($('earlier').hidden) return;
   const at = chosen.length ? chosen[0].fen : study() ? study().fen : '', mover = other(sideOf(at));
+  const next = chosen.length ? chosen[0].san : 'the start', none = `No move of ${mover} without a capture can have led here.`;
   const words = fault ? `Not found: ${fault}.` : offered === null ? 'The moves before are looked for …' :
-    offered.length ? `${mover}'s move before ${chosen.length ? chosen[0].san : 'the start'}; those first that alone hold:` : `No move of ${mover} without a capture can have led here.`;
+    offered.length ? `${mover}'s move before ${next}; those first that alone hold:` : none;
   put('earlier',
       h('div', { class: 'row' }, h('h2', {}, 'Begin earlier'), h('span', { class: 'gap' }), button('Close', 'Escape', close, { id: 'closeEarlier' })),
       h('p', { role: 'status', id: 'earlierState' }, words), h('p', { class: 'chips' }, (offered || []).map(moveView)),

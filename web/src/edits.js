@@ -5,7 +5,8 @@ import { aimWords } from './words.js';
 import { TAGS, isEdit, isGame, oneGame, wordsOf } from './script.js';
 import { squareName } from './fen.js';
 import { nodeAt, written } from './parse_answers.js';
-/** @typedef {import('./types.js').Study} Study @typedef {import('./types.js').Change} Change @typedef {import('./types.js').TreeNode} TreeNode */
+/** @typedef {import('./types.js').Study} Study @typedef {import('./types.js').Change} Change */
+/** @typedef {import('./types.js').TreeNode} TreeNode */
 
 /**
  * @param {string[]} lines
@@ -122,21 +123,30 @@ export const unknown = name => (name === 'Date' ? '????.??.??' : '?');
 export const isKnown = text => text !== undefined && !/^[?.]*$/.test(text);
 const MONTHS = 'jan feb mar apr may jun jul aug sep oct nov dec'.split(' ');
 /**
+ * Year, month and day of a date with the name of its month.
+ * @param {string} text
+ */
+function namedDate(text) {
+  const m = /^(?:(\d{1,2})\.?\s+)?([a-z]{3,9})\.?\s+(?:(\d{1,2}),?\s+)?(\d{4})$/i.exec(text);
+  return m && [m[4], `${MONTHS.indexOf(m[2].slice(0, 3).toLowerCase()) + 1}`, m[1] || m[3] || ''];
+}
+/**
+ * Whether a number is from 1 to the most, or is not given.
+ * @param {string} n
+ * @param {number} most
+ */
+const isUpTo = (n, most) => !n || (Number(n) >= 1 && Number(n) <= most);
+/**
  * A date as PGN writes it, of which year, month and day are known, or not all: `1895`, `1921-05`, `12 May 1921`, `May
  * 1921`, `12.5.1921`. What is no date is left as it is.
  * @param {string} text
  */
 export function wholeDate(text) {
-  const named = /^(?:(\d{1,2})\.?\s+)?([a-z]{3,9})\.?\s+(?:(\d{1,2}),?\s+)?(\d{4})$/i.exec(text);
-  const parts = named ?
-      [named[4], `${MONTHS.indexOf(named[2].slice(0, 3).toLowerCase()) + 1}`, named[1] || named[3] || ''] :
-      /^(\d{4})(?:[-./](\d{1,2}))?(?:[-./](\d{1,2}))?$/.exec(text)?.slice(1) ||
-          /^(\d{1,2})\.\s?(\d{1,2})\.\s?(\d{4})$/.exec(text)?.slice(1).reverse();
+  const parts = namedDate(text) || /^(\d{4})(?:[-./](\d{1,2}))?(?:[-./](\d{1,2}))?$/.exec(text)?.slice(1) ||
+    /^(\d{1,2})\.\s?(\d{1,2})\.\s?(\d{4})$/.exec(text)?.slice(1).reverse();
   if (!parts) return text;
-  const [year, month = '', day = ''] = parts,
-                                 right = (/** @type {string} */ n, /** @type {number} */ most) => !n ||
-      (Number(n) >= 1 && Number(n) <= most);
-  if (!right(month, 12) || !right(day, 31)) return text;
+  const [year, month = '', day = ''] = parts;
+  if (!isUpTo(month, 12) || !isUpTo(day, 31)) return text;
   return [year, month, day].map((n, i) => n && n.padStart(i ? 2 : 4, '0') || '??').join('.');
 }
 /** @param {string} text */

@@ -103,5 +103,8 @@ const faultsOf = ({ there }) => (there ? there.faults : 0);
  * @param {string} name
  * @param {Spot} spot
  */
-export const thereText = (name, spot) => (spot.there ? `${name}: ${spot.there.stamp}${
-    lost(spot) ? `, ${lost(spot)} of ${counted(spot.there.of, 'move')} dropped` : ''}` : name);
+export function thereText(name, spot) {
+  if (!spot.there) return name;
+  const dropped = lost(spot) ? `, ${lost(spot)} of ${counted(spot.there.of, 'move')} dropped` : '';
+  return `${name}: ${spot.there.stamp}${dropped}`;
+}

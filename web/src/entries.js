@@ -6,7 +6,8 @@ import { leftOutBy, originalsIn, whyLeftOut } from './imported.js';
 import { isEdit, wordsOf } from './script.js';
 import { bareTree } from './unmarked.js';
 import { aimText, reason } from './words.js';
-/** @typedef {import('./types.js').Study} Study @typedef {import('./types.js').Doc} Doc @typedef {import('./types.js').Review} Review */
+/** @typedef {import('./types.js').Study} Study @typedef {import('./types.js').Doc} Doc */
+/** @typedef {import('./types.js').Review} Review */
 /** @typedef {import('./types.js').Aim} Aim */
 /**
  * `kind` is what the list is filtered by; `at` the place of a study, -1 of an entry that was left out.
@@ -66,7 +67,10 @@ export function unreadIn(doc, s) {
  */
 export function stampOf(doc, s, review) {
   const unread = unreadIn(doc, s), [kind] = s.verdict.split(' ');
-  if (unread) return { kind: 'not read', text: `not read: ${wordsOf(unread.text).slice(unread.text.trim().startsWith('insert') ? 2 : 0).join(' ').slice(0, 40)}` };
+  if (unread) {
+    const words = wordsOf(unread.text), from = words[0] === 'insert' ? 2 : 0;
+    return { kind: 'not read', text: `not read: ${words.slice(from).join(' ').slice(0, 40)}` };
+  }
   if (!kind) return { kind: 'not judged', text: 'not judged' };
   if (kind === 'sound' && !hasSolution(doc.lines, s, review)) return { kind: 'holds', text: 'holds' };
   if (review && review.waste.startsWith('sound')) return { kind: 'time', text: review.waste };

@@ -49,8 +49,8 @@ export function menOf(fen) {
 
 /** @param {Men} men */
 export function placement(men) {
-  const rank = (/** @type {number} */ r) => [...FILES].map((_, f) => men[8 * r + f] || '1').join('').replace(/1+/g, s => `${s.length}`);
-  return [7, 6, 5, 4, 3, 2, 1, 0].map(rank).join('/');
+  const squares = (/** @type {number} */ r) => [...FILES].map((_, f) => men[8 * r + f] || '1').join('');
+  return [7, 6, 5, 4, 3, 2, 1, 0].map(r => squares(r).replace(/1+/g, s => `${s.length}`)).join('/');
 }
 
 /**
@@ -133,7 +133,8 @@ export function gbr(fen) {
  */
 export function spokenMove(before, move) {
   const letter = /^[KQRBN]/.test(move.san) ? move.san[0] : 'P', side = sideOf(before).toLowerCase();
-  const takes = move.san.includes('x') ? ' takes' : '', promoted = /=(.)/.exec(move.san);
+  const takes = move.san.includes('x') ? ' takes' : '', promotion = /=(.)/.exec(move.san);
+  const promoted = promotion ? `, becomes a ${NAMES[promotion[1]]}` : '';
   const end = move.san.endsWith('#') ? ', mate' : move.san.endsWith('+') ? ', check' : '';
-  return `${side} ${NAMES[letter]}${takes} ${squareName(move.to)}${promoted ? ', becomes a ' + NAMES[promoted[1]] : ''}${end}`;
+  return `${side} ${NAMES[letter]}${takes} ${squareName(move.to)}${promoted}${end}`;
 }

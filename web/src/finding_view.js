@@ -70,8 +70,17 @@ function find() {
   const wanted = { name: form.name, theme: form.theme.replace('N', form.n), filters: [form.side, quiet, form.squares.trim()].filter(Boolean).join(' '), most: MOST };
   Object.assign(state, { search: null, going: true, fault: '', shown: `${wanted.name} ${wanted.theme}` });
   showFinding();
-  return counting(search(wanted, state.spawn, now => { state.search = now; showFinding(); return state.going; }).catch(fault => { state.fault = fault.message; })
-    .finally(() => { state.going = false; showFinding(); }));
+  const found = (/** @type {Search} */ now) => {
+    state.search = now;
+    showFinding();
+    return state.going;
+  };
+  const failed = (/** @type {Error} */ fault) => { state.fault = fault.message; };
+  const ended = () => {
+    state.going = false;
+    showFinding();
+  };
+  return counting(search(wanted, state.spawn, found).catch(failed).finally(ended));
 }
 function stop() { state.going = false; }
 function soFar() {
@@ -100,7 +109,8 @@ export function showFinding() {
   const focus = document.activeElement, id = focus && $('finding').contains(focus) ? focus.id : '', found = state.search ? state.search.found : [];
   put('finding',
       h('div', { class: 'row' }, h('h2', {}, 'Find'), h('span', { class: 'gap' }), button('Close', 'Escape', close, { id: 'closeFinding' })),
-      h('p', { class: 'note' }, 'All positions of these men that have the theme, each once up to symmetry, none missing: proved. A press opens one as a study.'),
+      h('p', { class: 'note' }, 'All positions of these men that have the theme, each once up to symmetry, none missing: proved. ' +
+        'A press opens one as a study.'),
       formView(), h('p', { role: 'status', id: 'findState' }, soFar()), h('ol', { class: 'found', id: 'foundList' }, found.map(rowView)));
   const again = id && $(id);
   if (again) again.focus({ preventScroll: true });

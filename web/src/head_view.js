@@ -53,14 +53,16 @@ const cleared = names => change(now => {
  * @param {string} name
  * @param {string} text
  */
-const tagView = (name, text) => [h('label', { for: 'tag' + name
-                                 }, LABELS[name], LABELS[name] !== name && h('small', {}, ' ' + name)), h('input', {
-                                   id: 'tag' + name,
-                                   value: typedOr('tag' + name, isKnown(text) ? text : ''),
-                                   autocomplete: 'off',
-                                   placeholder: name === 'Date' ? '2026.11.24' : '',
-                                   onchange: (/** @type {any} */ e) => tagged(name, e.target.value.trim())
-                                 })];
+const tagView = (name, text) => [
+  h('label', { for: 'tag' + name }, LABELS[name], LABELS[name] !== name && h('small', {}, ' ' + name)),
+  h('input', {
+    id: 'tag' + name,
+    value: typedOr('tag' + name, isKnown(text) ? text : ''),
+    autocomplete: 'off',
+    placeholder: name === 'Date' ? '2026.11.24' : '',
+    onchange: (/** @type {any} */ e) => tagged(name, e.target.value.trim())
+  })
+];
 /**
  * A text is kept in its own letters beside the plain ones that the script has; a note says how these are.
  * @param {string} name

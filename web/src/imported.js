@@ -111,5 +111,7 @@ const ORIGINAL = /^# (?:its )?(Event|White|Black|Site|Date|Round) was: (.*)$/;
  * @param {string[]} remarks
  * @returns {Record<string, string>}
  */
-export const originalsIn = remarks => Object.fromEntries(
-    remarks.map(line => ORIGINAL.exec(line)).filter(Boolean).map(m => [/** @type {any} */ (m)[1], /** @type {any} */ (m)[2].trim()]));
+export function originalsIn(remarks) {
+  const found = /** @type {RegExpExecArray[]} */ (remarks.map(line => ORIGINAL.exec(line)).filter(Boolean));
+  return Object.fromEntries(found.map(m => [m[1], m[2].trim()]));
+}

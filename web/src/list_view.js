@@ -28,8 +28,10 @@ export function listView() {
   if (entries.length < 2) return null;
   if (!counts.some(([kind]) => kind === filter)) filter = '';
   const numbers = new Map(entries.map((entry, i) => [entry, i + 1])), shown = entries.filter(entry => !filter || entry.kind === filter);
-  const number = (/** @type {Entry} */ entry) => (entry.at < 0 ? `${numbers.get(entry)}` :
-    button(`${numbers.get(entry)}`, 'show it', () => goStudy(entry.at), { class: 'link', 'aria-current': entry.at === doc().at && 'true' }));
+  const number = (/** @type {Entry} */ entry) => {
+    const text = `${numbers.get(entry)}`, props = { class: 'link', 'aria-current': entry.at === doc().at && 'true' };
+    return entry.at < 0 ? text : button(text, 'show it', () => goStudy(entry.at), props);
+  };
   const count = (/** @type {[string, number]} */ [kind, n]) => button(`${n} ${KIND_WORDS[kind] || kind}`, 'show these alone', () => filtered(kind),
     { class: `chip act${filter === kind ? ' on' : ''}`, 'data-kind': kind, 'aria-pressed': `${filter === kind}` });
   return [

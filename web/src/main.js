@@ -31,9 +31,9 @@ const whole = new Promise(on => document.addEventListener('DOMContentLoaded', on
  * @returns {Promise<Uint8Array>}
  */
 async function unpacked(id) {
-  const packed = bytesOf($(id).textContent);
-  return new Uint8Array(
-      await new Response(new Blob([packed]).stream().pipeThrough(new (/** @type {any} */ (window).DecompressionStream)('gzip'))).arrayBuffer());
+  const gunzip = new (/** @type {any} */ (window).DecompressionStream)('gzip');
+  const bytes = new Blob([bytesOf($(id).textContent)]).stream().pipeThrough(gunzip);
+  return new Uint8Array(await new Response(bytes).arrayBuffer());
 }
 // A module of no code whose memory has 64-bit addresses.
 const MEMORY64 = new Uint8Array([0, 97, 115, 109, 1, 0, 0, 0, 5, 3, 1, 4, 0]);
@@ -67,14 +67,9 @@ function fileName(ending) {
 /** @param {File[]} files */
 const openTables = files => work(async () => {
   const { taken, bad, kept } = await services.tables.open(files);
-  say('board',
-      [
-        taken.length > 0 && `${counted(taken.length, 'table')} opened${kept ? ' and kept in this browser' : ', for as long as this page stands open'}`,
-        ...bad
-      ].filter(Boolean)
-              .join('; ') +
-          '.',
-      !bad.length);
+  const where = kept ? ' and kept in this browser' : ', for as long as this page stands open';
+  const opened = taken.length ? [`${counted(taken.length, 'table')} opened${where}`] : [];
+  say('board', [...opened, ...bad].join('; ') + '.', !bad.length);
   show();
   if (app.setup) judgeDraft();
   if (!doc().judged) judgeAgain();

@@ -12,7 +12,8 @@ import { nodeAt } from './parse_answers.js';
 import { openSetup } from './setup.js';
 import { typedMoves as movesIn } from './typed.js';
 import { counted, markMeaning, markSign, moveName, valueSign, valueText, zugzwangText } from './words.js';
-/** @typedef {import('./types.js').TreeNode} TreeNode @typedef {import('./types.js').Move} Move @typedef {import('./types.js').Study} Study */
+/** @typedef {import('./types.js').TreeNode} TreeNode @typedef {import('./types.js').Move} Move */
+/** @typedef {import('./types.js').Study} Study */
 
 /** @param {TreeNode | null} n */
 const to = n => () => { if (n) go(n.path); };

@@ -84,12 +84,18 @@ function partsOf(text) {
   }
   return out;
 }
+/** What only some notations say: where a man comes from, figurines, the dash of `Kh2-g3`. */
+const NOTATIONS = /** @type {[RegExp, string][]} */ ([
+  [/[♔♚]/, 'K'], [/[♕♛]/, 'Q'], [/[♖♜]/, 'R'], [/[♗♝]/, 'B'], [/[♘♞]/, 'N'], [/[♙♟P]/, ''],
+  [/^([KQRBN]?)[a-h]?[1-8]?[-–]?([a-h][1-8])/, '$1$2']
+]);
+/** @param {string} san */
+const looseMove = san => NOTATIONS.reduce((text, [from, to]) => text.replace(from, to), san);
 /**
- * The moves of a path without what only some notations say: where a man comes from, figurines, the dash of `Kh2-g3`.
+ * The moves of a path without what only some notations say.
  * @param {string} path
  */
-const loose = path => path.split(' ').map(san => san.replace(/[♔♚]/, 'K').replace(/[♕♛]/, 'Q').replace(/[♖♜]/, 'R')
-  .replace(/[♗♝]/, 'B').replace(/[♘♞]/, 'N').replace(/[♙♟P]/, '').replace(/^([KQRBN]?)[a-h]?[1-8]?[-–]?([a-h][1-8])/, '$1$2')).join(' ');
+const loose = path => path.split(' ').map(looseMove).join(' ');
 /**
  * What a game says beside its moves, as remarks: `# tag NAME TEXT`, `# note MOVES: TEXT`.
  * @param {string} game
@@ -148,18 +154,22 @@ function wrapped(text) {
 }
 
 /**
- * The games as they are saved: names in their own letters, and what a PGN said beside the moves.
- * @param {Script} script
+ * A study's games as they are saved: names in their own letters, and what a PGN said beside the moves.
+ * @param {string[]} lines
+ * @param {Study} study
  */
-export const savedGames = script => script.studies.flatMap(study => {
-  const remarks = script.lines.slice(study.head, study.from);
+function gamesOfStudy(lines, study) {
+  const remarks = lines.slice(study.head, study.from);
   return study.games.map(game => withNotes(inOwnLetters(study, game), remarks));
-}).join('');
+}
+/** @param {Script} script */
+export const savedGames = ({ lines, studies }) => studies.flatMap(study => gamesOfStudy(lines, study)).join('');
 /**
  * A game with the texts of its tags in their own letters.
  * @param {Study} study
  * @param {string} game
  */
-const inOwnLetters = ({ originals }, game) => game.replace(
-    /^\[(\w+) ".*"\]$/gm,
-    (tag, name) => (originals[name] ? `[${name} "${originals[name].replace(/["\\]/g, '\\$&')}"]` : tag));
+function inOwnLetters({ originals }, game) {
+  const own = (/** @type {string} */ name) => originals[name].replace(/["\\]/g, '\\$&');
+  return game.replace(/^\[(\w+) ".*"\]$/gm, (tag, name) => (originals[name] ? `[${name} "${own(name)}"]` : tag));
+}

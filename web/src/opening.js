@@ -149,17 +149,16 @@ export function importView() {
   const note = doc().note, again = source && (source.id === doc().id || !source.id) ? source : null;
   const waiting = again ? again.waiting : 0, mine = again && again.id === doc().id;
   if (!note && !waiting) return null;
+  const file = doc().name ? `${doc().name}.pgn` : 'a file of another name';
+  const without = / Left out: /.test(note) ? ', without the games that were left out' : '';
+  const [doNot, them] = waiting === 1 ? ['does not', 'it'] : ['do not', 'them'];
+  const aimButton = (/** @type {string} */ words) => button(aimText(readAim(words)),
+    'read the PGN again, with this stipulation where none is said',
+    () => again && counting(openPgn(again.bytes, 'board', again.name, words)), { class: 'chip act', 'data-import': words });
   return [
-    note && (!again || mine) &&
-        h('p', { class: 'note', id: 'notKept' },
-            `${note} Save PGN writes ${doc().name || 'a file of another name'}${doc().name && '.pgn'}${
-                / Left out: /.test(note) ? ', without the games that were left out' : ''}.`),
+    note && (!again || mine) && h('p', { class: 'note', id: 'notKept' }, `${note} Save PGN writes ${file}${without}.`),
     again && waiting > 0 &&
-        h('p', { class: 'row', id: 'aims', role: 'group', 'aria-label': 'The stipulation of games that say none' },
-            `${counted(waiting, 'game')} of this PGN ${waiting === 1 ? 'does' : 'do'} not say what is to be done. Read ${
-                waiting === 1 ? 'it' : 'them'} as: `,
-            AIMS.map(words => button(aimText(readAim(words)), 'read the PGN again, with this stipulation where none is said',
-                () => counting(openPgn(again.bytes, 'board', again.name, words)),
-                { class: 'chip act', 'data-import': words })))
+      h('p', { class: 'row', id: 'aims', role: 'group', 'aria-label': 'The stipulation of games that say none' },
+        `${counted(waiting, 'game')} of this PGN ${doNot} say what is to be done. Read ${them} as: `, AIMS.map(aimButton))
   ];
 }

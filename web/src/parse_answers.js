@@ -1,8 +1,10 @@
 // @ts-check
 // The core's answers about a study - its view, its review, a survey - read into records.
 import { squareAt } from './fen.js';
-/** @typedef {import('./types.js').Value} Value @typedef {import('./types.js').TreeNode} TreeNode @typedef {import('./types.js').View} View */
-/** @typedef {import('./types.js').Move} Move @typedef {import('./types.js').Review} Review @typedef {import('./types.js').Stand} Stand */
+/** @typedef {import('./types.js').Value} Value @typedef {import('./types.js').TreeNode} TreeNode */
+/** @typedef {import('./types.js').View} View */
+/** @typedef {import('./types.js').Move} Move @typedef {import('./types.js').Review} Review */
+/** @typedef {import('./types.js').Stand} Stand */
 
 /**
  * A value at word `at`, and the place of the word after it.

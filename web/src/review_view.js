@@ -112,12 +112,12 @@ function zugzwangView(root) {
  */
 function defencesView(s, review, root) {
   const rows = byNode(review.missing, root), aim = s.aim;
-  const note =
-      (aim && aim.goal !== 'draw' ?
-           `The small number tells in how many moves ${aim.hero} mates after the defence; † lasts at least as long as the longest that is given. ` :
-           aim ? `After a defence with = it stays a draw; after one with a small number ${aim.hero} even mates, in so many moves. ` :
-                 '') +
-      'A press adds it, with its answer where only one holds.';
+  const hero = aim ? aim.hero : '', mates = `The small number says in how many moves ${hero} mates after the defence; † ` +
+    'lasts at least as long as the longest that is given. ';
+  const draws = 'After a defence with = it stays a draw; after one with a small number ' +
+    `${hero} even mates, in so many moves. `;
+  const note = (aim ? (aim.goal === 'draw' ? draws : mates) : '') +
+    'A press adds it, with its answer where only one holds.';
   const single = review.missing.filter(d => d.count === 1).length;
   return rows.length > 0 && section('defences', 'Defences that are not in the tree', note,
     [single > 1 && h('p', { class: 'act' }, button(`Add all ${single} with one answer`, 'each with its only answer', () => addAll(rows),
@@ -167,8 +167,13 @@ function missingView(s, n, list) {
 const addAll = rows => change(now => {
   const s = now.studies[now.at], view = app.view;
   if (!s || !view) return null;
-  return { ...rows.reduce((change, [n, list]) => insertLines(change.lines, { ...s, last: s.last + change.lines.length - now.lines.length }, view.root, n.path,
-    list.filter(d => d.count === 1).map(d => [d.san, d.answer])), { lines: now.lines }), path: now.path };
+  let lines = now.lines;
+  for (const [n, list] of rows) {
+    const study = { ...s, last: s.last + lines.length - now.lines.length };
+    const sans = list.filter(d => d.count === 1).map(d => [d.san, d.answer]);
+    lines = insertLines(lines, study, view.root, n.path, sans).lines;
+  }
+  return { lines, path: now.path };
 });
 /**
  * @param {Study} s
@@ -180,9 +185,9 @@ function defenceView(s, n, d) {
   if (!aim) return null;
   const long = isLong(s, n, d);
   const [sans, what] = d.count === 1 ? [[d.san, d.answer], `add ${d.san} with its only answer ${d.answer}`] :
-                                       [[d.san], `add ${d.san}`];
-  const title = `${d.san}: ${valueText(after, d.value)}${long ? ', as long as the longest that is given' : ''}; ${
-      what}`;
+    [[d.san], `add ${d.san}`];
+  const lasts = long ? ', as long as the longest that is given' : '';
+  const title = `${d.san}: ${valueText(after, d.value)}${lasts}; ${what}`;
   return add(
       n.path, sans, [h('b', {}, d.san), h('sub', {}, valueSign(aim.hero, after, d.value)), long && '†'], title, true);
 }
@@ -192,12 +197,10 @@ function defenceView(s, n, d) {
  */
 function endsView(review, root) {
   const rows = byNode(review.ends, root).sort((x, y) => Number(x[1][0].value === null) - Number(y[1][0].value === null));
-  return rows.length > 0 &&
-      section(
-             'ends', 'Best play from the open ends', null,
-             table(
-                 ['End', 'Goes on'], rows,
-                 ([n, [end]]) => [n.parent ? nodeLink(n) : 'the start', end.value ? playView(n, end.sans, end.value.n) : keepView(n, end)]));
+  const cells = (/** @type {[TreeNode, import('./types.js').Ending[]]} */ [n, [end]]) => [
+    n.parent ? nodeLink(n) : 'the start', end.value ? playView(n, end.sans, end.value.n) : keepView(n, end)
+  ];
+  return rows.length > 0 && section('ends', 'Best play from the open ends', null, table(['End', 'Goes on'], rows, cells));
 }
 /**
  * @param {TreeNode} n

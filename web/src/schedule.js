@@ -91,9 +91,10 @@ export function secondsLeft(running, waiting, most) {
  * @param {number} left
  */
 export function progressText(running, made, all, seconds, left) {
-  const more = left >= 90 ? `about ${Math.round(left / 60)} minutes left` : left >= 1 ? `about ${Math.max(5, Math.round(left / 5) * 5)} s left` : 'almost done';
-  return `Building the table${running.length > 1 ? 's' : ''} ${running.join(', ')} · ${Math.min(made + 1, all)} of ${all} · ${Math.round(seconds)} s, ${
-      more}. It is done once, and kept.`;
+  const more = left >= 90 ? `about ${Math.round(left / 60)} minutes left` :
+    left >= 1 ? `about ${Math.max(5, Math.round(left / 5) * 5)} s left` : 'almost done';
+  const names = `table${running.length > 1 ? 's' : ''} ${running.join(', ')}`, at = `${Math.min(made + 1, all)} of ${all}`;
+  return `Building the ${names} · ${at} · ${Math.round(seconds)} s, ${more}. It is done once, and kept.`;
 }
 
 /**

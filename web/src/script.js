@@ -3,7 +3,8 @@
 import { aimText, aimWords } from './words.js';
 import { originalsIn } from './imported.js';
 import { readStipulation } from './parse_answers.js';
-/** @typedef {import('./types.js').Script} Script @typedef {import('./types.js').Study} Study @typedef {import('./types.js').Aim} Aim */
+/** @typedef {import('./types.js').Script} Script @typedef {import('./types.js').Study} Study */
+/** @typedef {import('./types.js').Aim} Aim */
 /** @typedef {{text: string, line: number}} Sent      a line that is run, and its place in the script; -1 for one of our own */
 
 export const TAGS = ['Event', 'White', 'Black', 'Site', 'Date', 'Round'];

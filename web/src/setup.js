@@ -224,14 +224,12 @@ async function judgement(d, build) {
   if (lacking.length) return { ...none, lacking };
   const view = await viewOf(`position ${fen}\nstipulate ${d.aim}\n`, 'root');
   if (typeof view === 'string') return { ...none, text: view };
-  const own = view.moves.filter(holds).map(m => m.san), wrong = view.verdict === 'wrong', hero = view.aim && sideOf(view.fen) === view.aim.hero;
-  const first = own.length === 1 ? `One first move: ${own[0]}.` :
-                                   `${counted(own.length, 'first move')} hold: ${own.slice(0, 8).join(' ')}${own.length > 8 ? ' ..' : ''}.`;
-  return {
-    ...none,
-    text: `${view.aim ? aimText(view.aim) : ''}: ${wrong ? 'does not hold' : 'holds'}; ${view.start}. ${!wrong && hero ? first : ''}`,
-    mate: movesTo(view.root.value)
-  };
+  const own = view.moves.filter(holds).map(m => m.san), wrong = view.verdict === 'wrong';
+  const hero = view.aim && sideOf(view.fen) === view.aim.hero, list = own.slice(0, 8).join(' ') + (own.length > 8 ? ' ..' : '');
+  const first = own.length === 1 ? `One first move: ${own[0]}.` : `${counted(own.length, 'first move')} hold: ${list}.`;
+  const aim = view.aim ? aimText(view.aim) : '', result = wrong ? 'does not hold' : 'holds';
+  const text = `${aim}: ${result}; ${view.start}. ${!wrong && hero ? first : ''}`;
+  return { ...none, text, mate: movesTo(view.root.value) };
 }
 async function passedSquares() {
   const { text } = await services.core.answer('passed ' + draftFen().replace(/^(\S+ \S+) .*/, '$1 - - 0 1'), '', 1);

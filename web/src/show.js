@@ -201,8 +201,8 @@ function welcomeView() {
             { id: 'sample2' })),
     keptList,
     h('p', { class: 'note keys' },
-        'Keys: ← → ↑ ↓ Home End walk the tree, Delete takes a move away, Ctrl-Z and Ctrl-Y undo and redo, f turns the ' +
-            'board, m goes to the field for a move, Escape leaves it. Nothing leaves this computer; the page works ' +
+        'Keys: ← → ↑ ↓ Home End walk the tree, Delete takes a move away, Ctrl-Z and Ctrl-Y undo and redo, f turns ' +
+            'the board, m goes to the field for a move, Escape leaves it. Nothing leaves this computer; the page works ' +
             'offline.'),
     keyView()
   ];

@@ -8,7 +8,8 @@ import { fensOf } from './script.js';
 import { closeSetup, draftFen } from './setup.js';
 import { bareOf, legalPart, turnedTree } from './turning.js';
 import { counted } from './words.js';
-/** @typedef {import('./types.js').Study} Study @typedef {import('./types.js').Doc} Doc @typedef {import('./setup.js').Draft} Draft */
+/** @typedef {import('./types.js').Study} Study @typedef {import('./types.js').Doc} Doc */
+/** @typedef {import('./setup.js').Draft} Draft */
 
 /**
  * The moves of the study that is shown, as far as they are legal from the set-up.
@@ -24,9 +25,11 @@ async function movesFrom(d, fen) {
   });
 }
 /** @param {{san: string, below: number}[]} fallen */
-const fallenText = fallen => `Not legal any more, and left out: ${
-    fallen.slice(0, 8).map(({ san, below }) => san + (below ? ` with ${below} below it` : '')).join(', ')}${
-    fallen.length > 8 ? `, and ${fallen.length - 8} more` : ''}. Undo brings them back.`;
+function fallenText(fallen) {
+  const list = fallen.slice(0, 8).map(({ san, below }) => san + (below ? ` with ${below} below it` : '')).join(', ');
+  const more = fallen.length > 8 ? `, and ${fallen.length - 8} more` : '';
+  return `Not legal any more, and left out: ${list}${more}. Undo brings them back.`;
+}
 /**
  * @param {Draft} d
  * @param {Doc} now
@@ -47,11 +50,12 @@ export const takeOver = how => counting(taken(how));
 /** @param {'anew' | 'keep'} how */
 async function taken(how) {
   const d = /** @type {Draft} */ (app.setup), fen = draftFen(), before = doc();
-  const kept = how === 'keep' && app.view ? await movesFrom(d, fen).catch(fault => {
+  const failed = (/** @type {Error} */ fault) => {
     say('fen', `${fault.message}.`);
     services.show();
     return null;
-  }) : { lines: [], fallen: [] };
+  };
+  const kept = how === 'keep' && app.view ? await movesFrom(d, fen).catch(failed) : { lines: [], fallen: [] };
   if (!kept || app.setup !== d) return;
   const done = await change(now => {
     const s = now.studies[now.at];

@@ -56,10 +56,10 @@ function scriptView(s) {
                 'Remove this study', 'take its lines out of the script', () => change(now => dropStudy(now.lines, now.studies[now.at], now.at), 'script'),
                 {id: 'drop'})));
 }
+const copy = () => change(now => copyStudy(now.lines, now.studies, now.at), 'script');
 /** What is done with the study as a whole. */
 const studyButtons = () => [
-  button('Copy this study', 'one more of the same behind it', () => change(now => copyStudy(now.lines, now.studies, now.at), 'script'),
-    { class: 'chip act', id: 'copyStudy' }),
+  button('Copy this study', 'one more of the same behind it', copy, { class: 'chip act', id: 'copyStudy' }),
   doc().studies.length > 1 && [moveButton('Move up', -1), moveButton('Move down', 1)]
 ];
 /**

@@ -83,10 +83,10 @@ function bareLine(from, ply, numberedFirst) {
  * @param {number} ply
  * @param {boolean} first
  */
-const bareMove = (n, ply,
-    first) => [h('span', { class: 'mv m' },
-                   first || ply % 2 === 0 ? `${Math.floor(ply / 2)}${ply % 2 ? '...' : '.'}\u00a0` : '', n.san),
-    ' '];
+function bareMove(n, ply, first) {
+  const number = first || ply % 2 === 0 ? `${Math.floor(ply / 2)}${ply % 2 ? '...' : '.'}\u00a0` : '';
+  return [h('span', { class: 'mv m' }, number, n.san), ' '];
+}
 /**
  * @param {Study} s
  */

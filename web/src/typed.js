@@ -10,19 +10,21 @@ const english = letter => GERMAN[letter] || letter;
  */
 export function typedMove(word) {
   if (/^[O0]/.test(word)) return word;
-  const move = word.replace(/[-\u2013\u2014]/g, '')
-                   .replace(/^([kqrnstl])(?=[a-h]?[1-8]?x?[a-h][1-8])/, letter => letter.toUpperCase());
-  return move.replace(/^[STLD](?=[a-h1-8x])/, english)
-      .replace(/([a-h][18])[=(]?([QRBNDTLS])\)?(?=[+#!?]*$)/, (_, square, letter) => `${square}=${english(letter)}`);
+  const capital = (/** @type {string} */ letter) => letter.toUpperCase();
+  const promoted = (/** @type {string} */ _, /** @type {string} */ square, /** @type {string} */ letter) =>
+    `${square}=${english(letter)}`;
+  const bare = word.replace(/[-\u2013\u2014]/g, '');
+  const move = bare.replace(/^([kqrnstl])(?=[a-h]?[1-8]?x?[a-h][1-8])/, capital).replace(/^[STLD](?=[a-h1-8x])/, english);
+  return move.replace(/([a-h][18])[=(]?([QRBNDTLS])\)?(?=[+#!?]*$)/, promoted);
 }
 /**
  * Several moves, with variations in brackets; numbers and `e.p.` are passed over.
  * @param {string} text
  * @returns {string[]}
  */
-export const typedMoves = text => (text.replace(/\be\.?p\.?/g, ' ')
-                                       .replace(/\d+\s*\.+|\u2026/g, ' ')
-                                       .match(/[a-h][18]=?\([QRBNDTLS]\)[+#!?]*|[()]|[^\s()]+/g) ||
-    [])
-                                      .map(word => (/^[()]$/.test(word) ? word : typedMove(word)))
-                                      .filter(word => /[a-h][1-8]|[()O0]/.test(word) || word.length > 1);
+export function typedMoves(text) {
+  const plain = text.replace(/\be\.?p\.?/g, ' ').replace(/\d+\s*\.+|\u2026/g, ' ');
+  const words = plain.match(/[a-h][18]=?\([QRBNDTLS]\)[+#!?]*|[()]|[^\s()]+/g) || [];
+  const moves = words.map(word => (/^[()]$/.test(word) ? word : typedMove(word)));
+  return moves.filter(word => /[a-h][1-8]|[()O0]/.test(word) || word.length > 1);
+}

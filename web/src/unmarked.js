@@ -21,8 +21,8 @@ export function unjudged(lines) {
 export function bareTree(lines) {
   let root = /** @type {Bare} */ ({ path: 'root', san: '', children: [] });
   for (const line of lines.filter(isEdit)) {
-    const [command, path = '', san = ''] = wordsOf(line), places = path === 'root' ? [] : path.split('.').map(Number),
-                                     last = places[places.length - 1];
+    const [command, path = '', san = ''] = wordsOf(line), places = path === 'root' ? [] : path.split('.').map(Number);
+    const last = places[places.length - 1];
     if (command === 'position') root = { path: 'root', san: '', children: [] };
     if (command === 'insert') inserted(at(root, places), san);
     const parent = at(root, places.slice(0, -1));

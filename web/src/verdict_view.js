@@ -116,8 +116,9 @@ export function alsoView(s, n, list) {
   const parent = n.parent;
   return parent && list.map(a => {
     const there = parent.children.some(c => c.san === a.san);
-    const notes = [s.aim && difference(s.aim, n.value, a.value), a.time >= 0 && 'loses time', there && 'in the tree'].filter(Boolean).join(', ');
-    return [add(parent.path, [a.san], [h('b', {}, a.san), notes && h('small', {}, ' ' + notes)]), ' '];
+    const notes = [s.aim && difference(s.aim, n.value, a.value), a.time >= 0 && 'loses time', there && 'in the tree'];
+    const text = notes.filter(Boolean).join(', ');
+    return [add(parent.path, [a.san], [h('b', {}, a.san), text && h('small', {}, ' ' + text)]), ' '];
   });
 }
 /**
@@ -194,7 +195,12 @@ function timeView(s, root) {
 function adviceView(s) {
   const view = app.view;
   if (!view || !s.aim) return null;
-  const offers = otherAims(s.aim, view.verdict, sideOf(view.fen), view.root.value, Boolean(app.review && app.review.faults.some(f => f.kind === 'dual')));
-  return offers.length > 0 && h('p', { class: 'act' }, 'Say instead: ', offers.map(words => [h('button', { type: 'button', class: 'chip add', 'data-aim': words,
-    onclick: () => change(now => (now.studies[now.at] ? stipulate(now.lines, now.studies[now.at], words) : null), 'head') }, aimText(readAim(words))), ' ']));
+  const duals = app.review !== null && app.review.faults.some(f => f.kind === 'dual');
+  const offers = otherAims(s.aim, view.verdict, sideOf(view.fen), view.root.value, duals);
+  return offers.length > 0 && h('p', { class: 'act' }, 'Say instead: ', offers.map(words => [aimButton(words), ' ']));
+}
+/** @param {string} words */
+function aimButton(words) {
+  const onclick = () => change(now => (now.studies[now.at] ? stipulate(now.lines, now.studies[now.at], words) : null), 'head');
+  return h('button', { type: 'button', class: 'chip add', 'data-aim': words, onclick }, aimText(readAim(words)));
 }

@@ -1,7 +1,8 @@
 // @ts-check
 // Values, verdicts and refusals in the words of the printed page.
 import { numbered, other, sideOf } from './fen.js';
-/** @typedef {import('./types.js').Value} Value @typedef {import('./types.js').Side} Side @typedef {import('./types.js').Aim} Aim */
+/** @typedef {import('./types.js').Value} Value @typedef {import('./types.js').Side} Side */
+/** @typedef {import('./types.js').Aim} Aim */
 /** @typedef {import('./types.js').TreeNode} TreeNode */
 
 /**
@@ -113,8 +114,11 @@ export function markMeaning(node, hero) {
  * What a mutual zugzwang is about: `full`, `half white`, `half black`.
  * @param {string} kind
  */
-export const zugzwangText = kind => (kind === 'full' ? 'a full point: whoever moves loses' :
-  `half a point: ${kind.endsWith('white') ? 'White' : 'Black'} wins if the other side is to move, else it is a draw`);
+export function zugzwangText(kind) {
+  const side = kind.endsWith('white') ? 'White' : 'Black';
+  return kind === 'full' ? 'a full point: whoever moves loses' :
+    `half a point: ${side} wins if the other side is to move, else it is a draw`;
+}
 /**
  * How much longer another move takes than the one played.
  * @param {Aim} aim
@@ -141,7 +145,8 @@ export function otherAims(aim, verdict, mover, value, duals) {
     if (won !== aim.hero) return [`${won.toLowerCase()} win`];
     return aim.goal === 'mate' ? [`${won.toLowerCase()} mate ${movesTo(value)}`] : [];
   }
-  return duals && aim.goal === 'win' && movesTo(value) <= 127 ? [`${aim.hero.toLowerCase()} mate ${movesTo(value)}`] : [];
+  const mate = `${aim.hero.toLowerCase()} mate ${movesTo(value)}`;
+  return duals && aim.goal === 'win' && movesTo(value) <= 127 ? [mate] : [];
 }
 
 const REASONS = /** @type {Record<string, string>} */ ({

@@ -13,10 +13,9 @@ class Made {
 }
 let made = 0;
 /** `a(b c)` as what is wanted: each name is its key. */
-const wanted = list => list.map(item => typeof item === 'string' ?
-  { key: item, make: () => { made++; return new Made(item); } } :
-  { key: item[0], make: () => { made++; return new Made(item[0]); }, kids: wanted(item[1]) });
-const told = node => node.kids.map(kid => (kid.kids.length ? [kid.name, told(kid)] : kid.name));
+const named = name => ({ key: name, make: () => { made++; return new Made(name); } });
+const wanted = list => list.map(item => (typeof item === 'string' ? named(item) : { ...named(item[0]), kids: wanted(item[1]) }));
+const shown = node => node.kids.map(kid => (kid.kids.length ? [kid.name, shown(kid)] : kid.name));
 
 test('what is wanted stands there, and only what differs is made', () => {
   const root = new Made('root');
@@ -27,7 +26,7 @@ test('what is wanted stands there, and only what differs is made', () => {
   for (const [list, most] of steps) {
     made = 0;
     patch(root, wanted(list));
-    assert.deepEqual(told(root), list);
+    assert.deepEqual(shown(root), list);
     assert.equal(made, most, JSON.stringify(list));
   }
 });

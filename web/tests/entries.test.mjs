@@ -19,7 +19,8 @@ function doc(verdicts) {
     text.startsWith('stipulate') ? 'stipulate White to win' : text.startsWith('insert') ? 'insert 0' : text));
   return { ...readScript(LINES, sent, replies), at: 0, path: 'root', name: '', id: 'x', note: '', judged: true };
 }
-const REVIEW = 'study 1 x\nstipulation White to win: unsound 1, draw\nfault 0 Kg7 win 3 dual 2 time 2\nwaste sound but for loss of time\nmissing 0 Kb6 win 3 0\n';
+const REVIEW = 'study 1 x\nstipulation White to win: unsound 1, draw\nfault 0 Kg7 win 3 dual 2 time 2\n' +
+  'waste sound but for loss of time\nmissing 0 Kb6 win 3 0\n';
 test('each entry has a row and a stamp', () => {
   const d = doc(['unsound 1', 'sound', 'sound']), review = readReview(REVIEW);
   const rows = entriesOf(d, [review]);

@@ -65,7 +65,8 @@ test('what is run is the script as it is saved, with a game behind each study', 
 test('a remark has no reply, and a question that is refused is listed', () => {
   const lines = ['# Réti', 'position A', '', 'stipulate white win', 'mark 0', 'insert root Kb2'], sent = toRun(lines);
   const replies =
-      'position 8/8/8/8/8/8/8/8 w - - 0 1\nstipulate White to win\nerror NoSuchNode\ninsert 0 Kb2\n[Event "?"]\n\n{White to win: sound, draw} *\n\n';
+      'position 8/8/8/8/8/8/8/8 w - - 0 1\nstipulate White to win\nerror NoSuchNode\ninsert 0 Kb2\n' +
+    '[Event "?"]\n\n{White to win: sound, draw} *\n\n';
   const script = readScript(lines, sent, repliesOf(sent.map(s => s.text), replies));
   assert.deepEqual(script.refused, [{ line: 4, text: 'mark 0', reply: 'error NoSuchNode' }]);
   assert.deepEqual([script.studies[0].last, script.studies[0].verdict], [5, 'sound']);
