@@ -1,5 +1,5 @@
 #!/bin/bash
-# Tests studyboard.html: types, pure functions, and the page in headless Chromium, opened from its file.
+# Tests studyboard.html: types, format, pure functions, and the page in headless Chromium, opened from its file.
 #
 #   tools/web_test.sh [--short] [TABLES]
 #
@@ -11,13 +11,21 @@ tables=${1:-}; page=${STUDYBOARD:-$top/web/out/studyboard.html}; python=${PYTHON
 say() { echo "tools/web_test.sh: $1"; }
 try() { "$@" || status=1; }
 
-if command -v tsc > /dev/null; then try tsc -p "$top/web" && echo "types: checked"; else say "no tsc (Debian's node-typescript): types are not checked"; fi
+if ! command -v tsc > /dev/null; then
+    say "no tsc (Debian's node-typescript): types are not checked"
+elif tsc -p "$top/web"; then echo "types: checked"; else status=1; fi
+wide=$(cd "$top/web" && LC_ALL=C.UTF-8 grep -nP '^.{121}|\t|\s$' src/*.js tests/*.mjs tests/browser/*.py page.html board.css)
+[ -z "$wide" ] || { say "over 120 columns, a tab or a space at the end:"; cut -c1-120 <<< "$wide"; status=1; }
+if ! command -v clang-format > /dev/null; then
+    say "no clang-format (of Debian's package of this name): the format is not checked"
+elif (cd "$top/web" && clang-format --dry-run -Werror src/*.js tests/*.mjs); then echo "format: checked"; else status=1; fi
 if command -v node > /dev/null; then
     (cd "$top/web" && node --test tests/ | grep -E '^(not ok|# (pass|fail))'; exit "${PIPESTATUS[0]}") || status=1
 else
     say "no node: pure functions are not tried"
 fi
-lines=$(awk 'FNR > 300 { print FILENAME }' "$top"/web/src/*.js | sort -u); [ -z "$lines" ] || { say "more than 300 lines: $lines"; status=1; }
+lines=$(awk 'FNR > 300 { print FILENAME }' "$top"/web/src/*.js | sort -u)
+[ -z "$lines" ] || { say "more than 300 lines: $lines"; status=1; }
 
 [ -f "$page" ] || { say "no page: run tools/web.sh first"; exit 1; }
 if ! command -v chromedriver > /dev/null || ! "$python" -c 'import selenium' 2> /dev/null; then

@@ -1,15 +1,15 @@
 // @ts-check
 // What is done to the document, one action after the other.
-import { linesToRun, repliesTo, reviewOf, viewOf } from './answer_cache.js';
-import { advance, redo as redone, replace, undo as undone } from './history.js';
-import { editsTo, fensOf, isEdit, toText, overLimit, readScript, repliesOf, wordsOf } from './script.js';
-import { nodeAt } from './parse_answers.js';
-import { cancelPrefetch, dropPrefetched, prefetchNeighbours, prefetchView } from './prefetch.js';
-import { Stopped } from './engine.js';
-import { freshId } from './keep.js';
-import { app, blank, doc, services, say } from './state.js';
-import { unjudged } from './unmarked.js';
-import { counted, endedReason, moveName, reason } from './words.js';
+import {linesToRun, repliesTo, reviewOf, viewOf} from './answer_cache.js';
+import {advance, redo as redone, replace, undo as undone} from './history.js';
+import {editsTo, fensOf, isEdit, toText, overLimit, readScript, repliesOf, wordsOf} from './script.js';
+import {nodeAt} from './parse_answers.js';
+import {cancelPrefetch, dropPrefetched, prefetchNeighbours, prefetchView} from './prefetch.js';
+import {Stopped} from './engine.js';
+import {freshId} from './keep.js';
+import {app, blank, doc, services, say} from './state.js';
+import {unjudged} from './unmarked.js';
+import {counted, endedReason, moveName, reason} from './words.js';
 /** @typedef {import('./types.js').Doc} Doc @typedef {import('./types.js').Change} Change */
 /** @typedef {import('./types.js').Script} Script */
 /** @typedef {import('./state.js').Say} Say */
@@ -20,8 +20,8 @@ import { counted, endedReason, moveName, reason } from './words.js';
  */
 export function opened(before) {
   const refused = doc().refused.length,
-        place = before.studies.length ? 'The document before is kept: Undo brings it back, and Documents lists it.' :
-                                        '';
+        place =
+          before.studies.length ? 'The document before is kept: Undo brings it back, and Documents lists it.' : '';
   if (app.say || !(refused || place)) return;
   const were = refused === 1 ? 'was' : 'were';
   const lines = `${counted(refused, 'line')} of this script ${were} refused; they are listed below the study. `;
@@ -46,7 +46,9 @@ export function work(job, where = 'board') {
  */
 function showFault(fault, where) {
   if (!(fault instanceof Stopped)) console.error(fault);
-  say(where, fault instanceof Stopped ? `${fault.message}.` : `The program did not finish: ${fault.message}. Nothing was changed.`);
+  say(where,
+    fault instanceof Stopped ? `${fault.message}.`
+                             : `The program did not finish: ${fault.message}. Nothing was changed.`);
   services.show();
 }
 
@@ -57,7 +59,7 @@ function showFault(fault, where) {
  */
 export async function evaluate(lines) {
   readable(lines);
-  const { sent, texts } = await linesToRun(lines), { text, ended } = await repliesTo(toText(texts));
+  const {sent, texts} = await linesToRun(lines), {text, ended} = await repliesTo(toText(texts));
   if (ended === 'TooManyLines') throw notRun(ended);
   if (ended !== 'done') throw new Error(endedReason(ended));
   return readScript(lines, sent, repliesOf(texts, text).slice(texts.length - sent.length));
@@ -80,7 +82,8 @@ export async function idle() {
   await work(async () => {});
 }
 /**
- * What is done to the document: lines are run; where one is newly refused nothing changes, and the reason is shown where the user acted.
+ * What is done to the document: lines are run; where one is newly refused nothing changes, and the reason is shown
+ * where the user acted.
  * @param {(doc: Doc) => Change | null} make
  * @param {string} where
  * @returns {Promise<boolean>} whether it was done
@@ -110,7 +113,10 @@ async function changeOnce(make, where) {
       return app.history !== before;
     }
     if (lacking.length) await tablesFor(first.lines, lacking, where);
-  } catch (fault) { showFault(fault, where); return false; }
+  } catch (fault) {
+    showFault(fault, where);
+    return false;
+  }
   await work(() => changed(make, where), where);
   return app.history !== before;
 }
@@ -145,11 +151,11 @@ async function unmarked(make) {
 function docAfter(now, wanted, script, judged) {
   const at = Math.max(0, Math.min(wanted.at === undefined ? now.at : wanted.at, script.studies.length - 1)),
         made = script.studies[at] && script.studies[at].made;
-  const path = wanted.path === 'made' ? (made ? made.path : 'root') :
-      wanted.path === undefined       ? now.path :
-                                        wanted.path;
-  const { name = now.name, note = now.note, id = now.id || freshId() } = wanted;
-  return { ...script, at, path, name, note, id, judged };
+  const path = wanted.path === 'made' ? (made ? made.path : 'root')
+    : wanted.path === undefined       ? now.path
+                                      : wanted.path;
+  const {name = now.name, note = now.note, id = now.id || freshId()} = wanted;
+  return {...script, at, path, name, note, id, judged};
 }
 /**
  * @param {(doc: Doc) => Change | null} make
@@ -161,13 +167,12 @@ async function changed(make, where) {
   if (wanted.lines === now.lines) return look(wanted.at, wanted.path === 'made' ? undefined : wanted.path);
   prefetchView(now, wanted).catch(() => {});
   const script = await evaluate(wanted.lines),
-        newly = script.refused.find(
-            r => isEdit(r.text) && !now.refused.some(o => o.text === r.text && o.reply === r.reply));
+        newly =
+          script.refused.find(r => isEdit(r.text) && !now.refused.some(o => o.text === r.text && o.reply === r.reply));
   if (newly && !wanted.lenient && now.judged) {
     const subject = /^ *insert/.test(newly.text) ? wordsOf(newly.text)[2] : '';
     say(where,
-        subject ? `${subject}: ${reason(newly.reply)}.` :
-                  `Refused: ${brokenMove(newly.reply) || reason(newly.reply)}.`);
+      subject ? `${subject}: ${reason(newly.reply)}.` : `Refused: ${brokenMove(newly.reply) || reason(newly.reply)}.`);
     return services.show();
   }
   await arrive(advance(app.history, docAfter(now, wanted, script, true)));
@@ -177,8 +182,10 @@ async function changed(make, where) {
  * @param {string} reply
  */
 function brokenMove(reply) {
-  const path = /^error ShiftBroken (\S+)/.exec(reply), broken = path && app.view ? nodeAt(app.view.root, path[1]) : null;
-  const why = 'starts on a square that its man has left, or is not legal from here. Take the position without the moves';
+  const path = /^error ShiftBroken (\S+)/.exec(reply),
+        broken = path && app.view ? nodeAt(app.view.root, path[1]) : null;
+  const why =
+    'starts on a square that its man has left, or is not legal from here. Take the position without the moves';
   return broken ? `the tree's ${moveName(broken)} ${why}` : '';
 }
 /**
@@ -188,7 +195,8 @@ function brokenMove(reply) {
  */
 async function look(at, path) {
   const now = doc();
-  await arrive(replace(app.history, { ...now, at: at === undefined ? now.at : at, path: path === undefined ? now.path : path }));
+  await arrive(
+    replace(app.history, {...now, at: at === undefined ? now.at : at, path: path === undefined ? now.path : path}));
 }
 /** @param {string} path */
 export const go = path => work(() => look(undefined, path));
@@ -217,21 +225,21 @@ async function read(history) {
   const now = history.now;
   if (now.judged) return history;
   const here = !(await services.tables.lacking(fensOf(now.lines))).length;
-  if (here) prefetchView({ ...now, studies: [] }, { lines: now.lines, at: now.at, path: now.path }).catch(() => {});
+  if (here) prefetchView({...now, studies: []}, {lines: now.lines, at: now.at, path: now.path}).catch(() => {});
   const script = here ? await evaluate(now.lines) : unjudged(now.lines);
   return replace(
-      history, {...now, ...script, at: Math.max(0, Math.min(now.at, script.studies.length - 1)), judged: here });
+    history, {...now, ...script, at: Math.max(0, Math.min(now.at, script.studies.length - 1)), judged: here});
 }
 /** The document whose builds were stopped or failed, and why: they are not begun again by each change. */
-let halted = { id: '', why: '' };
+let halted = {id: '', why: ''};
 /**
  * Its tables are built, and then it is judged.
  * @param {Doc} now
  */
-function judgeLater({ lines, id }) {
+function judgeLater({lines, id}) {
   const mine = () => doc().lines === lines && !doc().judged;
   const failed = (/** @type {Error} */ fault) => {
-    halted = { id, why: `${fault.message}. Without its tables a study is not judged` };
+    halted = {id, why: `${fault.message}. Without its tables a study is not judged`};
     if (!mine()) return;
     app.noView = halted.why;
     services.show();
@@ -247,7 +255,7 @@ function judgeLater({ lines, id }) {
 }
 /** A document that was not judged, since its tables lacked, is tried again. */
 export function judgeAgain() {
-  halted = { id: '', why: '' };
+  halted = {id: '', why: ''};
   return work(() => arrive(app.history));
 }
 /**
@@ -261,7 +269,7 @@ export async function arrive(wanted, note = null) {
   const s = next.now.studies[next.now.at], text = s ? toText(editsTo(next.now.lines, s)) : '', judged = next.now.judged;
   let view = s && judged ? await viewOf(text, next.now.path) : null;
   if (typeof view === 'string' && next.now.path !== 'root') {
-    next = replace(next, { ...next.now, path: 'root' });
+    next = replace(next, {...next.now, path: 'root'});
     view = await viewOf(text, 'root');
   }
   Object.assign(app, {
@@ -269,7 +277,9 @@ export async function arrive(wanted, note = null) {
     chosen: null,
     say: note,
     view: typeof view === 'string' ? null : view,
-    noView: typeof view === 'string' ? view : judged || halted.id !== next.now.id ? '' : halted.why,
+    noView: typeof view === 'string'        ? view
+      : judged || halted.id !== next.now.id ? ''
+                                            : halted.why,
     review: null,
     noReview: ''
   });

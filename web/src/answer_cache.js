@@ -1,9 +1,9 @@
 // @ts-check
 // What the program has answered, kept by the text of its script: replies, views and reviews.
-import { readReview, readView, refusalIn } from './parse_answers.js';
-import { fensOf, toRun } from './script.js';
-import { PAGES, app, services } from './state.js';
-import { reason } from './words.js';
+import {readReview, readView, refusalIn} from './parse_answers.js';
+import {fensOf, toRun} from './script.js';
+import {PAGES, app, services} from './state.js';
+import {reason} from './words.js';
 /** @typedef {import('./types.js').View} View @typedef {import('./types.js').Review} Review */
 /** @typedef {import('./types.js').Answer} Answer @typedef {import('./types.js').Engine} Engine */
 
@@ -22,7 +22,7 @@ function remember(map, key, value) {
 }
 
 // ---- replies
-const runs = /** @type {Map<string, Promise<Answer>>} */ (new Map());      // from the node that is shown
+const runs = /** @type {Map<string, Promise<Answer>>} */ (new Map());  // from the node that is shown
 let lastRun = 0;
 /** How long the last run took, in milliseconds. */
 export const lastRunTime = () => lastRun;
@@ -32,12 +32,15 @@ export const lastRunTime = () => lastRun;
  */
 export async function linesToRun(lines) {
   const sent = toRun(lines), names = (await services.tables.classesOf(fensOf(lines))).filter(services.core.has);
-  return { sent, texts: [...names.map(name => 'load ' + name), ...sent.map(s => s.text)] };
+  return {sent, texts: [...names.map(name => 'load ' + name), ...sent.map(s => s.text)]};
 }
 /** @param {string} text */
 export function repliesTo(text) {
   const kept = runs.get(text), began = performance.now(), answer = kept || services.core.answer('run', text, PAGES);
-  if (!kept) answer.then(() => { lastRun = performance.now() - began; }, () => {});
+  if (!kept)
+    answer.then(() => {
+      lastRun = performance.now() - began;
+    }, () => {});
   return answer;
 }
 /**
@@ -54,7 +57,7 @@ export function clearRuns() { runs.clear(); }
 
 // ---- views
 const views = /** @type {Map<string, View>} */ (new Map());
-const pending = /** @type {Map<string, Promise<View | null>>} */ (new Map());      // requested ahead
+const pending = /** @type {Map<string, Promise<View | null>>} */ (new Map());  // requested ahead
 /**
  * @param {string} text
  * @param {string} path
@@ -74,7 +77,7 @@ export const keptView = (text, path) => views.get(keyOf(text, path)) || pending.
  */
 export async function keepView(core, text, path) {
   const key = keyOf(text, path);
-  const answer = core.answer('view ' + path, text, PAGES).then(({ text }) => readView(text)).catch(() => null);
+  const answer = core.answer('view ' + path, text, PAGES).then(({text}) => readView(text)).catch(() => null);
   pending.set(key, answer);
   const view = await answer;
   pending.delete(key);
@@ -99,7 +102,7 @@ export async function viewOf(text, path) {
 
 // ---- reviews
 const reviews = /** @type {Map<string, Review>} */ (new Map());
-let last = { letters: 1, ms: 0 };
+let last = {letters: 1, ms: 0};
 /**
  * Shows the review of a study, from a worker of its own, so that no move waits for it. A review that takes long is
  * requested once the user rests.
@@ -109,7 +112,10 @@ let last = { letters: 1, ms: 0 };
  */
 export async function reviewOf(text, fen, stamp) {
   const kept = reviews.get(text), expected = last.ms * Math.min(1, text.length / last.letters);
-  if (kept) { app.review = kept; return; }
+  if (kept) {
+    app.review = kept;
+    return;
+  }
   await pause(expected > 150 ? Math.min(1000, 2 * expected) : 30);
   if (stamp !== app.stamp) return;
   try {
@@ -117,11 +123,13 @@ export async function reviewOf(text, fen, stamp) {
     if (stamp !== app.stamp) return;
     const began = performance.now(), answer = await services.facts.answer('review', text + 'pgn\n', PAGES);
     const review = readReview(answer.text);
-    last = { letters: text.length, ms: performance.now() - began };
+    last = {letters: text.length, ms: performance.now() - began};
     if (review) remember(reviews, text, review);
     if (stamp !== app.stamp) return;
     app.review = review;
     if (!review) app.noReview = reason(refusalIn(answer));
-  } catch (fault) { if (stamp === app.stamp) app.noReview = /** @type {Error} */ (fault).message; }
+  } catch (fault) {
+    if (stamp === app.stamp) app.noReview = /** @type {Error} */ (fault).message;
+  }
   if (stamp === app.stamp) services.showFacts();
 }

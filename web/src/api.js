@@ -1,15 +1,17 @@
 // @ts-check
 // For other programs: `studyboard` on window. Promises of texts, as the program writes them.
-import { idle } from './actions.js';
-import { app, doc, services, PAGES, study } from './state.js';
-import { editsTo, fensOf, gamesOf, toText, linesOf } from './script.js';
-import { openText } from './opening.js';
+import {idle} from './actions.js';
+import {app, doc, services, PAGES, study} from './state.js';
+import {editsTo, fensOf, gamesOf, toText, linesOf} from './script.js';
+import {openText} from './opening.js';
 
 /**
  * The tables of a script's positions are loaded, and built where they lack.
  * @param {string} script
  */
-const tablesOf = async script => { await services.tables.ready(fensOf(linesOf(script))); };
+const tablesOf = async script => {
+  await services.tables.ready(fensOf(linesOf(script)));
+};
 /**
  * @param {string} request
  * @param {string} script
@@ -35,7 +37,8 @@ async function factsOf(request, script) {
 export function makeApi(spawn) {
   return Object.freeze({
     /**
-     * The replies to a script: over pages of the tables that are kept, or, without a number, as `studybench --tables DIR`.
+     * The replies to a script: over pages of the tables that are kept, or, without a number, as `studybench --tables`
+     * has them.
      * @param {string} script
      * @param {number} [pages]
      */
@@ -95,7 +98,10 @@ export function makeApi(spawn) {
      * Opens a script in the board; undo brings the old one back.
      * @param {string} script
      */
-    open: async script => { await openText(script, 'board'); await idle(); },
+    open: async script => {
+      await openText(script, 'board');
+      await idle();
+    },
     /** The script that is shown. */
     script: () => doc().lines.join('\n') + '\n',
     /** The lines of the study that is looked at, alone, and the path of its node. */

@@ -1,10 +1,10 @@
 // @ts-check
 // The board: its drawing.
-import { $, svg } from './dom.js';
-import { isWhite, menOf, sideOf, spokenPosition, squareName } from './fen.js';
-import { app, node, study } from './state.js';
-import { draftFen } from './setup.js';
-import { holds } from './words.js';
+import {$, svg} from './dom.js';
+import {isWhite, menOf, sideOf, spokenPosition, squareName} from './fen.js';
+import {app, node, study} from './state.js';
+import {draftFen} from './setup.js';
+import {holds} from './words.js';
 /** @typedef {import('./types.js').Move} Move @typedef {{to: number, sign: string, row?: number | null}} Target */
 
 /** The corner of the squares in the drawing, which is so wide; a square is 45 wide. */
@@ -20,7 +20,7 @@ export function corner(s) {
  */
 function cell(s, cls) {
   const [x, y] = corner(s);
-  return svg('rect', { class: cls, x, y, width: 45, height: 45 });
+  return svg('rect', {class: cls, x, y, width: 45, height: 45});
 }
 /**
  * @param {string} letter
@@ -28,29 +28,32 @@ function cell(s, cls) {
  */
 export function man(letter, s) {
   const [x, y] = corner(s);
-  return svg('use', { class: isWhite(letter) ? 'w' : 'b', href: '#m' + letter.toUpperCase(), x, y, width: 45, height: 45, 'data-at': s });
+  return svg('use',
+    {class: isWhite(letter) ? 'w' : 'b', href: '#m' + letter.toUpperCase(), x, y, width: 45, height: 45, 'data-at': s});
 }
 /** @param {string} letter */
-export const manIcon = letter => svg('svg', { viewBox: '0 0 45 45', 'aria-hidden': 'true' },
-  svg('use', { class: isWhite(letter) ? 'w' : 'b', href: '#m' + letter.toUpperCase(), width: 45, height: 45 }));
+export const manIcon = letter => svg('svg', {viewBox: '0 0 45 45', 'aria-hidden': 'true'},
+  svg('use', {class: isWhite(letter) ? 'w' : 'b', href: '#m' + letter.toUpperCase(), width: 45, height: 45}));
 function squares() {
   const dark = [...Array(64).keys()].filter(s => (s + Math.floor(s / 8)) % 2 === 0);
   return [
-    svg('rect', {class: 'lt', x: X, y: Y, width: 360, height: 360}), svg('path', {class: 'dk', d: dark.map(s => `M${corner(s)}h45v45h-45z`).join('')})
+    svg('rect', {class: 'lt', x: X, y: Y, width: 360, height: 360}),
+    svg('path', {class: 'dk', d: dark.map(s => `M${corner(s)}h45v45h-45z`).join('')})
   ];
 }
 function edges() {
-  const names = [...Array(8).keys()].flatMap(i => [
-    svg('text', { x: X + 45 * i + 22, y: 373 }, 'abcdefgh'[app.flip ? 7 - i : i]),
-    svg('text', { x: 6, y: Y + 45 * (7 - i) + 27 }, `${app.flip ? 8 - i : i + 1}`)]);
-  return [svg('rect', { class: 'fr', x: X, y: Y, width: 360, height: 360 }), ...names];
+  const names =
+    [...Array(8).keys()].flatMap(i => [svg('text', {x: X + 45 * i + 22, y: 373}, 'abcdefgh'[app.flip ? 7 - i : i]),
+                                   svg('text', {x: 6, y: Y + 45 * (7 - i) + 27}, `${app.flip ? 8 - i : i + 1}`)]);
+  return [svg('rect', {class: 'fr', x: X, y: Y, width: 360, height: 360}), ...names];
 }
 /** @typedef {{last: number[], chosen: number | null, cursor: number | null, targets: Target[]}} Marks */
 /**
  * The squares that are marked, below the men.
  * @param {Marks} marks
  */
-const markedSquares = marks => svg('g', {}, marks.last.map(s => cell(s, 'last')), marks.chosen !== null && cell(marks.chosen, 'pick'));
+const markedSquares = marks =>
+  svg('g', {}, marks.last.map(s => cell(s, 'last')), marks.chosen !== null && cell(marks.chosen, 'pick'));
 /**
  * The men, and what is drawn over them.
  * @param {string} fen
@@ -58,12 +61,15 @@ const markedSquares = marks => svg('g', {}, marks.last.map(s => cell(s, 'last'))
  */
 function standing(fen, marks) {
   const men = menOf(fen);
-  const dots = marks.targets.map(({ to, sign, row }) => {
+  const dots = marks.targets.map(({to, sign, row}) => {
     const [x, y] = corner(to), r = men[to] ? 20 : row ? 11 : 7.5;
-    return [svg('circle', { class: sign + (men[to] ? ' over' : ''), cx: x + 22.5, cy: y + 22.5, r }),
-      row ? svg('text', { class: 'many', x: x + 22.5, y: y + 27, 'data-row': squareName(to) }, `${row}`) : null];
+    return [
+      svg('circle', {class: sign + (men[to] ? ' over' : ''), cx: x + 22.5, cy: y + 22.5, r}),
+      row ? svg('text', {class: 'many', x: x + 22.5, y: y + 27, 'data-row': squareName(to)}, `${row}`) : null
+    ];
   });
-  return svg('g', {}, Object.entries(men).map(([s, c]) => man(c, Number(s))), dots, marks.cursor !== null && cell(marks.cursor, 'cursor'));
+  return svg('g', {}, Object.entries(men).map(([s, c]) => man(c, Number(s))), dots,
+    marks.cursor !== null && cell(marks.cursor, 'cursor'));
 }
 /**
  * The board that is shown; its squares and coordinates stay until it is turned.
@@ -72,19 +78,21 @@ function standing(fen, marks) {
 let shown = null;
 function newBoard() {
   const marked = svg('g', {}), standing = svg('g', {});
-  const board = svg('svg', { class: 'board', role: 'img', viewBox: '0 -2 377 380', tabindex: 0 }, squares(), marked, edges(), standing);
-  return { flip: app.flip, board, marked, standing };
+  const board = svg(
+    'svg', {class: 'board', role: 'img', viewBox: '0 -2 377 380', tabindex: 0}, squares(), marked, edges(), standing);
+  return {flip: app.flip, board, marked, standing};
 }
 /**
  * @param {string} fen
  * @param {Marks} marks
  */
 function drawing(fen, marks) {
-  const now = shown = shown && shown.flip === app.flip ? shown : newBoard(), fresh = { marked: markedSquares(marks), standing: standing(fen, marks) };
+  const now = shown = shown && shown.flip === app.flip ? shown : newBoard(),
+        fresh = {marked: markedSquares(marks), standing: standing(fen, marks)};
   now.board.setAttribute('aria-label', 'Board. ' + spokenPosition(fen));
   now.marked.replaceWith(fresh.marked);
   now.standing.replaceWith(fresh.standing);
-  while (fresh.standing.nextSibling) fresh.standing.nextSibling.remove();       // a man of the palette that was dragged
+  while (fresh.standing.nextSibling) fresh.standing.nextSibling.remove();  // a man of the palette that was dragged
   Object.assign(now, fresh);
   return now.board;
 }
@@ -103,8 +111,9 @@ function targets() {
   const n = node(), s = study(), best = /** @type {Map<number, string>} */ (new Map());
   if (app.chosen === null || !n || !s) return [];
   const hero = s.aim !== null && sideOf(n.fen) === s.aim.hero;
-  for (const m of movesFrom(app.chosen)) if (best.get(m.to) !== 'dot') best.set(m.to, holds(m) ? 'dot' : hero && m.mark === 'mistake' ? 'ring' : 'plain');
-  return [...best].map(([to, sign]) => ({ to, sign }));
+  for (const m of movesFrom(app.chosen))
+    if (best.get(m.to) !== 'dot') best.set(m.to, holds(m) ? 'dot' : hero && m.mark === 'mistake' ? 'ring' : 'plain');
+  return [...best].map(([to, sign]) => ({to, sign}));
 }
 export const shownFen = () => {
   const n = node(), s = study();
@@ -112,11 +121,15 @@ export const shownFen = () => {
 };
 export function showBoard() {
   const n = node(), before = $('board').firstChild, last = !app.setup && n && n.parent ? [n.from, n.to] : [];
-  const board = drawing(shownFen(), { last, chosen: app.chosen, cursor: app.setup ? app.setup.cursor : null, targets: targets() });
+  const board =
+    drawing(shownFen(), {last, chosen: app.chosen, cursor: app.setup ? app.setup.cursor : null, targets: targets()});
   if (board === before) return;
   const focused = document.activeElement === before;
   $('board').replaceChildren(board);
-  if (focused) board.focus({ preventScroll: true });
+  if (focused) board.focus({preventScroll: true});
 }
-export const focusBoard = () => $('board').firstChild.focus({ preventScroll: true });
-export function flip() { app.flip = !app.flip; showBoard(); }
+export const focusBoard = () => $('board').firstChild.focus({preventScroll: true});
+export function flip() {
+  app.flip = !app.flip;
+  showBoard();
+}

@@ -1,13 +1,13 @@
 // @ts-check
 // The way from fingers and keys to squares and moves.
-import { $, h } from './dom.js';
-import { corner, man, manIcon, movesFrom, showBoard, shownFen, WIDTH, X, Y } from './board.js';
-import { isWhite, manName, menOf, sideOf, squareName, NAMES } from './fen.js';
-import { prefetchMoves } from './prefetch.js';
-import { change } from './actions.js';
-import { app, doc, services, say } from './state.js';
-import { insertMoves } from './edits.js';
-import { draftFen, moveDraft, placeAt, removeAt } from './setup.js';
+import {$, h} from './dom.js';
+import {corner, man, manIcon, movesFrom, showBoard, shownFen, WIDTH, X, Y} from './board.js';
+import {isWhite, manName, menOf, sideOf, squareName, NAMES} from './fen.js';
+import {prefetchMoves} from './prefetch.js';
+import {change} from './actions.js';
+import {app, doc, services, say} from './state.js';
+import {insertMoves} from './edits.js';
+import {draftFen, moveDraft, placeAt, removeAt} from './setup.js';
 /** @typedef {import('./types.js').Move} Move */
 
 // ---- fingers
@@ -15,29 +15,30 @@ const box = () => $('board').firstChild.getBoundingClientRect();
 /** @param {PointerEvent} e */
 function squareOf(e) {
   const b = box(), unit = WIDTH / b.width;
-  const f = Math.floor(((e.clientX - b.left) * unit - X) / 45), r = 7 - Math.floor(((e.clientY - b.top) * unit - 2 - Y) / 45);
+  const f = Math.floor(((e.clientX - b.left) * unit - X) / 45),
+        r = 7 - Math.floor(((e.clientY - b.top) * unit - 2 - Y) / 45);
   if (f < 0 || f > 7 || r < 0 || r > 7) return null;
   return app.flip ? 8 * (7 - r) + 7 - f : 8 * r + f;
 }
 /** @type {{from: number | null, letter: string, use?: any, at?: [number, number], over?: number | null} | null} */
-let hold = null;                                       // the man under the finger
+let hold = null;  // the man under the finger
 /**
  * A man of the palette is taken up.
  * @param {string} letter
  */
-export function takeUp(letter) { hold = { from: null, letter }; }
+export function takeUp(letter) { hold = {from: null, letter}; }
 /** @param {PointerEvent} e */
 function pressed(e) {
   const s = squareOf(e);
   if (s === null || e.button > 0) return;
   e.preventDefault();
-  $('board').firstChild.focus({ preventScroll: true });
+  $('board').firstChild.focus({preventScroll: true});
   const letter = menOf(shownFen())[s];
   const d = app.setup;
   if (d) {
-    const there = d.survey && d.man !== null ? d.men[d.man] :
-                                               '';  // while its squares are shown, a press moves this man
-    if (letter) hold = { from: s, letter, at: [e.clientX, e.clientY] };
+    const there =
+      d.survey && d.man !== null ? d.men[d.man] : '';  // while its squares are shown, a press moves this man
+    if (letter) hold = {from: s, letter, at: [e.clientX, e.clientY]};
     else if (there) moveDraft(d.man, s, there, true);
     else placeAt(s);
     return;
@@ -46,7 +47,7 @@ function pressed(e) {
   app.chosen = letter && movesFrom(s).length && app.chosen !== s ? s : null;
   if (app.chosen === null) notMovable(letter, s);
   if (app.chosen !== null) {
-    hold = { from: s, letter, at: [e.clientX, e.clientY], over: s };
+    hold = {from: s, letter, at: [e.clientX, e.clientY], over: s};
     prefetchMoves(movesFrom(s), null);
   }
   showBoard();
@@ -60,7 +61,9 @@ function notMovable(letter, s) {
   const view = app.view, side = sideOf(shownFen());
   if (!letter || !view || app.chosen === s || view.over || movesFrom(s).length) return;
   say('board',
-      isWhite(letter) === (side === 'White') ? `The ${manName(letter).split(' ')[1]} on ${squareName(s)} has no legal move.` : `It is ${side}'s move.`);
+    isWhite(letter) === (side === 'White')
+      ? `The ${manName(letter).split(' ')[1]} on ${squareName(s)} has no legal move.`
+      : `It is ${side}'s move.`);
   services.show();
 }
 /** @param {PointerEvent} e */
@@ -68,7 +71,8 @@ function dragged(e) {
   if (!hold) return;
   if (!hold.use && hold.at && Math.hypot(e.clientX - hold.at[0], e.clientY - hold.at[1]) < 5) return;
   const b = box(), unit = WIDTH / b.width, board = $('board').firstChild;
-  const use = hold.use = hold.use || (hold.from === null ? board.appendChild(man(hold.letter, 0)) : board.querySelector(`use[data-at="${hold.from}"]`));
+  const use = hold.use = hold.use ||
+    (hold.from === null ? board.appendChild(man(hold.letter, 0)) : board.querySelector(`use[data-at="${hold.from}"]`));
   if (!use) return;
   use.classList.add('drag');
   if (use.nextSibling) use.parentNode.append(use);
@@ -81,7 +85,7 @@ function dragged(e) {
 /** @param {PointerEvent} e */
 function released(e) {
   if (!hold) return;
-  const { from, letter, use } = hold, s = squareOf(e);
+  const {from, letter, use} = hold, s = squareOf(e);
   hold = null;
   if (app.setup) return moveDraft(from, s, letter, Boolean(use));
   if (from === null) return;
@@ -94,8 +98,13 @@ export function listen() {
   $('board').addEventListener('pointerdown', pressed);
   document.addEventListener('pointermove', dragged);
   document.addEventListener('pointerup', released);
-  document.addEventListener('pointercancel', () => { hold = null; services.show(); });
-  document.addEventListener('pointerdown', e => { if (!(/** @type {Element} */ (e.target).closest('.choose'))) closeChoice(); }, true);
+  document.addEventListener('pointercancel', () => {
+    hold = null;
+    services.show();
+  });
+  document.addEventListener('pointerdown', e => {
+    if (!(/** @type {Element} */ (e.target).closest('.choose'))) closeChoice();
+  }, true);
 }
 
 // ---- moves
@@ -117,7 +126,8 @@ function play(from, to) {
   const found = movesFrom(from).filter(m => m.to === to);
   if (!found.length) return false;
   app.chosen = null;
-  if (found.length > 1) choose(found, to); else insert(doc().path, [found[0].san]);
+  if (found.length > 1) choose(found, to);
+  else insert(doc().path, [found[0].san]);
   return true;
 }
 export function closeChoice() {
@@ -130,22 +140,20 @@ export function closeChoice() {
  * @param {number} to
  */
 function choose(found, to) {
-  const [x, y] = corner(to), b = box(), unit = b.width / WIDTH, path = doc().path, white = sideOf(shownFen()) === 'White';
-  const list =
-      h('div', {class: 'choose', role: 'group', 'aria-label': 'Promote to'},
-        found.map(
-            m =>
-                h('button', {
-                  type: 'button',
-                  title: m.san,
-                  'aria-label': NAMES[m.promoted],
-                  'data-san': m.san,
-                  onclick: () => {
-                    list.remove();
-                    insert(path, [m.san]);
-                  }
-                },
-                  manIcon(white ? m.promoted : m.promoted.toLowerCase()))));
+  const [x, y] = corner(to), b = box(), unit = b.width / WIDTH, path = doc().path,
+            white = sideOf(shownFen()) === 'White';
+  const list = h('div', {class: 'choose', role: 'group', 'aria-label': 'Promote to'},
+    found.map(m => h('button', {
+      type: 'button',
+      title: m.san,
+      'aria-label': NAMES[m.promoted],
+      'data-san': m.san,
+      onclick: () => {
+        list.remove();
+        insert(path, [m.san]);
+      }
+    },
+                manIcon(white ? m.promoted : m.promoted.toLowerCase()))));
   closeChoice();
   document.body.append(list);
   list.style.left = `${Math.max(4, Math.min(b.left + x * unit - 80, innerWidth - 240))}px`;
@@ -160,21 +168,30 @@ function choose(found, to) {
  * @returns {boolean}
  */
 export function setupKey(e) {
-  const d = app.setup, steps = /** @type {Record<string, number>} */ ({ ArrowLeft: -1, ArrowRight: 1, ArrowUp: 8, ArrowDown: -8 });
+  const d = app.setup,
+        steps = /** @type {Record<string, number>} */ ({ArrowLeft: -1, ArrowRight: 1, ArrowUp: 8, ArrowDown: -8});
   if (!d || document.activeElement !== $('board').firstChild || e.ctrlKey || e.metaKey || e.altKey) return false;
   const at = d.cursor === null ? (app.flip ? 63 : 0) : d.cursor;
   if (steps[e.key] !== undefined) {
     const by = (app.flip ? -1 : 1) * steps[e.key], to = at + by;
-    if (d.cursor !== null && (to < 0 || to > 63 || (Math.abs(by) === 1 && Math.floor(to / 8) !== Math.floor(at / 8)))) return true;
+    if (d.cursor !== null && (to < 0 || to > 63 || (Math.abs(by) === 1 && Math.floor(to / 8) !== Math.floor(at / 8))))
+      return true;
     d.cursor = d.cursor === null ? at : to;
     showBoard();
     const letter = menOf(draftFen())[d.cursor];
     tell(`${squareName(d.cursor)} ${letter ? manName(letter) : 'empty'}`);
     return true;
   }
-  if (/^[kqrbnpKQRBNP]$/.test(e.key) && d.cursor !== null) { placeAt(d.cursor, e.key); tell(`${manName(e.key)} ${squareName(d.cursor)}`); return true; }
+  if (/^[kqrbnpKQRBNP]$/.test(e.key) && d.cursor !== null) {
+    placeAt(d.cursor, e.key);
+    tell(`${manName(e.key)} ${squareName(d.cursor)}`);
+    return true;
+  }
   if (/^(Delete|Backspace| )$/.test(e.key) && d.cursor !== null) {
-    if (e.key === 'Delete' || e.key === 'Backspace') { removeAt(d.cursor); tell(`${squareName(d.cursor)} empty`); } else placeAt(d.cursor);
+    if (e.key === 'Delete' || e.key === 'Backspace') {
+      removeAt(d.cursor);
+      tell(`${squareName(d.cursor)} empty`);
+    } else placeAt(d.cursor);
     return true;
   }
   return false;

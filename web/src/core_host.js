@@ -1,13 +1,15 @@
 // @ts-check
 // The page's side of the proved core: one instance, its memory, the tables in it, and calls over them.
 //
-// Memory, from below: the core's own (up to __heap_base) | the files of tables, one after another | what a call needs: request, script,
-// directory, room for the text, and the blocks that the core requests while it runs. Nothing of the core outlives a call, so each call
-// begins again at the end of the tables. What the page owes: each block new within its call, aligned, inside of the memory, never null;
-// no export is called during a call; after a trap a new instance.
+// Memory, from below: the core's own (up to __heap_base) | the files of tables, one after another | what a call needs:
+// request, script, directory, room for the text, and the blocks that the core requests while it runs. Nothing of the
+// core outlives a call, so each call begins again at the end of the tables. What the page owes: each block new within
+// its call, aligned, inside of the memory, never null; no export is called during a call; after a trap a new instance.
 
-export const CLASSES = ('KK KQK KRK KBK KNK KPK KQQK KQRK KQBK KQNK KQPK KRRK KRBK KRNK KRPK KBBK KBNK KBPK KNNK KNPK KPPK ' +
-  'KQKQ KQKR KQKB KQKN KQKP KRKR KRKB KRKN KRKP KBKB KBKN KBKP KNKN KNKP KPKP').split(' ');
+export const CLASSES =
+  ('KK KQK KRK KBK KNK KPK KQQK KQRK KQBK KQNK KQPK KRRK KRBK KRNK KRPK KBBK KBNK KBPK KNNK KNPK KPPK ' +
+    'KQKQ KQKR KQKB KQKN KQKP KRKR KRKB KRKN KRKP KBKB KBKN KBKP KNKN KNKP KPKP')
+    .split(' ');
 const PAGE = 65536;
 
 /**
@@ -42,7 +44,8 @@ export function makeCore(module, most = 2 ** 32 - PAGE) {
      */
     host_save(place, at, n) { saved.set(CLASSES[place], bytesAt(at, n).slice()); },
   };
-  const { memory, answer_request: run, __heap_base: heap } = /** @type {any} */ (new WebAssembly.Instance(module, { host }).exports);
+  const {memory, answer_request: run, __heap_base: heap} =
+    /** @type {any} */ (new WebAssembly.Instance(module, {host}).exports);
   const even = (/** @type {number} */ n) => Math.ceil(n / 16) * 16;
   const base = even(Number(heap.value));
   let filled = base;
@@ -54,7 +57,12 @@ export function makeCore(module, most = 2 ** 32 - PAGE) {
 
   /** @param {number} pages */
   function grow(pages) {
-    for (const n of [BigInt(pages), pages]) try { memory.grow(n); return true; } catch (e) { if (!(e instanceof TypeError)) return false; }
+    for (const n of [BigInt(pages), pages]) try {
+        memory.grow(n);
+        return true;
+      } catch (e) {
+        if (!(e instanceof TypeError)) return false;
+      }
     return false;
   }
   /**
@@ -100,7 +108,7 @@ export function makeCore(module, most = 2 ** 32 - PAGE) {
     drop(name);
     top = filled;
     const at = put(bytes);
-    spans.push({ name, start: at - base, length: bytes.length });
+    spans.push({name, start: at - base, length: bytes.length});
     filled = even(top);
   }
   /**
@@ -111,7 +119,8 @@ export function makeCore(module, most = 2 ** 32 - PAGE) {
     const at = spans.findIndex(s => s.name === name);
     if (at >= 0) spans.splice(at, 1);
   }
-  const directory = () => new Uint8Array(BigUint64Array.from(spans.flatMap(s => [CLASSES.indexOf(s.name), s.start, s.length]), BigInt).buffer);
+  const directory = () => new Uint8Array(
+    BigUint64Array.from(spans.flatMap(s => [CLASSES.indexOf(s.name), s.start, s.length]), BigInt).buffer);
   const encode = (/** @type {string} */ text) => new TextEncoder().encode(text);
 
   /**
@@ -126,13 +135,13 @@ export function makeCore(module, most = 2 ** 32 - PAGE) {
     const numbers = directory();
     const requestAt = put(request), scriptAt = put(script), directoryAt = put(numbers), answerAt = need(size);
     const slice = (/** @type {number} */ at, /** @type {number} */ n) => [BigInt(at), BigInt(n)];
-    const n = Number(run(
-      ...slice(requestAt, request.length), ...slice(scriptAt, script.length), ...slice(directoryAt, numbers.length / 8),
-      ...slice(base, filled - base), pages, ...slice(answerAt, size)));
-    return { length: n, bytes: bytesAt(answerAt, Math.min(n, size)) };
+    const n = Number(run(...slice(requestAt, request.length), ...slice(scriptAt, script.length),
+      ...slice(directoryAt, numbers.length / 8), ...slice(base, filled - base), pages, ...slice(answerAt, size)));
+    return {length: n, bytes: bytesAt(answerAt, Math.min(n, size))};
   }
   /**
-   * An answer over the tables, read by pages or whole (0). Where the text was longer than its room the request is made once more.
+   * An answer over the tables, read by pages or whole (0). Where the text was longer than its room the request is made
+   * once more.
    * @param {string} request
    * @param {string | Uint8Array} script
    * @param {number} pages
@@ -144,7 +153,11 @@ export function makeCore(module, most = 2 ** 32 - PAGE) {
     if (done.length > first) done = once(words, text, pages, done.length);
     if (!done.length) throw new Error('no memory is left');
     const line = done.bytes.indexOf(10);
-    return { bytes: done.bytes.slice(line + 1), ended: ending(new TextDecoder().decode(done.bytes.subarray(0, line))), saved: [...saved] };
+    return {
+      bytes: done.bytes.slice(line + 1),
+      ended: ending(new TextDecoder().decode(done.bytes.subarray(0, line))),
+      saved: [...saved]
+    };
   }
-  return { load, drop, answer, size: () => memory.buffer.byteLength };
+  return {load, drop, answer, size: () => memory.buffer.byteLength};
 }

@@ -1,13 +1,13 @@
 // @ts-check
 // Which document this page works on: kept at each change, found again after a reload, and chosen from the list of all.
-import { $ } from './dom.js';
-import { arrive, work } from './actions.js';
-import { app, doc, services, say } from './state.js';
-import { freshId, makeKeeper } from './keep.js';
-import { begin as firstOf } from './history.js';
-import { fensOf } from './script.js';
-import { begin, draftKept } from './setup.js';
-import { blank } from './state.js';
+import {$} from './dom.js';
+import {arrive, work} from './actions.js';
+import {app, doc, services, say} from './state.js';
+import {freshId, makeKeeper} from './keep.js';
+import {begin as firstOf} from './history.js';
+import {fensOf} from './script.js';
+import {begin, draftKept} from './setup.js';
+import {blank} from './state.js';
 /** @typedef {import('./keep.js').Head} Head */
 
 /**
@@ -15,7 +15,10 @@ import { blank } from './state.js';
  * @param {() => Storage} of
  */
 function storage(of) {
-  try { of().getItem(''); return of(); } catch {
+  try {
+    of().getItem('');
+    return of();
+  } catch {
     return /** @type {Storage} */ ({
       length: 0,
       key: () => null,
@@ -28,8 +31,8 @@ function storage(of) {
 }
 const local = storage(() => localStorage), session = storage(() => sessionStorage), page = freshId(),
       SESSION = 'studyboard', LOCK = 'studyboard page ';
-const keeper = makeKeeper({ local, page });
-export const { list, headAt } = keeper;
+const keeper = makeKeeper({local, page});
+export const {list, headAt} = keeper;
 
 /** Each page holds a lock of its name for as long as it stands open. */
 export function holdLock() {
@@ -37,11 +40,11 @@ export function holdLock() {
 }
 /** The other pages that stand open now, as far as the browser says. */
 export async function otherPages() {
-  const held = navigator.locks ? (await navigator.locks.query().catch(() => ({ held: [] }))).held || [] : [];
+  const held = navigator.locks ? (await navigator.locks.query().catch(() => ({held: []}))).held || [] : [];
   return new Set(held.map(lock => lock.name || '')
-                     .filter(name => name.startsWith(LOCK))
-                     .map(name => name.slice(LOCK.length))
-                     .filter(name => name !== page));
+                   .filter(name => name.startsWith(LOCK))
+                   .map(name => name.slice(LOCK.length))
+                   .filter(name => name !== page));
 }
 
 /** Keeps the document and the set-up as they are. */
@@ -49,19 +52,20 @@ export function keep() {
   const draft = draftKept(), own = ownDraft() === doc().id ? '' : ownDraft();
   let kept = true;
   if (doc().id) kept = keeper.keep(app.history, own ? null : draft, services.tables.named(fensOf(doc().lines)));
-  if (own && draft) kept = keeper.keep(firstOf({ ...blank, id: own }), draft, []) && kept;
+  if (own && draft) kept = keeper.keep(firstOf({...blank, id: own}), draft, []) && kept;
   else if (own && headAt(keeper.placeOf(own))) keeper.remove(keeper.placeOf(own));
   $('unkept').hidden = kept;
   try {
     session.setItem(SESSION,
-        JSON.stringify({ id: doc().id && keeper.placeOf(doc().id), draft: own && draft ? keeper.placeOf(own) : '' }));
-  } catch { /* a new page then */ }
+      JSON.stringify({id: doc().id && keeper.placeOf(doc().id), draft: own && draft ? keeper.placeOf(own) : ''}));
+  } catch { /* a new page then */
+  }
 }
 /** @returns {{id: string, draft: string} | null} */
 function pointer() {
   try {
-    const { id, draft } = JSON.parse(session.getItem(SESSION) || '');
-    return { id: String(id || ''), draft: String(draft || '') };
+    const {id, draft} = JSON.parse(session.getItem(SESSION) || '');
+    return {id: String(id || ''), draft: String(draft || '')};
   } catch { return null; }
 }
 /**
@@ -71,19 +75,15 @@ function pointer() {
 function moved(old) {
   const kept = local.getItem(old);
   if (!kept) return;
-  let found = { script: kept, at: 0, path: 'root', name: '' };
+  let found = {script: kept, at: 0, path: 'root', name: ''};
   try {
-    const { script, at, path, name } = JSON.parse(kept);
-    found = {
-      script: String(script || ''),
-      at: Number(at) || 0,
-      path: String(path || 'root'),
-      name: String(name || '')
-    };
-  } catch { /* the text itself */ }
-  const { script, ...rest } = found, id = freshId();
+    const {script, at, path, name} = JSON.parse(kept);
+    found = {script: String(script || ''), at: Number(at) || 0, path: String(path || 'root'), name: String(name || '')};
+  } catch { /* the text itself */
+  }
+  const {script, ...rest} = found, id = freshId();
   if (!script.trim() ||
-      keeper.keep(firstOf({...blank, ...rest, lines: script.split('\n'), id, judged: false }), null, []))
+    keeper.keep(firstOf({...blank, ...rest, lines: script.split('\n'), id, judged: false}), null, []))
     local.removeItem(old);
   keeper.forget(id);
 }
@@ -110,7 +110,10 @@ export async function firstDocument() {
  */
 export const openKept = id => work(async () => {
   const head = headAt(id), copy = Boolean(head && (await otherPages()).has(head.page)), kept = keeper.open(id, copy);
-  if (!kept) { say('board', 'This document is not kept any more.'); return services.show(); }
+  if (!kept) {
+    say('board', 'This document is not kept any more.');
+    return services.show();
+  }
   app.setup = null;
   const draft = kept.head.draft, empty = !kept.history.now.lines.length;
   await arrive(empty ? firstOf(blank) : kept.history);
@@ -119,9 +122,12 @@ export const openKept = id => work(async () => {
   services.show();
 });
 /** @param {string} id */
-export const forget = id => { keeper.remove(id); services.show(); };
+export const forget = id => {
+  keeper.remove(id);
+  services.show();
+};
 /** The document that the set-up becomes, where that is a new one. */
 const ownDraft = () => (app.setup && app.setup.anew && !app.setup.more ? app.setup.id : '');
 /** @param {string} id */
 export const isHere = id => [doc().id, ownDraft()].some(own => own && keeper.placeOf(own) === id);
-export { local };
+export {local};

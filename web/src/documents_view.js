@@ -1,9 +1,9 @@
 // @ts-check
 // The list of the documents that this browser keeps.
-import { $, button, h, put } from './dom.js';
-import { services } from './state.js';
-import { forget, isHere, list, openKept, otherPages } from './documents.js';
-import { table } from './review_view.js';
+import {$, button, h, put} from './dom.js';
+import {services} from './state.js';
+import {forget, isHere, list, openKept, otherPages} from './documents.js';
+import {table} from './review_view.js';
 /** @typedef {import('./keep.js').Head} Head */
 
 let elsewhere = new Set(), sure = '';
@@ -23,17 +23,17 @@ function rowView(head) {
   const open = button(name, 'open it', () => {
     close();
     openKept(head.id);
-  }, { class: 'link', 'data-kept': head.id, 'aria-current': here && 'true' });
+  }, {class: 'link', 'data-kept': head.id, 'aria-current': here && 'true'});
   const remove = button(sure === head.id ? 'Remove for good' : 'Remove', 'take it out of this browser', () => {
     if (sure === head.id) forget(head.id);
     else {
       sure = head.id;
       services.show();
     }
-  }, { class: 'chip act', 'aria-label': `Remove ${name}` });
+  }, {class: 'chip act', 'aria-label': `Remove ${name}`});
   const where = here ? 'open here' : other ? 'open in another window' : '';
   return [
-    [open, head.name && h('div', { class: 'note' }, head.name), where && h('div', { class: 'note' }, where)],
+    [open, head.name && h('div', {class: 'note'}, head.name), where && h('div', {class: 'note'}, where)],
     head.verdict || '–', when(head.time), !here && remove
   ];
 }
@@ -47,12 +47,12 @@ export function showDocuments() {
   if ($('documents').hidden) return;
   const heads = list();
   put('documents',
-      h('div', { class: 'row' }, h('h2', {}, 'Documents'), h('span', { class: 'gap' }),
-          button('Close', 'Escape', close, { id: 'closeDocuments' })),
-      h('p', { class: 'note' },
-          'Each script that was begun or opened, as this browser keeps it, with its undo. Save as a file what is to ' +
-              'last.'),
-      heads.length ? listView(heads.length) : h('p', {}, 'None yet.'));
+    h('div', {class: 'row'}, h('h2', {}, 'Documents'), h('span', {class: 'gap'}),
+      button('Close', 'Escape', close, {id: 'closeDocuments'})),
+    h('p', {class: 'note'},
+      'Each script that was begun or opened, as this browser keeps it, with its undo. Save as a file what is to ' +
+        'last.'),
+    heads.length ? listView(heads.length) : h('p', {}, 'None yet.'));
 }
 export async function openDocuments() {
   const panel = $('documents');

@@ -29,7 +29,8 @@ function fill(element, props, kids) {
  * @param {Kid[]} kids
  * @returns {any[]}
  */
-const some = kids => /** @type {any[]} */ (kids.flat(Infinity)).filter(kid => kid !== null && kid !== undefined && kid !== false && kid !== '');
+const some = kids => /** @type {any[]} */ (
+  kids.flat(Infinity)).filter(kid => kid !== null && kid !== undefined && kid !== false && kid !== '');
 /**
  * @param {string} tag
  * @param {Props | null} props
@@ -43,7 +44,8 @@ export const h = (tag, props, ...kids) => fill(document.createElement(tag), prop
  * @param {Kid[]} kids
  * @returns {any}
  */
-export const svg = (tag, props, ...kids) => fill(document.createElementNS('http://www.w3.org/2000/svg', tag), props, kids);
+export const svg = (tag, props, ...kids) =>
+  fill(document.createElementNS('http://www.w3.org/2000/svg', tag), props, kids);
 /**
  * @param {string} id
  * @param {Kid[]} kids
@@ -56,13 +58,14 @@ export const put = (id, ...kids) => $(id).replaceChildren(...some(kids));
 /** @type {WeakMap<Node, string>} */
 const madeFrom = new WeakMap();
 /**
- * Makes the children of an element those that are wanted. One that is there already, by the same key, is kept; keys differ, and keep their order.
+ * Makes the children of an element those that are wanted. One that is there already, by the same key, is kept; keys
+ * differ, and keep their order.
  * @param {any} parent
  * @param {Wanted[]} wanted
  */
 export function patch(parent, wanted) {
   let at = parent.firstChild, keys = /** @type {Set<string | undefined> | null} */ (null);
-  for (const { key, make, kids } of wanted) {
+  for (const {key, make, kids} of wanted) {
     while (at && madeFrom.get(at) !== key) {
       keys = keys || new Set(wanted.map(item => item.key));
       if (keys.has(madeFrom.get(at))) break;
@@ -91,7 +94,8 @@ function without(node) {
  * @param {Props} props
  * @returns {any}
  */
-export const button = (text, title, onclick, props = {}) => h('button', { type: 'button', title, onclick, ...props }, text);
+export const button = (text, title, onclick, props = {}) =>
+  h('button', {type: 'button', title, onclick, ...props}, text);
 
 /**
  * A text or bytes as a file for the user.
@@ -99,7 +103,8 @@ export const button = (text, title, onclick, props = {}) => h('button', { type: 
  * @param {BlobPart} content
  */
 export function download(name, content) {
-  const link = h('a', { href: URL.createObjectURL(new Blob([content], { type: 'application/octet-stream' })), download: name });
+  const link =
+    h('a', {href: URL.createObjectURL(new Blob([content], {type: 'application/octet-stream'})), download: name});
   link.click();
   setTimeout(() => URL.revokeObjectURL(link.href), 10000);
 }

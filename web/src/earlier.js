@@ -1,11 +1,14 @@
 // @ts-check
 // A study begins earlier: the moves that can have led to its start, each found by the program as a legal move of the
 // position before. Captures are not looked for: they would need one man more.
-import { services, PAGES } from './state.js';
-import { isWhite, menOf, placement } from './fen.js';
-import { readView } from './parse_answers.js';
-import { toText } from './script.js';
-/** @typedef {{fen: string, san: string, mark: string}} Before      a position, and the move that leads from it; its mark in the study */
+import {services, PAGES} from './state.js';
+import {isWhite, menOf, placement} from './fen.js';
+import {readView} from './parse_answers.js';
+import {toText} from './script.js';
+/**
+ * @typedef {{fen: string, san: string, mark: string}} Before
+ *   a position, and the move that leads from it; its mark in the study
+ */
 
 /**
  * The positions that could stand before one, by each man of the side that has just moved on each free square.
@@ -13,13 +16,14 @@ import { toText } from './script.js';
  */
 export function placesBefore(fen) {
   const [placed, mover, , , , number] = fen.split(' '), men = menOf(placed), before = mover === 'w' ? 'b' : 'w';
-  const moves = Math.max(1, Number(number) - (before === 'b' ? 1 : 0)), out = /** @type {{fen: string, from: number, to: number}[]} */ ([]);
+  const moves = Math.max(1, Number(number) - (before === 'b' ? 1 : 0)),
+        out = /** @type {{fen: string, from: number, to: number}[]} */ ([]);
   for (const [at, letter] of Object.entries(men)) {
     if (isWhite(letter) !== (before === 'w')) continue;
     for (let from = 0; from < 64; from++) {
       if (men[from]) continue;
-      const { [Number(at)]: _, ...rest } = men;
-      out.push({ fen: `${placement({ ...rest, [from]: letter })} ${before} - - 0 ${moves}`, from, to: Number(at) });
+      const {[Number(at)]: _, ...rest} = men;
+      out.push({fen: `${placement({...rest, [from]: letter})} ${before} - - 0 ${moves}`, from, to: Number(at)});
     }
   }
   return out;
@@ -32,13 +36,15 @@ export function placesBefore(fen) {
  */
 export async function movesBefore(fen, aim) {
   const places = placesBefore(fen), texts = places.map(place => `position ${place.fen}\n`);
-  const { text } = await services.core.answer('run', toText(texts.map(line => line.trim())), 1), replies = text.split('\n');
+  const {text} = await services.core.answer('run', toText(texts.map(line => line.trim())), 1),
+        replies = text.split('\n');
   const found = /** @type {Before[]} */ ([]);
   for (const [i, place] of places.entries()) {
     if (!replies[i] || !replies[i].startsWith('position ')) continue;
-    const { text: shown } = await services.core.answer('view root', `${texts[i]}stipulate ${aim}\n`, PAGES), view = readView(shown);
+    const {text: shown} = await services.core.answer('view root', `${texts[i]}stipulate ${aim}\n`, PAGES),
+                 view = readView(shown);
     const move = view && view.moves.find(m => m.from === place.from && m.to === place.to && !m.promoted);
-    if (move) found.push({ fen: place.fen, san: move.san, mark: move.mark });
+    if (move) found.push({fen: place.fen, san: move.san, mark: move.mark});
   }
   const rank = (/** @type {Before} */ m) => ['only', 'reply', 'dual', 'idle', 'mistake'].indexOf(m.mark);
   return found.sort((x, y) => rank(x) - rank(y));

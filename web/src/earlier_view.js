@@ -1,13 +1,13 @@
 // @ts-check
 // The panel 'Begin earlier': first the move of the opponent that led to the start, then the hero's before it.
-import { $, button, h, put } from './dom.js';
-import { change, counting } from './actions.js';
-import { app, doc, services, say, study } from './state.js';
-import { movesBefore } from './earlier.js';
-import { withMoves } from './edits.js';
-import { control, other, sideOf } from './fen.js';
-import { bareOf, insertions } from './turning.js';
-import { aimWords, markSign } from './words.js';
+import {$, button, h, put} from './dom.js';
+import {change, counting} from './actions.js';
+import {app, doc, services, say, study} from './state.js';
+import {movesBefore} from './earlier.js';
+import {withMoves} from './edits.js';
+import {control, other, sideOf} from './fen.js';
+import {bareOf, insertions} from './turning.js';
+import {aimWords, markSign} from './words.js';
 /** @typedef {import('./earlier.js').Before} Before */
 
 /** The moves chosen so far, the last one first; and those to choose from, or none while they are looked for. */
@@ -29,8 +29,12 @@ function look(fen) {
   const s = study(), mine = doc().lines;
   [offered, fault] = [null, ''];
   draw();
-  const found = (/** @type {Before[]} */ list) => { offered = list; };
-  const failed = (/** @type {Error} */ why) => { fault = why.message; };
+  const found = (/** @type {Before[]} */ list) => {
+    offered = list;
+  };
+  const failed = (/** @type {Error} */ why) => {
+    fault = why.message;
+  };
   const done = movesBefore(fen, s.aim ? aimWords(s.aim) : 'white win').then(found, failed);
   return counting(done.finally(() => (doc().lines === mine ? draw() : close())));
 }
@@ -48,28 +52,43 @@ function begin() {
     const s = now.studies[now.at];
     if (!s || !s.aim) return null;
     const front = moves.map((move, i) => `insert ${i ? Array(i).fill(0).join('.') : 'root'} ${move.san}`);
-    const tree = insertions(bareOf(view.root), Array(moves.length).fill(0).join('.')).map(({ line }) => line);
-    return { ...withMoves(now.lines, s, first.fen, aimWords(s.aim), [...front, ...tree]), path: 'root', lenient: false };
+    const tree = insertions(bareOf(view.root), Array(moves.length).fill(0).join('.')).map(({line}) => line);
+    return {...withMoves(now.lines, s, first.fen, aimWords(s.aim), [...front, ...tree]), path: 'root', lenient: false};
   }, 'board');
 }
 /** @param {Before} move */
-const moveView = move => h('button', { type: 'button', class: `chip m ${move.mark}`, 'data-before': move.san, title: control(move.fen), onclick: () => choose(move) },
+const moveView = move => h('button', {
+  type: 'button',
+  class: `chip m ${move.mark}`,
+  'data-before': move.san,
+  title: control(move.fen),
+  onclick: () => choose(move)
+},
   move.san, markSign(move) && h('b', {}, markSign(move)));
 function draw() {
   if ($('earlier').hidden) return;
   const at = chosen.length ? chosen[0].fen : study() ? study().fen : '', mover = other(sideOf(at));
-  const next = chosen.length ? chosen[0].san : 'the start', none = `No move of ${mover} without a capture can have led here.`;
-  const words = fault ? `Not found: ${fault}.` : offered === null ? 'The moves before are looked for …' :
-    offered.length ? `${mover}'s move before ${next}; those first that alone hold:` : none;
+  const next = chosen.length ? chosen[0].san : 'the start',
+        none = `No move of ${mover} without a capture can have led here.`;
+  const words = fault ? `Not found: ${fault}.`
+    : offered === null ? 'The moves before are looked for …'
+    : offered.length   ? `${mover}'s move before ${next}; those first that alone hold:`
+                       : none;
   put('earlier',
-      h('div', { class: 'row' }, h('h2', {}, 'Begin earlier'), h('span', { class: 'gap' }), button('Close', 'Escape', close, { id: 'closeEarlier' })),
-      h('p', { role: 'status', id: 'earlierState' }, words), h('p', { class: 'chips' }, (offered || []).map(moveView)),
-      chosen.length > 0 && h('p', {}, button(`Begin with ${chosen[0].san}`, 'one move earlier alone', begin, { id: 'beginOne' })));
+    h('div', {class: 'row'}, h('h2', {}, 'Begin earlier'), h('span', {class: 'gap'}),
+      button('Close', 'Escape', close, {id: 'closeEarlier'})),
+    h('p', {role: 'status', id: 'earlierState'}, words), h('p', {class: 'chips'}, (offered || []).map(moveView)),
+    chosen.length > 0 &&
+      h('p', {}, button(`Begin with ${chosen[0].san}`, 'one move earlier alone', begin, {id: 'beginOne'})));
   if (!offered && !fault) return;
   const first = $('earlier').querySelector('[data-before]') || $('closeEarlier');
-  first.focus({ preventScroll: true });
+  first.focus({preventScroll: true});
 }
 /** Offered at the start of a study that has a stipulation. */
-export const earlierButton = () => (study() && study().aim ? button('Begin earlier', 'put the moves before the start in front', () => {
-  openEarlier().catch(why => { say('board', `${why.message}.`); services.show(); });
-}, { class: 'chip act', id: 'beginEarlier' }) : null);
+export const earlierButton = () =>
+  (study() && study().aim ? button('Begin earlier', 'put the moves before the start in front', () => {
+    openEarlier().catch(why => {
+      say('board', `${why.message}.`);
+      services.show();
+    });
+  }, {class: 'chip act', id: 'beginEarlier'}) : null);

@@ -1,10 +1,10 @@
 // @ts-check
 // What the user does, as a change of the script's lines. Each function gives the lines to be run; the program takes or
 // refuses them.
-import { aimWords } from './words.js';
-import { TAGS, isEdit, isGame, oneGame, wordsOf } from './script.js';
-import { squareName } from './fen.js';
-import { nodeAt, written } from './parse_answers.js';
+import {aimWords} from './words.js';
+import {TAGS, isEdit, isGame, oneGame, wordsOf} from './script.js';
+import {squareName} from './fen.js';
+import {nodeAt, written} from './parse_answers.js';
 /** @typedef {import('./types.js').Study} Study @typedef {import('./types.js').Change} Change */
 /** @typedef {import('./types.js').TreeNode} TreeNode */
 
@@ -30,8 +30,8 @@ const plain = san => san.replace(/[+#!?=x]/g, '');
  * @param {string} text
  */
 const isMove = (node, text) => plain(node.san) === plain(text) ||
-    (node.from >= 0 &&
-        squareName(node.from) + squareName(node.to) + node.promoted === plain(text).replace(/^[KQRBN]/, ''));
+  (node.from >= 0 &&
+    squareName(node.from) + squareName(node.to) + node.promoted === plain(text).replace(/^[KQRBN]/, ''));
 /**
  * Several lines of moves, each one below the other, from a node on; what is there already is walked. What stands in
  * brackets begins where the move before it does.
@@ -49,17 +49,27 @@ export function insertLines(lines, study, root, path, lists) {
     const outer = /** @type {[string, string][]} */ ([]);
     let at = path, before = path;
     for (const san of sans) {
-      if (san === '(') { outer.push([at, before]); at = before; continue; }
-      if (san === ')') { [at, before] = outer.pop() || [at, before]; continue; }
+      if (san === '(') {
+        outer.push([at, before]);
+        at = before;
+        continue;
+      }
+      if (san === ')') {
+        [at, before] = outer.pop() || [at, before];
+        continue;
+      }
       const node = nodeAt(root, at), old = node ? node.children : [], fresh = made.get(at) || [];
       const there = old.findIndex(c => isMove(c, san)), again = fresh.findIndex(text => plain(text) === plain(san));
       const place = there >= 0 ? there : old.length + (again >= 0 ? again : fresh.length);
-      if (there < 0 && again < 0) { more.push(`insert ${at} ${san}`); made.set(at, [...fresh, san]); }
+      if (there < 0 && again < 0) {
+        more.push(`insert ${at} ${san}`);
+        made.set(at, [...fresh, san]);
+      }
       [before, at] = [at, at === 'root' ? `${place}` : `${at}.${place}`];
     }
     end = at;
   }
-  return { lines: more.length ? appended(lines, study, ...more) : lines, path: end };
+  return {lines: more.length ? appended(lines, study, ...more) : lines, path: end};
 }
 /**
  * Moves one below the other.
@@ -78,8 +88,12 @@ export const insertMoves = (lines, study, root, path, sans) => insertLines(lines
  * @returns {Change}
  */
 export function removeNode(lines, study, node) {
-  const newest = study.made && study.made.line === study.last && study.made.path === node.path && wordsOf(lines[study.last])[0] === 'insert';
-  return { lines: newest ? spliced(lines, study.last, 1) : appended(lines, study, 'delete ' + node.path), path: node.parent ? node.parent.path : 'root' };
+  const newest = study.made && study.made.line === study.last && study.made.path === node.path &&
+    wordsOf(lines[study.last])[0] === 'insert';
+  return {
+    lines: newest ? spliced(lines, study.last, 1) : appended(lines, study, 'delete ' + node.path),
+    path: node.parent ? node.parent.path : 'root'
+  };
 }
 /**
  * One place up, or to the front.
@@ -92,7 +106,10 @@ export function removeNode(lines, study, node) {
 export function promoteNode(lines, study, node, toFront = false) {
   const parts = node.path.split('.'), place = Number(parts.pop()), base = parts.map(p => p + '.').join('');
   const times = toFront ? place : 1;
-  return { lines: appended(lines, study, ...[...Array(times).keys()].map(i => `promote ${base}${place - i}`)), path: 'made' };
+  return {
+    lines: appended(lines, study, ...[...Array(times).keys()].map(i => `promote ${base}${place - i}`)),
+    path: 'made'
+  };
 }
 /**
  * An earlier line of the study is changed in place; else one is added below the position and its stipulation.
@@ -113,7 +130,7 @@ function setLine(lines, study, place, line) {
  * @param {string} words
  * @returns {Change}
  */
-export const stipulate = (lines, study, words) => ({ lines: setLine(lines, study, 'aim', 'stipulate ' + words) });
+export const stipulate = (lines, study, words) => ({lines: setLine(lines, study, 'aim', 'stipulate ' + words)});
 /**
  * What the PGN Standard writes where a tag is not known.
  * @param {string} name
@@ -174,7 +191,7 @@ function withOriginal(lines, study, name, original) {
 export function setTag(lines, study, name, text, original = '') {
   const carried = study.tags[name] !== undefined && study.place[name] === undefined;
   const set = setLine(lines, study, name, text ? `tag ${name} ${text}` : carried ? `tag ${name} ${unknown(name)}` : '');
-  return { lines: withOriginal(set, study, name, original) };
+  return {lines: withOriginal(set, study, name, original)};
 }
 
 /**
@@ -185,7 +202,7 @@ export function setTag(lines, study, name, text, original = '') {
  * @param {string} aim
  * @returns {Change}
  */
-export const replacePosition = (lines, study, fen, aim) => ({ ...withMoves(lines, study, fen, aim, []), path: 'root' });
+export const replacePosition = (lines, study, fen, aim) => ({...withMoves(lines, study, fen, aim, []), path: 'root'});
 /**
  * Another position with these moves; tags and remarks stay.
  * @param {string[]} lines
@@ -196,12 +213,15 @@ export const replacePosition = (lines, study, fen, aim) => ({ ...withMoves(lines
  * @returns {Change}
  */
 export function withMoves(lines, study, fen, aim, moves) {
-  const own = lines.slice(study.from + 1, study.end).filter(l => !/^ *(insert|delete|promote|shift|mark|moves|fen|solve|stipulate)( |$)/.test(l));
+  const own = lines.slice(study.from + 1, study.end)
+                .filter(l => !/^ *(insert|delete|promote|shift|mark|moves|fen|solve|stipulate)( |$)/.test(l));
   const rest = oneGame(own), games = rest.findIndex(isGame), at = games < 0 ? rest.length : games;
   const gap = games < 0 && rest.length && !rest[rest.length - 1].trim() ? 1 : 0;
   return {
-    lines: [...lines.slice(0, study.from), 'position ' + fen, 'stipulate ' + aim, ...rest.slice(0, at - gap), ...moves, ...rest.slice(at - gap),
-      ...lines.slice(study.end)]
+    lines: [
+      ...lines.slice(0, study.from), 'position ' + fen, 'stipulate ' + aim, ...rest.slice(0, at - gap), ...moves,
+      ...rest.slice(at - gap), ...lines.slice(study.end)
+    ]
   };
 }
 /**
@@ -212,8 +232,12 @@ export function withMoves(lines, study, fen, aim, moves) {
  * @param {Study | undefined} before
  */
 export function addStudy(lines, fen, aim, before) {
-  const anew = before ? TAGS.filter(name => isKnown(before.tags[name])).map(name => `tag ${name} ${unknown(name)}`) : [];
-  return [...lines, ...(lines.length && lines[lines.length - 1].trim() ? [''] : []), 'position ' + fen, 'stipulate ' + aim, ...anew];
+  const anew =
+    before ? TAGS.filter(name => isKnown(before.tags[name])).map(name => `tag ${name} ${unknown(name)}`) : [];
+  return [
+    ...lines, ...(lines.length && lines[lines.length - 1].trim() ? [''] : []), 'position ' + fen, 'stipulate ' + aim,
+    ...anew
+  ];
 }
 /**
  * Removes a study from the script.
@@ -222,7 +246,8 @@ export function addStudy(lines, fen, aim, before) {
  * @param {number} at
  * @returns {Change}
  */
-export const dropStudy = (lines, study, at) => ({ lines: spliced(lines, study.from, study.end - study.from), at: Math.max(at - 1, 0), path: 'root' });
+export const dropStudy = (lines, study, at) =>
+  ({lines: spliced(lines, study.from, study.end - study.from), at: Math.max(at - 1, 0), path: 'root'});
 
 /**
  * A study written again in its shortest form, in written order.
@@ -237,5 +262,8 @@ export function tidy(lines, study, root) {
   const moves = written(root).filter(n => n.parent).map(n => `insert ${n.parent ? n.parent.path : 'root'} ${n.san}`);
   const aim = study.aim ? ['stipulate ' + aimWords(study.aim)] : [];
   const gap = study.end < lines.length && lines[study.end - 1] === '' ? [''] : [];
-  return { lines: spliced(lines, study.from, study.end - study.from, 'position ' + root.fen, ...aim, ...tags, ...moves, ...notes, ...gap) };
+  return {
+    lines: spliced(
+      lines, study.from, study.end - study.from, 'position ' + root.fen, ...aim, ...tags, ...moves, ...notes, ...gap)
+  };
 }

@@ -1,13 +1,13 @@
 // @ts-check
 // A man on another square: how many only moves in a row the side to move would have to find, and what a study's tree
 // would be. Both are for the program to say.
-import { hasHeroMove } from './entries.js';
-import { menOf, placement } from './fen.js';
-import { readReview, readView, refusalIn } from './parse_answers.js';
-import { toText } from './script.js';
-import { PAGES } from './state.js';
-import { insertions, legalPart, turnedTree } from './turning.js';
-import { counted, reason } from './words.js';
+import {hasHeroMove} from './entries.js';
+import {menOf, placement} from './fen.js';
+import {readReview, readView, refusalIn} from './parse_answers.js';
+import {toText} from './script.js';
+import {PAGES} from './state.js';
+import {insertions, legalPart, turnedTree} from './turning.js';
+import {counted, reason} from './words.js';
 /** @typedef {import('./types.js').Engine} Engine @typedef {import('./unmarked.js').Bare} Bare */
 /** @typedef {import('./types.js').View} View */
 /**
@@ -29,8 +29,8 @@ const MOST_FALLEN = 12;
  * @param {number} to
  */
 export function fenWith(fen, from, to) {
-  const [placed, ...rest] = fen.split(' '), { [from]: letter, ...others } = menOf(placed);
-  return [placement({ ...others, [to]: letter }), ...rest].join(' ');
+  const [placed, ...rest] = fen.split(' '), {[from]: letter, ...others} = menOf(placed);
+  return [placement({...others, [to]: letter}), ...rest].join(' ');
 }
 /**
  * How many only moves in a row the defender can make the side to move find; null if it has no such result. A program
@@ -41,7 +41,7 @@ export function fenWith(fen, from, to) {
  * @returns {Promise<number | null | undefined>}
  */
 export async function rowAt(core, goal, fen) {
-  const { text } = await core.answer(`row ${goal} ${fen}`, '', PAGES);
+  const {text} = await core.answer(`row ${goal} ${fen}`, '', PAGES);
   return text === 'UnknownCommand\n' ? undefined : /^\d+\n$/.test(text) ? Number(text) : null;
 }
 /**
@@ -51,7 +51,8 @@ export async function rowAt(core, goal, fen) {
  */
 export function byRow(spots) {
   const rows = /** @type {Map<number, string[]>} */ (new Map());
-  for (const { row, text } of spots) if (row) rows.set(row, [...(rows.get(row) || []), text]);
+  for (const {row, text} of spots)
+    if (row) rows.set(row, [...(rows.get(row) || []), text]);
   return [...rows].sort(([m], [n]) => n - m);
 }
 
@@ -66,14 +67,14 @@ export function byRow(spots) {
 export async function treeAt(core, fen, aim, tree) {
   const head = [`position ${fen}`, `stipulate ${aim}`], of = insertions(tree).length;
   let view = /** @type {View | null} */ (null);
-  const { lines } = await legalPart(turnedTree(tree, []), async lines => {
+  const {lines} = await legalPart(turnedTree(tree, []), async lines => {
     const answer = await core.answer('view root', toText([...head, ...lines]), PAGES);
     const [, line = ''] = /^refused (\d+) /m.exec(answer.text) || [];
     view = readView(answer.text);
     if (!view || (line && Number(line) <= head.length)) throw new Error(reason(refusalIn(answer)));
     return line ? Number(line) - 1 - head.length : -1;
   }, MOST_FALLEN);
-  return { kept: lines.length, of, ...await stampThere(core, view, [...head, ...lines, 'pgn']) };
+  return {kept: lines.length, of, ...await stampThere(core, view, [...head, ...lines, 'pgn'])};
 }
 /**
  * The faults of a tree and its stamp, as that of a study: where none of its moves is the hero's it only holds.
@@ -82,22 +83,22 @@ export async function treeAt(core, fen, aim, tree) {
  * @param {string[]} lines
  */
 async function stampThere(core, view, lines) {
-  if (!view || !view.aim) return { faults: 0, stamp: '' };
-  const { fen, aim, root, verdict } = view;
-  if (!root.faults) return { faults: 0, stamp: verdict === 'sound' && !hasHeroMove(root, fen, aim) ? 'holds' : verdict };
+  if (!view || !view.aim) return {faults: 0, stamp: ''};
+  const {fen, aim, root, verdict} = view;
+  if (!root.faults) return {faults: 0, stamp: verdict === 'sound' && !hasHeroMove(root, fen, aim) ? 'holds' : verdict};
   const review = readReview((await core.answer('review', toText(lines), PAGES)).text);
-  return { faults: root.faults, stamp: (review && review.waste) || verdict };
+  return {faults: root.faults, stamp: (review && review.waste) || verdict};
 }
 /**
  * The squares whose tree keeps a move, those first that lose the fewest and then have the fewest faults.
  * @param {Spot[]} spots
  */
-export const byTree = spots => spots.filter(spot => spot.there && spot.there.kept)
-                                   .sort((x, y) => lost(x) - lost(y) || faultsOf(x) - faultsOf(y));
+export const byTree = spots =>
+  spots.filter(spot => spot.there && spot.there.kept).sort((x, y) => lost(x) - lost(y) || faultsOf(x) - faultsOf(y));
 /** @param {Spot} spot */
-const lost = ({ there }) => (there ? there.of - there.kept : 0);
+const lost = ({there}) => (there ? there.of - there.kept : 0);
 /** @param {Spot} spot */
-const faultsOf = ({ there }) => (there ? there.faults : 0);
+const faultsOf = ({there}) => (there ? there.faults : 0);
 /**
  * `h3: sound`, `g2: unsound 2, 3 of 14 moves dropped`
  * @param {string} name

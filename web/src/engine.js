@@ -1,11 +1,17 @@
 // @ts-check
-// Workers around the proved core. A trap or a stop ends a worker and never the page; the next question begins a new one.
+// Workers around the proved core. A trap or a stop ends a worker and never the page; the next question begins a new
+// one.
+
+/** @typedef {import('./types.js').Answer} Answer */
 
 export class Stopped extends Error {}
-/** @typedef {{bytes: Uint8Array, ended: string, saved: [string, Uint8Array][], ms: number, memory: number}} RawAnswer */
+/**
+ * @typedef {{bytes: Uint8Array, ended: string, saved: [string, Uint8Array][], ms: number,
+ *   memory: number}} RawAnswer
+ */
 
 /** @typedef {object} Core
- * @property {(request: string, script: string | Uint8Array, pages: number) => Promise<{text: string, ended: string}>} answer
+ * @property {(request: string, script: string | Uint8Array, pages: number) => Promise<Answer>} answer
  * @property {(request: string, script: string | Uint8Array, pages: number) => Promise<RawAnswer>} ask
  * @property {(name: string, bytes: Uint8Array) => Promise<any>} load      the bytes are transferred
  * @property {(name: string) => boolean} has
@@ -23,7 +29,7 @@ export class Stopped extends Error {}
 export function makeCore(spawn, compiled) {
   let worker = /** @type {Worker | null} */ (null), next = 0;
   const waiting = /** @type {Map<number, {ok: (answer: any) => void, no: (why: Error) => void}>} */ (new Map());
-  const loaded = new Set(), last = { ms: 0, memory: 0 };
+  const loaded = new Set(), last = {ms: 0, memory: 0};
 
   /**
    * @param {any} message
@@ -33,11 +39,14 @@ export function makeCore(spawn, compiled) {
   function call(message, moved = []) {
     if (!worker) begin();
     const to = /** @type {Worker} */ (worker), id = ++next;
-    return new Promise((ok, no) => { waiting.set(id, { ok, no }); to.postMessage({ id, ...message }, moved); });
+    return new Promise((ok, no) => {
+      waiting.set(id, {ok, no});
+      to.postMessage({id, ...message}, moved);
+    });
   }
   function begin() {
     const mine = worker = spawn();
-    mine.onmessage = ({ data }) => {
+    mine.onmessage = ({data}) => {
       if (worker !== mine) return;
       if (data.failed) return end(new Error(data.failed));
       if (data.ms !== undefined) [last.ms, last.memory] = [data.ms, data.memory];
@@ -45,9 +54,15 @@ export function makeCore(spawn, compiled) {
       waiting.delete(data.id);
       if (who) who.ok(data);
     };
-    mine.onerror = e => { if (worker === mine) end(new Error(e.message || 'the worker did not start')); };
-    started = compiled().then(module => { if (worker === mine) return call({ kind: 'start', module }); });
-    started.catch(fault => { if (worker === mine) end(fault); });
+    mine.onerror = e => {
+      if (worker === mine) end(new Error(e.message || 'the worker did not start'));
+    };
+    started = compiled().then(module => {
+      if (worker === mine) return call({kind: 'start', module});
+    });
+    started.catch(fault => {
+      if (worker === mine) end(fault);
+    });
   }
   let started = /** @type {Promise<any>} */ (Promise.resolve());
   /**
@@ -77,15 +92,22 @@ export function makeCore(spawn, compiled) {
    * @param {number} pages
    * @returns {Promise<RawAnswer>}
    */
-  const ask = (request, script, pages) => ready({ kind: 'answer', request, script, pages });
+  const ask = (request, script, pages) => ready({kind: 'answer', request, script, pages});
   return {
-    ask, end, last,
+    ask,
+    end,
+    last,
     answer: async (request, script, pages) => {
-      const { bytes, ended } = await ask(request, script, pages);
-      return { text: new TextDecoder().decode(bytes), ended };
+      const {bytes, ended} = await ask(request, script, pages);
+      return {text: new TextDecoder().decode(bytes), ended};
     },
-    load(name, bytes) { loaded.add(name); return ready({ kind: 'load', name, bytes: bytes.buffer }, [bytes.buffer]); },
-    drop(name) { if (loaded.delete(name)) ready({ kind: 'drop', name }).catch(() => {}); },
+    load(name, bytes) {
+      loaded.add(name);
+      return ready({kind: 'load', name, bytes: bytes.buffer}, [bytes.buffer]);
+    },
+    drop(name) {
+      if (loaded.delete(name)) ready({kind: 'drop', name}).catch(() => {});
+    },
     has: name => loaded.has(name),
     waiting: () => waiting.size,
   };

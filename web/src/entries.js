@@ -1,18 +1,18 @@
 // @ts-check
 // The entries of a script, one a row: its studies with what is said of them, and those that were left out.
-import { isKnown } from './edits.js';
-import { control, sideOf } from './fen.js';
-import { leftOutBy, originalsIn, whyLeftOut } from './imported.js';
-import { isEdit, wordsOf } from './script.js';
-import { bareTree } from './unmarked.js';
-import { aimText, reason } from './words.js';
+import {isKnown} from './edits.js';
+import {control, sideOf} from './fen.js';
+import {leftOutBy, originalsIn, whyLeftOut} from './imported.js';
+import {isEdit, wordsOf} from './script.js';
+import {bareTree} from './unmarked.js';
+import {aimText, reason} from './words.js';
 /** @typedef {import('./types.js').Study} Study @typedef {import('./types.js').Doc} Doc */
 /** @typedef {import('./types.js').Review} Review */
 /** @typedef {import('./types.js').Aim} Aim */
 /**
  * `kind` is what the list is filtered by; `at` the place of a study, -1 of an entry that was left out.
- * @typedef {{line: number, at: number, kind: string, title: string, author: string, fen: string, aim: string, stamp: string,
- *   review: Review | null}} Entry
+ * @typedef {{line: number, at: number, kind: string, title: string, author: string, fen: string, aim: string,
+ *   stamp: string, review: Review | null}} Entry
  */
 
 /**
@@ -33,7 +33,7 @@ export const studyName = s => [nameOf(s, 'Event'), nameOf(s, 'White')].filter(Bo
  * @param {string} fen
  * @param {Aim} aim
  */
-export const hasHeroMove = ({ children }, fen, aim) =>
+export const hasHeroMove = ({children}, fen, aim) =>
   children.some(child => sideOf(fen) === aim.hero || child.children.length > 0);
 /**
  * Whether some move of the hero is in the tree of a study.
@@ -46,10 +46,10 @@ export function hasSolution(lines, s, review) {
   return s.aim !== null && hasHeroMove(bareTree(lines.slice(s.from, s.end)), s.fen, s.aim);
 }
 /** @param {{text: string}} line */
-const isPosition = ({ text }) => wordsOf(text)[0] === 'position';
+const isPosition = ({text}) => wordsOf(text)[0] === 'position';
 /**
- * The first line of a study that was refused: its verdict is not that of the entry then. Lines behind a position that was
- * refused are of another entry.
+ * The first line of a study that was refused: its verdict is not that of the entry then. Lines behind a position that
+ * was refused are of another entry.
  * @param {Doc} doc
  * @param {Study} s
  */
@@ -69,12 +69,12 @@ export function stampOf(doc, s, review) {
   const unread = unreadIn(doc, s), [kind] = s.verdict.split(' ');
   if (unread) {
     const words = wordsOf(unread.text), from = words[0] === 'insert' ? 2 : 0;
-    return { kind: 'not read', text: `not read: ${words.slice(from).join(' ').slice(0, 40)}` };
+    return {kind: 'not read', text: `not read: ${words.slice(from).join(' ').slice(0, 40)}`};
   }
-  if (!kind) return { kind: 'not judged', text: 'not judged' };
-  if (kind === 'sound' && !hasSolution(doc.lines, s, review)) return { kind: 'holds', text: 'holds' };
-  if (review && review.waste.startsWith('sound')) return { kind: 'time', text: review.waste };
-  return { kind, text: (review && review.waste) || s.verdict };
+  if (!kind) return {kind: 'not judged', text: 'not judged'};
+  if (kind === 'sound' && !hasSolution(doc.lines, s, review)) return {kind: 'holds', text: 'holds'};
+  if (review && review.waste.startsWith('sound')) return {kind: 'time', text: review.waste};
+  return {kind, text: (review && review.waste) || s.verdict};
 }
 /**
  * What the lines after a refused position say of it: who the author is, and which entry it was to be.
@@ -98,7 +98,7 @@ function leftOutAt(lines, line) {
   const game = leftOutBy(lines[line]);
   if (!game) return [];
   const end = lines.findIndex((text, at) => at > line && !text.startsWith('#'));
-  const { Event = '', White = '' } = originalsIn(lines.slice(line, end < 0 ? undefined : end));
+  const {Event = '', White = ''} = originalsIn(lines.slice(line, end < 0 ? undefined : end));
   const place = `game ${game.game} of the PGN, line ${game.line}`;
   return [missing(line, Event ? `${Event} (${place})` : place, White, whyLeftOut(game))];
 }
@@ -110,7 +110,7 @@ function leftOutAt(lines, line) {
  * @returns {Entry}
  */
 const missing = (line, title, author, why) =>
-    ({ line, at: -1, kind: 'left out', title, author, fen: '', aim: '', stamp: `left out: ${why}`, review: null });
+  ({line, at: -1, kind: 'left out', title, author, fen: '', aim: '', stamp: `left out: ${why}`, review: null});
 /**
  * The entries in the order of the script.
  * @param {Doc} doc
@@ -119,13 +119,26 @@ const missing = (line, title, author, why) =>
  */
 export function entriesOf(doc, reviews = []) {
   const studies = doc.studies.map((s, at) => {
-    const { kind, text } = stampOf(doc, s, reviews[at] || null);
-    return { line: s.from, at, kind, title: nameOf(s, 'Event') || control(s.fen), author: nameOf(s, 'White'), fen: s.fen,
-      aim: s.aim ? aimText(s.aim) : '', stamp: text, review: reviews[at] || null };
+    const {kind, text} = stampOf(doc, s, reviews[at] || null);
+    return {
+      line: s.from,
+      at,
+      kind,
+      title: nameOf(s, 'Event') || control(s.fen),
+      author: nameOf(s, 'White'),
+      fen: s.fen,
+      aim: s.aim ? aimText(s.aim) : '',
+      stamp: text,
+      review: reviews[at] || null
+    };
   });
   const refused = doc.refused.filter(isPosition).map(r => {
-    const { Event = '', White = '', Round = '' } = tagsAfter(doc.lines, r.line);
-    return missing(r.line, isKnown(Event) ? Event : isKnown(Round) ? `entry ${Round}` : '', isKnown(White) ? White : '', reason(r.reply));
+    const {Event = '', White = '', Round = ''} = tagsAfter(doc.lines, r.line);
+    return missing(r.line,
+      isKnown(Event)     ? Event
+        : isKnown(Round) ? `entry ${Round}`
+                         : '',
+      isKnown(White) ? White : '', reason(r.reply));
   });
   const unread = doc.lines.flatMap((_, line) => leftOutAt(doc.lines, line));
   return [...studies, ...refused, ...unread].sort((x, y) => x.line - y.line);
@@ -134,17 +147,20 @@ export function entriesOf(doc, reviews = []) {
  * The number of each study's row: entries that were left out have theirs too.
  * @param {Doc} doc
  */
-export const numbersOf = doc => new Map(entriesOf(doc).map(({ at }, i) => [at, i + 1]));
+export const numbersOf = doc => new Map(entriesOf(doc).map(({at}, i) => [at, i + 1]));
 const KINDS = ['sound', 'time', 'unsound', 'wrong', 'holds', 'not read', 'left out', 'not judged'];
 /** @type {Record<string, string>} */
-export const KIND_WORDS = { time: 'sound but for loss of time', unsound: 'unsound' };
+export const KIND_WORDS = {
+  time: 'sound but for loss of time',
+  unsound: 'unsound'
+};
 /**
  * How many entries there are of each kind, those alone that there are.
  * @param {{kind: string}[]} entries
  * @returns {[string, number][]}
  */
 export const countsOf = entries => /** @type {[string, number][]} */ (
-    KINDS.map(kind => [kind, entries.filter(entry => entry.kind === kind).length]).filter(([, n]) => n));
+  KINDS.map(kind => [kind, entries.filter(entry => entry.kind === kind).length]).filter(([, n]) => n));
 
 /**
  * A field of a line of comma-separated values (RFC 4180).
@@ -157,11 +173,13 @@ const field = value => (/[",\r\n]/.test(`${value}`) ? `"${`${value}`.replace(/"/
  * @param {Entry[]} entries
  */
 export function csvOf(entries) {
-  const rows = entries.map(({ title, author, fen, aim, stamp, review }, i) => {
+  const rows = entries.map(({title, author, fen, aim, stamp, review}, i) => {
     const duals = review ? review.faults.filter(f => f.kind === 'dual') : [],
-          facts = review ? [duals.length, duals.filter(f => f.time === f.duals).length, review.missing.length] : ['', '', ''];
+          facts =
+            review ? [duals.length, duals.filter(f => f.time === f.duals).length, review.missing.length] : ['', '', ''];
     return [i + 1, title, author, fen, aim, stamp, ...facts];
   });
-  const head = ['Number', 'Title', 'Author', 'FEN', 'Stipulation', 'Verdict', 'Duals', 'Duals that lose time', 'Missing defences'];
+  const head =
+    ['Number', 'Title', 'Author', 'FEN', 'Stipulation', 'Verdict', 'Duals', 'Duals that lose time', 'Missing defences'];
   return [head, ...rows].map(row => row.map(field).join(',') + '\r\n').join('');
 }

@@ -4,7 +4,8 @@
 /** @typedef {Record<number, string>} Men      square -> letter, capitals are White */
 
 export const EMPTY = '8/8/8/8/8/8/8/8';
-export const NAMES = /** @type {Record<string, string>} */ ({ K: 'king', Q: 'queen', R: 'rook', B: 'bishop', N: 'knight', P: 'pawn' });
+export const NAMES =
+  /** @type {Record<string, string>} */ ({K: 'king', Q: 'queen', R: 'rook', B: 'bishop', N: 'knight', P: 'pawn'});
 const FILES = 'abcdefgh';
 
 /** @param {number} square */
@@ -59,7 +60,8 @@ export function placement(men) {
  */
 function listed(men, white) {
   const order = (/** @type {string} */ c) => 'KQRBNP'.indexOf(c.toUpperCase());
-  return Object.entries(men).filter(([, c]) => isWhite(c) === white)
+  return Object.entries(men)
+    .filter(([, c]) => isWhite(c) === white)
     .sort(([s, c], [t, d]) => order(c) - order(d) || Number(s) % 8 - Number(t) % 8 || Number(s) - Number(t))
     .map(([s, c]) => c.toUpperCase() + squareName(Number(s)));
 }
@@ -99,19 +101,18 @@ export function fromControl(text) {
 const NO_DRAWING = 'No position: write a FEN, eight ranks of eight squares with / between them, or the men as ' +
   'Kb6 Pc6 / Ka1 Rd5.';
 /**
- * Six fields of what was typed, if it can be drawn, or why it cannot. Whether it is a position is for the program to say.
+ * Six fields of what was typed, if it can be drawn, or why it cannot. Whether it is a position is for the program to
+ * say.
  * @param {string} text
  * @param {string} mover
  * @returns {{fen: string} | {bad: string}}
  */
 export function typedFen(text, mover) {
   const listing = fromControl(text), fields = (listing ? `${listing} ${mover} - - 0 1` : text).trim().split(/\s+/);
-  if (!/^([1-8KQRBNPkqrbnp]+\/){7}[1-8KQRBNPkqrbnp]+$/.test(fields[0]))
-    return { bad: NO_DRAWING };
-  if (fields[0].split('/').some(r => [...r].reduce((n, c) => n + (Number(c) || 1), 0) !== 8))
-    return { bad: NO_DRAWING };
+  if (!/^([1-8KQRBNPkqrbnp]+\/){7}[1-8KQRBNPkqrbnp]+$/.test(fields[0])) return {bad: NO_DRAWING};
+  if (fields[0].split('/').some(r => [...r].reduce((n, c) => n + (Number(c) || 1), 0) !== 8)) return {bad: NO_DRAWING};
   const rest = ['w', '-', '-', '0', '1'].map((d, i) => fields[i + 1] || (i === 0 ? mover : d));
-  return { fen: [fields[0], ...rest].join(' ') };
+  return {fen: [fields[0], ...rest].join(' ')};
 }
 
 /**

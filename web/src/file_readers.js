@@ -1,5 +1,6 @@
 // @ts-check
-// Files of tables, each with its digest, read by workers: a digest of 17 MB blocks the thread that computes it, though it is a promise.
+// Files of tables, each with its digest, read by workers: a digest of 17 MB blocks the thread that computes it, though
+// it is a promise.
 
 /** @typedef {{bytes: Uint8Array, digest: string}} Read      the digest is empty where none was wanted */
 const MOST = 3, REST = 2000;
@@ -7,18 +8,20 @@ const MOST = 3, REST = 2000;
 /** @param {() => Worker} spawn */
 export function makeReaders(spawn) {
   const resting = /** @type {Worker[]} */ ([]);
-  const waiting = /** @type {{blob: Blob, digested: boolean, ok: (file: Read) => void, no: (why: Error) => void}[]} */ ([]);
+  const waiting =
+    /** @type {{blob: Blob, digested: boolean, ok: (file: Read) => void, no: (why: Error) => void}[]} */ ([]);
   let working = 0, timer = 0;
   function go() {
     clearTimeout(timer);
-    if (!working && !waiting.length) timer = setTimeout(() => resting.splice(0).forEach(worker => worker.terminate()), REST);
+    if (!working && !waiting.length)
+      timer = setTimeout(() => resting.splice(0).forEach(worker => worker.terminate()), REST);
     while (working < MOST && waiting.length) begin(/** @type {typeof waiting[0]} */ (waiting.shift()));
   }
   /** @param {typeof waiting[0]} task */
-  function begin({ blob, digested, ok, no }) {
+  function begin({blob, digested, ok, no}) {
     const worker = resting.pop() || spawn();
     working++;
-    worker.onmessage = ({ data }) => {
+    worker.onmessage = ({data}) => {
       working--;
       resting.push(worker);
       if (data.failed) no(new Error(data.failed));
@@ -31,7 +34,7 @@ export function makeReaders(spawn) {
       no(new Error(e.message || 'the worker did not start'));
       go();
     };
-    worker.postMessage({ id: 0, kind: 'read', blob, digested });
+    worker.postMessage({id: 0, kind: 'read', blob, digested});
   }
   /** Workers are started before there is anything to read. */
   function start() {
@@ -51,6 +54,9 @@ export function makeReaders(spawn) {
      * @param {Blob} blob
      * @returns {Promise<Read>}
      */
-    read: (blob, digested = true) => new Promise((ok, no) => { waiting.push({ blob, digested, ok, no }); go(); }),
+    read: (blob, digested = true) => new Promise((ok, no) => {
+      waiting.push({blob, digested, ok, no});
+      go();
+    }),
   };
 }

@@ -1,18 +1,22 @@
 // @ts-check
 // What the tables know: the positions of a class that have a theme, found piece by piece in a core of their own.
-import { services, PAGES } from './state.js';
-import { readValue, refusalIn } from './parse_answers.js';
-import { reason } from './words.js';
+import {services, PAGES} from './state.js';
+import {readValue, refusalIn} from './parse_answers.js';
+import {reason} from './words.js';
 /** @typedef {import('./types.js').Value} Value */
 /** @typedef {{fen: string, values: Value[], key: string}} Found      a zugzwang has two values, and no key move */
-/** @typedef {{at: number, of: number, found: Found[], ended: string}} Search      how far it came, in numbers of the class */
+/**
+ * @typedef {{at: number, of: number, found: Found[], ended: string}} Search
+ *   how far it came, in numbers of the class
+ */
 
 /** Themes as the program names them, with what the list of them says; those that end with `N` take a number. */
 export const THEMES = /** @type {[string, string][]} */ ([
-  ['zugzwang', 'mutual zugzwangs'], ['win N', 'wins by N only moves in a row'], ['draw N', 'draws by N only moves in a row'],
-  ['underpromotion', 'only an underpromotion holds'], ['into win', 'wins by a move into a zugzwang'], ['into draw', 'draws by a move into a zugzwang'],
-  ['try win', 'wins with a try into a zugzwang'], ['try draw', 'draws with a try into a zugzwang'], ['longest white', 'longest wins of White'],
-  ['longest black', 'longest wins of Black']
+  ['zugzwang', 'mutual zugzwangs'], ['win N', 'wins by N only moves in a row'],
+  ['draw N', 'draws by N only moves in a row'], ['underpromotion', 'only an underpromotion holds'],
+  ['into win', 'wins by a move into a zugzwang'], ['into draw', 'draws by a move into a zugzwang'],
+  ['try win', 'wins with a try into a zugzwang'], ['try draw', 'draws with a try into a zugzwang'],
+  ['longest white', 'longest wins of White'], ['longest black', 'longest wins of Black']
 ]);
 /**
  * A position a line: its FEN, its value or values, and the one move that holds.
@@ -27,7 +31,7 @@ export function readFound(line) {
     values.push(value);
     at = next;
   }
-  return { fen: words.slice(0, 6).join(' '), values, key: words[at] || '' };
+  return {fen: words.slice(0, 6).join(' '), values, key: words[at] || ''};
 }
 /**
  * The men of a class set up at random, many times: some are positions, whose tables are those of the class.
@@ -35,16 +39,21 @@ export function readFound(line) {
  */
 export function placements(name, many = 80) {
   let seed = 7;
-  const dice = (/** @type {number} */ n) => { seed = (seed * 48271) % 2147483647; return seed % n; };
+  const dice = (/** @type {number} */ n) => {
+    seed = (seed * 48271) % 2147483647;
+    return seed % n;
+  };
   const men = [...name.replace(/K([A-Z]*)K([A-Z]*)/, (_, white, black) => `K${white}k${black.toLowerCase()}`)];
   return [...Array(many).keys()].map(() => {
     const board = /** @type {string[]} */ (Array(64).fill('1'));
     for (const letter of men) {
       let at = 0;
-      do at = dice(64); while (board[at] !== '1');
+      do at = dice(64);
+      while (board[at] !== '1');
       board[at] = letter;
     }
-    const ranks = [0, 1, 2, 3, 4, 5, 6, 7].map(rank => board.slice(8 * rank, 8 * rank + 8).join('').replace(/1+/g, run => `${run.length}`));
+    const ranks = [0, 1, 2, 3, 4, 5, 6, 7].map(
+      rank => board.slice(8 * rank, 8 * rank + 8).join('').replace(/1+/g, run => `${run.length}`));
     return `${ranks.join('/')} ${dice(2) ? 'w' : 'b'} - - 0 1`;
   });
 }
@@ -55,13 +64,14 @@ const PIECE = 1 << 14, ALIKE = 300;
  * @param {() => import('./engine.js').Core} spawn
  * @param {(search: Search) => boolean} tell      whether to go on
  */
-export async function search({ name, theme, filters, most }, spawn, tell) {
-  const fens = placements(name), core = spawn(), now = /** @type {Search} */ ({ at: 0, of: 0, found: [], ended: '' });
+export async function search({name, theme, filters, most}, spawn, tell) {
+  const fens = placements(name), core = spawn(), now = /** @type {Search} */ ({at: 0, of: 0, found: [], ended: ''});
   try {
     await services.tables.ready(fens);
     await services.tables.load(await services.tables.classesOf(fens), core);
     for (let piece = PIECE; !now.ended;) {
-      const began = performance.now(), request = ['find', name, theme, filters, now.at, now.at + piece].filter(word => word !== '').join(' ');
+      const began = performance.now(),
+            request = ['find', name, theme, filters, now.at, now.at + piece].filter(word => word !== '').join(' ');
       const answer = await core.answer(request, '', PAGES);
       if (answer.ended !== 'done') throw new Error(reason(refusalIn(answer)));
       taken(now, answer.text.split('\n').filter(Boolean));

@@ -1,22 +1,39 @@
 // @ts-check
 // The panel 'Find': a class, a theme and squares; what is found while it searches; a press opens one.
-import { $, button, h, put } from './dom.js';
-import { counting } from './actions.js';
-import { app, services } from './state.js';
-import { CLASSES } from './core_host.js';
-import { control, sideOf } from './fen.js';
-import { THEMES, search } from './finding.js';
-import { openText } from './opening.js';
-import { toText } from './script.js';
-import { draftFen } from './setup.js';
-import { counted, valueText, winner } from './words.js';
+import {$, button, h, put} from './dom.js';
+import {counting} from './actions.js';
+import {app, services} from './state.js';
+import {CLASSES} from './core_host.js';
+import {control, sideOf} from './fen.js';
+import {THEMES, search} from './finding.js';
+import {openText} from './opening.js';
+import {toText} from './script.js';
+import {draftFen} from './setup.js';
+import {counted, valueText, winner} from './words.js';
 /** @typedef {import('./finding.js').Search} Search @typedef {import('./finding.js').Found} Found */
 
 const MOST = 300;
-const form = { name: 'KPK', theme: 'zugzwang', n: '4', side: '', squares: '', quiet: false };
-/** @type {{spawn: () => import('./engine.js').Core, search: Search | null, going: boolean, fault: string, shown: string,
- *   here: string, chosen: boolean}} */
-const state = { spawn: () => services.core, search: null, going: false, fault: '', shown: '', here: '', chosen: false };
+const form = {
+  name: 'KPK',
+  theme: 'zugzwang',
+  n: '4',
+  side: '',
+  squares: '',
+  quiet: false
+};
+/**
+ * @type {{spawn: () => import('./engine.js').Core, search: Search | null, going: boolean, fault: string,
+ *   shown: string, here: string, chosen: boolean}}
+ */
+const state = {
+  spawn: () => services.core,
+  search: null,
+  going: false,
+  fault: '',
+  shown: '',
+  here: '',
+  chosen: false
+};
 /** @param {() => import('./engine.js').Core} spawn */
 export function startFinding(spawn) { state.spawn = spawn; }
 
@@ -32,50 +49,98 @@ async function classHere() {
  * @param {string} now
  * @param {(value: string) => void} done
  */
-const choice = (id, label, options, now, done) => h('select', { id, 'aria-label': label, onchange: (/** @type {any} */ e) => { done(e.target.value); showFinding(); } },
-  options.map(([value, text]) => h('option', { value, selected: value === now }, text)));
+const choice = (id, label, options, now, done) => h('select', {
+  id,
+  'aria-label': label,
+  onchange: (/** @type {any} */ e) => {
+    done(e.target.value);
+    showFinding();
+  }
+},
+  options.map(([value, text]) => h('option', {value, selected: value === now}, text)));
 /**
  * @param {string} id
  * @param {string} label
  * @param {'n' | 'squares'} field
  * @param {any} props
  */
-const field = (id, label, field, props) => h('input', { id, 'aria-label': label, title: label, value: form[field], autocomplete: 'off', spellcheck: 'false',
-  oninput: (/** @type {any} */ e) => { form[field] = e.target.value; }, ...props });
+const field = (id, label, field, props) => h('input', {
+  id,
+  'aria-label': label,
+  title: label,
+  value: form[field],
+  autocomplete: 'off',
+  spellcheck: 'false',
+  oninput: (/** @type {any} */ e) => {
+    form[field] = e.target.value;
+  },
+  ...props
+});
 /** @param {string} name */
 function chooseClass(name) {
   form.name = name;
   state.chosen = true;
 }
 function formView() {
-  const { here } = state, takesNumber = form.theme.endsWith('N');
-  return h('div', { class: 'row' },
+  const {here} = state, takesNumber = form.theme.endsWith('N');
+  return h('div', {class: 'row'},
     choice('findClass', 'The men', CLASSES.map(name => [name, name]), form.name, chooseClass),
-    here && here !== form.name && button('these men', `the class ${here}`, () => { chooseClass(here); showFinding(); }, { class: 'chip act', id: 'findHere' }),
-    choice('findTheme', 'What is sought', THEMES, form.theme, value => { form.theme = value; }),
-    takesNumber && field('findN', 'How many only moves in a row, 1 to 12', 'n', { type: 'number', min: 1, max: 12, class: 'num' }),
-    choice('findSide', 'The side to move', [['', 'either side to move'], ['white', 'White to move'], ['black', 'Black to move']], form.side,
-           value => { form.side = value; }),
-    field('findSquares', 'Squares, as Kf7 or Pa2-h4, small letters for Black; the board is turned as it fits', 'squares', { placeholder: 'squares', size: 14 }),
-    form.theme !== 'zugzwang' && !form.theme.startsWith('longest') && h('label', { class: 'note' }, h('input', { type: 'checkbox', id: 'findQuiet', checked: form.quiet,
-      onchange: (/** @type {any} */ e) => { form.quiet = e.target.checked; } }), ' begins with a quiet move'),
-    state.going ? button('Stop', 'keep what was found', stop, { id: 'findStop', class: 'main' }) : button('Find', 'search the table', find, { id: 'findGo', class: 'main' }));
+    here && here !== form.name &&
+      button('these men', `the class ${here}`,
+        () => {
+          chooseClass(here);
+          showFinding();
+        },
+        {class: 'chip act', id: 'findHere'}),
+    choice('findTheme', 'What is sought', THEMES, form.theme,
+      value => {
+        form.theme = value;
+      }),
+    takesNumber &&
+      field('findN', 'How many only moves in a row, 1 to 12', 'n', {type: 'number', min: 1, max: 12, class: 'num'}),
+    choice('findSide', 'The side to move',
+      [['', 'either side to move'], ['white', 'White to move'], ['black', 'Black to move']], form.side,
+      value => {
+        form.side = value;
+      }),
+    field('findSquares', 'Squares, as Kf7 or Pa2-h4, small letters for Black; the board is turned as it fits',
+      'squares', {placeholder: 'squares', size: 14}),
+    form.theme !== 'zugzwang' && !form.theme.startsWith('longest') &&
+      h('label', {class: 'note'}, h('input', {
+        type: 'checkbox',
+        id: 'findQuiet',
+        checked: form.quiet,
+        onchange: (/** @type {any} */ e) => {
+          form.quiet = e.target.checked;
+        }
+      }),
+        ' begins with a quiet move'),
+    state.going ? button('Stop', 'keep what was found', stop, {id: 'findStop', class: 'main'})
+                : button('Find', 'search the table', find, {id: 'findGo', class: 'main'}));
 }
 function find() {
   if (form.theme.endsWith('N') && !/^([1-9]|1[0-2])$/.test(form.n.trim())) {
-    Object.assign(state, { search: null, fault: 'the number of only moves in a row is 1 to 12' });
+    Object.assign(state, {search: null, fault: 'the number of only moves in a row is 1 to 12'});
     return showFinding();
   }
-  const quiet = form.quiet && form.theme !== 'zugzwang' && !form.theme.startsWith('longest') ? 'no-capture no-check' : '';
-  const wanted = { name: form.name, theme: form.theme.replace('N', form.n), filters: [form.side, quiet, form.squares.trim()].filter(Boolean).join(' '), most: MOST };
-  Object.assign(state, { search: null, going: true, fault: '', shown: `${wanted.name} ${wanted.theme}` });
+  const quiet =
+    form.quiet && form.theme !== 'zugzwang' && !form.theme.startsWith('longest') ? 'no-capture no-check' : '';
+  const wanted = {
+    name: form.name,
+    theme: form.theme.replace('N', form.n),
+    filters: [form.side, quiet, form.squares.trim()].filter(Boolean).join(' '),
+    most: MOST
+  };
+  Object.assign(state, {search: null, going: true, fault: '', shown: `${wanted.name} ${wanted.theme}`});
   showFinding();
   const found = (/** @type {Search} */ now) => {
     state.search = now;
     showFinding();
     return state.going;
   };
-  const failed = (/** @type {Error} */ fault) => { state.fault = fault.message; };
+  const failed = (/** @type {Error} */ fault) => {
+    state.fault = fault.message;
+  };
   const ended = () => {
     state.going = false;
     showFinding();
@@ -87,33 +152,50 @@ function soFar() {
   const now = state.search;
   if (state.fault) return `Not found: ${state.fault}.`;
   if (!now) return state.going ? 'Its tables are being read, or built …' : '';
-  const end = { all: 'all there are', enough: `the first ${now.found.length}; narrow it down by squares`, stopped: 'stopped' }[now.ended] || 'searching …';
+  const end = {
+    all: 'all there are',
+    enough: `the first ${now.found.length}; narrow it down by squares`,
+    stopped: 'stopped'
+  }[now.ended] ||
+    'searching …';
   const part = now.ended === 'all' || !now.of ? '' : `; ${Math.floor(100 * now.at / now.of)} % looked at`;
   return `${state.shown}: ${counted(now.found.length, 'position')} found${part}: ${end}.`;
 }
 /** @param {Found} found */
-function linesOf({ fen, values, key }) {
+function linesOf({fen, values, key}) {
   const mover = sideOf(fen), won = winner(mover, values[0]), hero = (won || 'White').toLowerCase();
-  return toText([`position ${fen}`, `stipulate ${hero} ${won ? 'win' : 'draw'}`, ...(key ? [`insert root ${key}`] : [])]);
+  return toText(
+    [`position ${fen}`, `stipulate ${hero} ${won ? 'win' : 'draw'}`, ...(key ? [`insert root ${key}`] : [])]);
 }
 /** @param {Found} found */
 function rowView(found) {
   const mover = sideOf(found.fen), [first, second] = found.values;
-  const words = second ? `White to move: ${valueText('White', first)}; Black to move: ${valueText('Black', second)}` : valueText(mover, first);
-  return h('li', {}, button(control(found.fen), 'open it as a study', () => { close(); openText(linesOf(found), 'board'); }, { class: 'link', 'data-found': found.fen }),
+  const words = second ? `White to move: ${valueText('White', first)}; Black to move: ${valueText('Black', second)}`
+                       : valueText(mover, first);
+  return h('li', {},
+    button(control(found.fen), 'open it as a study',
+      () => {
+        close();
+        openText(linesOf(found), 'board');
+      },
+      {class: 'link', 'data-found': found.fen}),
     ` ${second ? '' : `${mover} to move: `}${found.key && `${found.key}, `}${words}`);
 }
 /** The panel, drawn again as it searches; what is typed in it stays. */
 export function showFinding() {
   if ($('finding').hidden) return;
-  const focus = document.activeElement, id = focus && $('finding').contains(focus) ? focus.id : '', found = state.search ? state.search.found : [];
+  const focus = document.activeElement, id = focus && $('finding').contains(focus) ? focus.id : '',
+        found = state.search ? state.search.found : [];
   put('finding',
-      h('div', { class: 'row' }, h('h2', {}, 'Find'), h('span', { class: 'gap' }), button('Close', 'Escape', close, { id: 'closeFinding' })),
-      h('p', { class: 'note' }, 'All positions of these men that have the theme, each once up to symmetry, none missing: proved. ' +
+    h('div', {class: 'row'}, h('h2', {}, 'Find'), h('span', {class: 'gap'}),
+      button('Close', 'Escape', close, {id: 'closeFinding'})),
+    h('p', {class: 'note'},
+      'All positions of these men that have the theme, each once up to symmetry, none missing: proved. ' +
         'A press opens one as a study.'),
-      formView(), h('p', { role: 'status', id: 'findState' }, soFar()), h('ol', { class: 'found', id: 'foundList' }, found.map(rowView)));
+    formView(), h('p', {role: 'status', id: 'findState'}, soFar()),
+    h('ol', {class: 'found', id: 'foundList'}, found.map(rowView)));
   const again = id && $(id);
-  if (again) again.focus({ preventScroll: true });
+  if (again) again.focus({preventScroll: true});
 }
 export async function openFinding() {
   const panel = $('finding');

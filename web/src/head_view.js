@@ -1,34 +1,50 @@
 // @ts-check
 // The head of a study: title, stipulation, tags.
-import { h } from './dom.js';
-import { gbr } from './fen.js';
-import { change } from './actions.js';
-import { app, services, say } from './state.js';
-import { isDate, isKnown, setTag, stipulate, wholeDate } from './edits.js';
-import { nameOf } from './entries.js';
-import { plainText } from './opening.js';
-import { guess } from './setup.js';
-import { typedOr } from './node_view.js';
-import { TAGS } from './script.js';
+import {h} from './dom.js';
+import {gbr} from './fen.js';
+import {change} from './actions.js';
+import {app, services, say} from './state.js';
+import {isDate, isKnown, setTag, stipulate, wholeDate} from './edits.js';
+import {nameOf} from './entries.js';
+import {plainText} from './opening.js';
+import {guess} from './setup.js';
+import {typedOr} from './node_view.js';
+import {TAGS} from './script.js';
 /** @typedef {import('./types.js').Study} Study @typedef {import('./types.js').Aim} Aim */
 
 const LABELS =
-    /** @type {Record<string, string>} */ ({Event: 'Title or source', White: 'Author', Black: 'Second name', Site: 'Site', Date: 'Date', Round: 'Entry'});
+  /** @type {Record<string, string>} */ (
+    {Event: 'Title or source', White: 'Author', Black: 'Second name', Site: 'Site', Date: 'Date', Round: 'Entry'});
 /** @param {string} where */
-export const messageAt = where => app.say && app.say.where === where && h('p', { class: app.say.good ? 'say good' : 'say', role: 'alert' }, app.say.text);
-const open = { tags: false };
+export const messageAt = where =>
+  app.say && app.say.where === where && h('p', {class: app.say.good ? 'say good' : 'say', role: 'alert'}, app.say.text);
+const open = {
+  tags: false
+};
 
 /** @param {Study} s */
 export function headView(s) {
   const t = s.tags, year = (t.Date || '').replace(/(\.\?\?)+$/, '');
-  const by = [nameOf(s, 'White'), nameOf(s, 'Site'), isKnown(year) && year, isKnown(t.Round) && 'entry ' + t.Round].filter(Boolean).join(' · ');
+  const by = [nameOf(s, 'White'), nameOf(s, 'Site'), isKnown(year) && year, isKnown(t.Round) && 'entry ' + t.Round]
+               .filter(Boolean)
+               .join(' · ');
   const old = Object.keys(t).filter(name => s.place[name] === undefined && isKnown(t[name]));
   return [
     h('h1', {}, isKnown(t.Event) ? nameOf(s, 'Event') : 'Untitled'), by && h('p', {class: 'by'}, by),
-    old.length > 0 && h('p', {class: 'note'}, `Set for an earlier study and not since: ${old.map(name => LABELS[name]).join(', ')}. `,
-      h('button', {type: 'button', class: 'chip act', id: 'clearOld', title: 'not known for this study', onclick: () => cleared(old)}, 'Clear')),
+    old.length > 0 &&
+      h('p', {class: 'note'}, `Set for an earlier study and not since: ${old.map(name => LABELS[name]).join(', ')}. `,
+        h('button', {
+          type: 'button',
+          class: 'chip act',
+          id: 'clearOld',
+          title: 'not known for this study',
+          onclick: () => cleared(old)
+        },
+          'Clear')),
     h('div', {class: 'row'},
-      aimView(s.aim, words => change(now => (now.studies[now.at] ? stipulate(now.lines, now.studies[now.at], words) : null), 'head'), 'aim'),
+      aimView(s.aim,
+        words => change(now => (now.studies[now.at] ? stipulate(now.lines, now.studies[now.at], words) : null), 'head'),
+        'aim'),
       h('span', {class: 'note'}, gbr(s.fen))),
     messageAt('head'),
     h('details', {
@@ -38,7 +54,8 @@ export function headView(s) {
         open.tags = e.target.open;
       }
     },
-      h('summary', {}, 'Title, author, source'), h('div', {class: 'tags'}, TAGS.map(name => tagView(name, nameOf(s, name)))))
+      h('summary', {}, 'Title, author, source'),
+      h('div', {class: 'tags'}, TAGS.map(name => tagView(name, nameOf(s, name)))))
   ];
 }
 /**
@@ -47,22 +64,20 @@ export function headView(s) {
  */
 const cleared = names => change(now => {
   const s = now.studies[now.at];
-  return s ? { lines: names.reduce((lines, name) => setTag(lines, s, name, '').lines, now.lines) } : null;
+  return s ? {lines: names.reduce((lines, name) => setTag(lines, s, name, '').lines, now.lines)} : null;
 }, 'head');
 /**
  * @param {string} name
  * @param {string} text
  */
-const tagView = (name, text) => [
-  h('label', { for: 'tag' + name }, LABELS[name], LABELS[name] !== name && h('small', {}, ' ' + name)),
-  h('input', {
-    id: 'tag' + name,
-    value: typedOr('tag' + name, isKnown(text) ? text : ''),
-    autocomplete: 'off',
-    placeholder: name === 'Date' ? '2026.11.24' : '',
-    onchange: (/** @type {any} */ e) => tagged(name, e.target.value.trim())
-  })
-];
+const tagView = (name, text) => [h('label', { for: 'tag' + name
+}, LABELS[name], LABELS[name] !== name && h('small', {}, ' ' + name)), h('input', {
+  id: 'tag' + name,
+  value: typedOr('tag' + name, isKnown(text) ? text : ''),
+  autocomplete: 'off',
+  placeholder: name === 'Date' ? '2026.11.24' : '',
+  onchange: (/** @type {any} */ e) => tagged(name, e.target.value.trim())
+})];
 /**
  * A text is kept in its own letters beside the plain ones that the script has; a note says how these are.
  * @param {string} name
@@ -72,13 +87,15 @@ async function tagged(name, typed) {
   const before = app.history, plain = await plainText(typed), text = name === 'Date' ? wholeDate(plain) : plain;
   if (name === 'Date' && text && !isDate(text)) {
     say('head', `${typed}: a date is a year, or a year, a month and a day, as 1921 or 1921.05.12.`);
-    Object.assign(app.say || {}, { field: 'tagDate', typed });
+    Object.assign(app.say || {}, {field: 'tagDate', typed});
     return services.show();
   }
   const original = name !== 'Date' && plain !== typed ? typed.slice(0, 80) : '';
-  await change(now => (now.studies[now.at] ? setTag(now.lines, now.studies[now.at], name, text, original) : null), 'head');
-  if (app.history === before && app.say) Object.assign(app.say, { field: 'tag' + name, typed });
-  else if (original) say('head', `The script has it in plain letters, as ${text}; the page and Save PGN have it as you wrote it.`, true);
+  await change(
+    now => (now.studies[now.at] ? setTag(now.lines, now.studies[now.at], name, text, original) : null), 'head');
+  if (app.history === before && app.say) Object.assign(app.say, {field: 'tag' + name, typed});
+  else if (original)
+    say('head', `The script has it in plain letters, as ${text}; the page and Save PGN have it as you wrote it.`, true);
   services.show();
 }
 /**
@@ -88,14 +105,18 @@ async function tagged(name, typed) {
  * @param {string} id
  */
 export function aimView(aim, done, id) {
-  const option = (/** @type {string} */ value, /** @type {string} */ text, /** @type {boolean} */ selected) => h('option', { value, selected }, text);
-  const tell = () => { if (goal.value) done(`${hero.value} ${goal.value}${goal.value === 'mate' ? ' ' + (k.value || guess()) : ''}`); };
-  const hero =
-      h('select', {id: id + 'Hero', 'aria-label': 'Side', onchange: tell}, option('white', 'White', !aim || aim.hero === 'White'),
-        option('black', 'Black', Boolean(aim && aim.hero === 'Black')));
-  const goals =
-      [['win', 'to win'], ['draw', 'to draw'], ['mate', 'to mate in']].map(([value, text]) => option(value, text, Boolean(aim && aim.goal === value)));
-  const goal = h('select', { id: id + 'Goal', 'aria-label': 'Aim', onchange: tell }, !aim && option('', 'to …', true), goals);
+  const option = (/** @type {string} */ value, /** @type {string} */ text, /** @type {boolean} */ selected) =>
+    h('option', {value, selected}, text);
+  const tell = () => {
+    if (goal.value) done(`${hero.value} ${goal.value}${goal.value === 'mate' ? ' ' + (k.value || guess()) : ''}`);
+  };
+  const hero = h('select', {id: id + 'Hero', 'aria-label': 'Side', onchange: tell},
+    option('white', 'White', !aim || aim.hero === 'White'),
+    option('black', 'Black', Boolean(aim && aim.hero === 'Black')));
+  const goals = [['win', 'to win'], ['draw', 'to draw'], ['mate', 'to mate in']].map(
+    ([value, text]) => option(value, text, Boolean(aim && aim.goal === value)));
+  const goal =
+    h('select', {id: id + 'Goal', 'aria-label': 'Aim', onchange: tell}, !aim && option('', 'to …', true), goals);
   const k = h('input', {
     id: id + 'K',
     class: 'num',

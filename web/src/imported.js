@@ -1,7 +1,7 @@
 // @ts-check
 // What the program makes of a PGN: blocks of lines with remarks above them, and for each game that has none a remark
 // that says why.
-import { counted, reason } from './words.js';
+import {counted, reason} from './words.js';
 /**
  * A game that was left out: where in the PGN, why, and at which text.
  * @typedef {{game: number, line: number, column: number, why: string, text: string}} LeftOut
@@ -18,7 +18,7 @@ export const looksLikePgn = text => /^[\s\ufeff]*\[\w+ "/.test(text) || /^\[FEN 
  */
 export function decoded(bytes) {
   try {
-    return new TextDecoder('utf-8', { fatal: true }).decode(bytes);
+    return new TextDecoder('utf-8', {fatal: true}).decode(bytes);
   } catch { return new TextDecoder('latin1').decode(bytes); }
 }
 const GAME = /^# game (\d+), line (\d+)(?:, column (\d+))?: (.*)$/, COUNTS = /^# games (\d+), studies (\d+)$/;
@@ -31,7 +31,7 @@ export function leftOutBy(line) {
   const m = GAME.exec(line);
   if (!m || m[4].startsWith('stipulated by ')) return null;
   const [why, text = ''] = m[4].replace(/^left out: /, '').split(' at ');
-  return { game: Number(m[1]), line: Number(m[2]), column: Number(m[3]) || 0, why, text };
+  return {game: Number(m[1]), line: Number(m[2]), column: Number(m[3]) || 0, why, text};
 }
 const FAULTS = /** @type {Record<string, string>} */ ({
   GameTooLarge: 'longer than a million bytes',
@@ -51,13 +51,14 @@ const FAULTS = /** @type {Record<string, string>} */ ({
  * Why a game was left out, in words.
  * @param {LeftOut} game
  */
-export function whyLeftOut({ why, text }) {
-  const words = why === 'NotSan' && /^[DTSLCFAV][a-h1-8x:]/.test(text) ? 'not a move with the letters K Q R B N, as a PGN has them' :
-    FAULTS[why] || (/^[A-Z]\w+$/.test(why) ? reason('error ' + why) : why);
+export function whyLeftOut({why, text}) {
+  const words = why === 'NotSan' && /^[DTSLCFAV][a-h1-8x:]/.test(text)
+    ? 'not a move with the letters K Q R B N, as a PGN has them'
+    : FAULTS[why] || (/^[A-Z]\w+$/.test(why) ? reason('error ' + why) : why);
   return text ? `${text}: ${words}` : words;
 }
 /** @param {LeftOut} game */
-const placeOf = ({ game, line, column }) => `game ${game}, line ${line}${column ? `, column ${column}` : ''}`;
+const placeOf = ({game, line, column}) => `game ${game}, line ${line}${column ? `, column ${column}` : ''}`;
 const GONE = /** @type {Record<string, [string, string]>} */ ({
   repeated: ['repeated move', 'repeated moves'],
   'null moves': ['null move', 'null moves'],
@@ -94,7 +95,7 @@ export function importNote(lines) {
   const first = out.slice(0, MOST).map(game => `${placeOf(game)}: ${whyLeftOut(game)}`),
         more = out.length > MOST ? `; and ${out.length - MOST} more` : '';
   return `${counted(Number(counts[1]), 'game')}, ${counted(Number(counts[2]), 'study', 'studies')}.` +
-      (out.length ? ` Left out: ${first.join('; ')}${more}.` : '');
+    (out.length ? ` Left out: ${first.join('; ')}${more}.` : '');
 }
 /**
  * The lines of an import as a document: without the counts at its end, which the next change would make wrong.

@@ -4,9 +4,9 @@
 //
 // A document is written by the page that opened it last. Where another page has taken it over, this one goes on at a
 // new place, so that two never write into one. Any page of file:// can write here, so what is read is only ever text.
-import { countsOf, stampOf, studyName } from './entries.js';
-import { control } from './fen.js';
-import { counted } from './words.js';
+import {countsOf, stampOf, studyName} from './entries.js';
+import {control} from './fen.js';
+import {counted} from './words.js';
 /** @typedef {import('./types.js').Doc} Doc @typedef {import('./types.js').KeptDraft} KeptDraft */
 /** @typedef {import('./history.js').History<Doc>} History */
 /**
@@ -43,7 +43,7 @@ export function difference(old, next) {
   let from = 0, end = 0;
   while (from < least && old[from] === next[from]) from++;
   while (end < least - from && old[old.length - 1 - end] === next[next.length - 1 - end]) end++;
-  return { from, gone: old.length - from - end, lines: next.slice(from, next.length - end) };
+  return {from, gone: old.length - from - end, lines: next.slice(from, next.length - end)};
 }
 /** @type {WeakMap<string[], {old: string[], change: ReturnType<typeof difference>}>} */
 const differences = new WeakMap();
@@ -55,7 +55,7 @@ function changeTo(old, next) {
   const known = differences.get(next);
   if (known && known.old === old) return known.change;
   const change = difference(old, next);
-  differences.set(next, { old, change });
+  differences.set(next, {old, change});
   return change;
 }
 /**
@@ -68,11 +68,11 @@ function changeTo(old, next) {
 export function packed(now, list) {
   const steps = /** @type {Step[]} */ ([]);
   let letters = 0, old = now.lines;
-  for (const { id, lines, at, path } of list) {
+  for (const {id, lines, at, path} of list) {
     const change = changeTo(old, lines);
     letters += change.lines.reduce((sum, line) => sum + line.length + 1, 40);
     if (id !== now.id || steps.length >= STEPS || letters > LETTERS) break;
-    steps.push({ at, path, ...change });
+    steps.push({at, path, ...change});
     old = lines;
   }
   return steps;
@@ -104,10 +104,12 @@ export function unpacked(now, steps) {
  * @param {Doc} doc
  */
 export function summary(doc) {
-  const { studies } = doc, stamps = studies.map(s => stampOf(doc, s, null));
-  const counts = countsOf(stamps).filter(([kind]) => kind !== 'not judged').map(([kind, n]) => `${n} ${kind}`).join(', ');
+  const {studies} = doc, stamps = studies.map(s => stampOf(doc, s, null));
+  const counts =
+    countsOf(stamps).filter(([kind]) => kind !== 'not judged').map(([kind, n]) => `${n} ${kind}`).join(', ');
   return {
-    title: (studies[0] ? studyName(studies[0]) : '') + (studies.length > 1 ? ` and ${counted(studies.length - 1, 'more study', 'more studies')}` : ''),
+    title: (studies[0] ? studyName(studies[0]) : '') +
+      (studies.length > 1 ? ` and ${counted(studies.length - 1, 'more study', 'more studies')}` : ''),
     verdict: (stamps.length === 1 ? stamps[0].text : counts) || 'not judged'
   };
 }
@@ -124,11 +126,11 @@ function draftOf(draft, id) {
   const [past, future] = [texts(draft && draft.past), texts(draft && draft.future)];
   const isPlaced = (/** @type {any} */ text) => /^[1-8KQRBNPkqrbnp/]+ [wb] .*\|/.test(text);
   if (!draft || ![draft.placed, ...past, ...future].every(isPlaced)) return null;
-  return { placed: draft.placed, past, future, anew: Boolean(draft.anew), more: Boolean(draft.more), id };
+  return {placed: draft.placed, past, future, anew: Boolean(draft.anew), more: Boolean(draft.more), id};
 }
 /** @typedef {Pick<Storage, 'getItem' | 'setItem' | 'removeItem' | 'key' | 'length'>} Local */
 /** @param {{local: Local, page: string, now?: () => number}} parts */
-export function makeKeeper({ local, page, now = Date.now }) {
+export function makeKeeper({local, page, now = Date.now}) {
   const own = /** @type {Map<string, string>} */ (new Map()), last = /** @type {Map<string, any[]>} */ (new Map());
   /**
    * @param {string} key
@@ -166,7 +168,10 @@ export function makeKeeper({ local, page, now = Date.now }) {
   /** @returns {Head[]} */
   function list() {
     const keys = /** @type {string[]} */ ([]);
-    try { for (let i = 0; i < local.length; i++) keys.push(local.key(i) || ''); } catch { /* nothing is kept */ }
+    try {
+      for (let i = 0; i < local.length; i++) keys.push(local.key(i) || '');
+    } catch { /* nothing is kept */
+    }
     const heads = keys.filter(key => key.startsWith(HEAD)).map(key => headAt(key.slice(HEAD.length)));
     return /** @type {Head[]} */ (heads.filter(Boolean)).sort((x, y) => y.seen - x.seen);
   }
@@ -178,12 +183,18 @@ export function makeKeeper({ local, page, now = Date.now }) {
   function write(key, text) {
     let others = /** @type {Head[] | null} */ (null);
     for (;;) {
-      try { local.setItem(key, text); return true; } catch { /* the next one's undo */ }
+      try {
+        local.setItem(key, text);
+        return true;
+      } catch { /* the next one's undo */
+      }
       others = others || list().reverse().filter(head => !key.endsWith(head.id));
       const other = others.shift(), body = other && read(BODY + other.id);
       if (!other) return false;
-      const less = body && JSON.stringify({ script: body.script, past: [], future: [] });
-      try { if (less) local.setItem(BODY + other.id, less); } catch { return false; }
+      const less = body && JSON.stringify({script: body.script, past: [], future: []});
+      try {
+        if (less) local.setItem(BODY + other.id, less);
+      } catch { return false; }
     }
   }
   /**
@@ -192,7 +203,10 @@ export function makeKeeper({ local, page, now = Date.now }) {
    */
   function placeOf(id) {
     const place = own.get(id) || id, head = headAt(place);
-    if (head && head.page !== page) { own.set(id, freshId()); last.delete(id); }
+    if (head && head.page !== page) {
+      own.set(id, freshId());
+      last.delete(id);
+    }
     return own.get(id) || id;
   }
   return {
@@ -216,9 +230,8 @@ export function makeKeeper({ local, page, now = Date.now }) {
       });
       const changed = !same && local.getItem(BODY + place) !== body,
             drawn = JSON.stringify(draft) !== JSON.stringify(old && old.draft);
-      const { title, verdict } = doc.lines.length || !draft ?
-          summary(doc) :
-          { title: `Set-up: ${control(draft.placed)}`, verdict: '' };
+      const {title, verdict} =
+        doc.lines.length || !draft ? summary(doc) : {title: `Set-up: ${control(draft.placed)}`, verdict: ''};
       const head = {
         page,
         time: changed || drawn || !old ? now() : old.time,
@@ -247,18 +260,21 @@ export function makeKeeper({ local, page, now = Date.now }) {
             script = body && typeof body.script === 'string' ? body.script : '';
       if (!head) return null;
       own.set(id, copy ? freshId() : id);
-      if (!copy) write(HEAD + id, JSON.stringify({ ...head, page, seen: now() }));
-      const lines = script ? script.split('\n') : [], { at, path, name, note } = head;
-      const doc = /** @type {Doc} */ ({ lines, studies: [], refused: [], at, path, name, note, id, judged: false });
+      if (!copy) write(HEAD + id, JSON.stringify({...head, page, seen: now()}));
+      const lines = script ? script.split('\n') : [], {at, path, name, note} = head;
+      const doc = /** @type {Doc} */ ({lines, studies: [], refused: [], at, path, name, note, id, judged: false});
       return {
         head,
         history:
-            { now: doc, past: unpacked(doc, body && body.past).reverse(), future: unpacked(doc, body && body.future) }
+          {now: doc, past: unpacked(doc, body && body.past).reverse(), future: unpacked(doc, body && body.future)}
       };
     },
     /** @param {string} id */
     remove(id) {
-      try { for (const key of [HEAD + id, BODY + id]) local.removeItem(key); } catch { /* it was not kept */ }
+      try {
+        for (const key of [HEAD + id, BODY + id]) local.removeItem(key);
+      } catch { /* it was not kept */
+      }
     },
     /** @param {string} id */
     forget(id) { last.delete(id); },

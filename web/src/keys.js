@@ -1,16 +1,16 @@
 // @ts-check
 // What keys do.
-import { $ } from './dom.js';
-import { go, goStudy, redo, undo } from './actions.js';
-import { app, doc, node } from './state.js';
-import { flip, focusBoard, showBoard } from './board.js';
-import { closeChoice, setupKey } from './board_input.js';
-import { close } from './documents_view.js';
-import { close as closeEarlier } from './earlier_view.js';
-import { close as closeFinding } from './finding_view.js';
-import { endOf, remove } from './node_view.js';
-import { draftFen, stepDraft } from './setup.js';
-import { hideSurvey } from './survey.js';
+import {$} from './dom.js';
+import {go, goStudy, redo, undo} from './actions.js';
+import {app, doc, node} from './state.js';
+import {flip, focusBoard, showBoard} from './board.js';
+import {closeChoice, setupKey} from './board_input.js';
+import {close} from './documents_view.js';
+import {close as closeEarlier} from './earlier_view.js';
+import {close as closeFinding} from './finding_view.js';
+import {endOf, remove} from './node_view.js';
+import {draftFen, stepDraft} from './setup.js';
+import {hideSurvey} from './survey.js';
 
 /** @param {number} d */
 function neighbour(d) {
@@ -75,7 +75,10 @@ function pressed(e) {
   if (setupKey(e)) return e.preventDefault();
   if (e.key === 'Escape') return escaped();
   if (ctrl || e.altKey || target.closest('.choose, .panel')) return;
-  if (e.key === 'f') { e.preventDefault(); return flip(); }
+  if (e.key === 'f') {
+    e.preventDefault();
+    return flip();
+  }
   if (e.key === 'Enter' && app.setup && !target.closest('button, summary, a')) return start(e);
   if (app.setup || !n || !KEYS[e.key] || (/^Page/.test(e.key) && doc().studies.length < 2)) return;
   e.preventDefault();

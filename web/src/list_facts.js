@@ -1,9 +1,9 @@
 // @ts-check
 // The facts of all studies of a script, found one after the other while the user rests, and kept by their lines.
-import { counting } from './actions.js';
-import { app, doc, services, PAGES } from './state.js';
-import { readReview } from './parse_answers.js';
-import { editsTo, fensOf, toText } from './script.js';
+import {counting} from './actions.js';
+import {app, doc, services, PAGES} from './state.js';
+import {readReview} from './parse_answers.js';
+import {editsTo, fensOf, toText} from './script.js';
 /** @typedef {import('./types.js').Doc} Doc @typedef {import('./types.js').Review} Review */
 
 const found = /** @type {Map<string, Review | null>} */ (new Map()), MOST = 3000, MOST_UNWANTED = 200;
@@ -12,25 +12,28 @@ const found = /** @type {Map<string, Review | null>} */ (new Map()), MOST = 3000
  * @param {Doc} d
  */
 const textsOf = d => d.studies.map(s => (s.verdict ? toText(editsTo(d.lines, s)) : ''));
-let last = /** @type {{studies: any[] | null, known: number, reviews: (Review | null)[]}} */ ({ studies: null, known: 0, reviews: [] });
+let last = /** @type {{studies: any[] | null, known: number, reviews: (Review | null)[]}} */ (
+  {studies: null, known: 0, reviews: []});
 /**
  * The facts of each study, as far as they are known: the same list as long as nothing was added.
  * @param {Doc} d
  */
 export function listed(d) {
-  if (last.studies !== d.studies || last.known !== found.size) last = { studies: d.studies, known: found.size, reviews: textsOf(d).map(text => found.get(text) || null) };
+  if (last.studies !== d.studies || last.known !== found.size)
+    last = {studies: d.studies, known: found.size, reviews: textsOf(d).map(text => found.get(text) || null)};
   return last.reviews;
 }
 const pause = (/** @type {number} */ ms) => new Promise(on => setTimeout(on, ms));
 /** @param {string} text */
 async function find(text) {
   await services.tables.load(await services.tables.classesOf(fensOf(text.split('\n'))), services.facts);
-  const { text: facts } = await services.facts.answer('review', text + 'pgn\n', PAGES);
+  const {text: facts} = await services.facts.answer('review', text + 'pgn\n', PAGES);
   if (found.size >= MOST) found.clear();
   found.set(text, readReview(facts));
 }
 /**
- * Finds what is not known yet. Unless the user wants it, it ends where the document changes, and leaves long lists alone.
+ * Finds what is not known yet. Unless the user wants it, it ends where the document changes, and leaves long lists
+ * alone.
  * @param {Doc} d
  * @param {boolean} wanted
  */
@@ -42,7 +45,9 @@ export async function reviewAll(d, wanted) {
       await pause(40);
       if (doc().lines !== d.lines || services.facts.waiting()) return void (stamp === app.stamp && later(d));
     }
-    await find(text).catch(() => { found.set(text, null); });
+    await find(text).catch(() => {
+      found.set(text, null);
+    });
   }
   services.showFacts();
 }

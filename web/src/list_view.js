@@ -1,12 +1,12 @@
 // @ts-check
 // The list of a script's entries with their verdicts: how many of each kind, by which it is filtered, and as a file.
-import { button, download, h } from './dom.js';
-import { goStudy } from './actions.js';
-import { doc, services } from './state.js';
-import { KIND_WORDS, countsOf, csvOf, entriesOf } from './entries.js';
-import { listed, reviewAll } from './list_facts.js';
-import { table } from './review_view.js';
-import { verdictsBefore } from './script.js';
+import {button, download, h} from './dom.js';
+import {goStudy} from './actions.js';
+import {doc, services} from './state.js';
+import {KIND_WORDS, countsOf, csvOf, entriesOf} from './entries.js';
+import {listed, reviewAll} from './list_facts.js';
+import {table} from './review_view.js';
+import {verdictsBefore} from './script.js';
 /** @typedef {import('./entries.js').Entry} Entry */
 
 let filter = '';
@@ -20,26 +20,32 @@ export const listFrom = () => [doc().studies, doc().refused, doc().at, listed(do
 /** @param {Entry} entry */
 function stampView(entry) {
   const s = doc().studies[entry.at], before = s ? verdictsBefore(s) : [];
-  return [h('b', { class: `stamped ${entry.kind.replace(' ', '-')}` }, entry.stamp), before.map(text => h('div', { class: 'note' }, text))];
+  return [
+    h('b', {class: `stamped ${entry.kind.replace(' ', '-')}`}, entry.stamp),
+    before.map(text => h('div', {class: 'note'}, text))
+  ];
 }
 /** The entries in a table, below the numbers of each kind. */
 export function listView() {
   const entries = entriesOf(doc(), listed(doc())), counts = countsOf(entries);
   if (entries.length < 2) return null;
   if (!counts.some(([kind]) => kind === filter)) filter = '';
-  const numbers = new Map(entries.map((entry, i) => [entry, i + 1])), shown = entries.filter(entry => !filter || entry.kind === filter);
+  const numbers = new Map(entries.map((entry, i) => [entry, i + 1])),
+        shown = entries.filter(entry => !filter || entry.kind === filter);
   const number = (/** @type {Entry} */ entry) => {
-    const text = `${numbers.get(entry)}`, props = { class: 'link', 'aria-current': entry.at === doc().at && 'true' };
+    const text = `${numbers.get(entry)}`, props = {class: 'link', 'aria-current': entry.at === doc().at && 'true'};
     return entry.at < 0 ? text : button(text, 'show it', () => goStudy(entry.at), props);
   };
-  const count = (/** @type {[string, number]} */ [kind, n]) => button(`${n} ${KIND_WORDS[kind] || kind}`, 'show these alone', () => filtered(kind),
-    { class: `chip act${filter === kind ? ' on' : ''}`, 'data-kind': kind, 'aria-pressed': `${filter === kind}` });
+  const count = (/** @type {[string, number]} */[kind, n]) =>
+    button(`${n} ${KIND_WORDS[kind] || kind}`, 'show these alone', () => filtered(kind),
+      {class: `chip act${filter === kind ? ' on' : ''}`, 'data-kind': kind, 'aria-pressed': `${filter === kind}`});
   return [
-    h('h2', { id: 'studiesTitle' }, 'Entries and verdicts'),
-    h('p', { class: 'row', role: 'group', 'aria-label': 'Show one kind' }, counts.map(count), h('span', { class: 'gap' }),
-        button('Save list', 'as comma-separated values, with the numbers of duals and missing defences', saveList, { id: 'saveList' })),
+    h('h2', {id: 'studiesTitle'}, 'Entries and verdicts'),
+    h('p', {class: 'row', role: 'group', 'aria-label': 'Show one kind'}, counts.map(count), h('span', {class: 'gap'}),
+      button('Save list', 'as comma-separated values, with the numbers of duals and missing defences', saveList,
+        {id: 'saveList'})),
     table(['No.', 'Title', 'Author', 'Stipulation', 'Verdict'], shown,
-        entry => [number(entry), entry.title, entry.author, entry.aim || '–', stampView(entry)])
+      entry => [number(entry), entry.title, entry.author, entry.aim || '–', stampView(entry)])
   ];
 }
 /** The facts of all studies are found first. */

@@ -1,30 +1,31 @@
 // @ts-check
 // The beginning: workers, what was kept, the bar, files and keys.
-import { $, download } from './dom.js';
-import { makeApi } from './api.js';
-import { arrive, counting, goStudy, judgeAgain, work } from './actions.js';
-import { PAGES, app, doc, services, say, study } from './state.js';
-import { showBoard } from './board.js';
-import { listen } from './board_input.js';
-import { firstDocument, holdLock, keep, local } from './documents.js';
-import { close, openDocuments } from './documents_view.js';
-import { close as closeEarlier } from './earlier_view.js';
-import { close as closeFinding, openFinding, startFinding } from './finding_view.js';
-import { makeCore } from './engine.js';
-import { back, forth, listenToKeys } from './keys.js';
-import { savedGames } from './notes.js';
-import { fensOf, gameLines, toText, savedScript } from './script.js';
-import { begin, closeSetup, judgeDraft, openSetup } from './setup.js';
-import { bytesOf } from './packed.js';
-import { makeReaders } from './file_readers.js';
-import { makeTables } from './tables.js';
-import { show, showFacts, showJudged, showProgress, watch } from './show.js';
-import { makeStore } from './store.js';
-import { openFile, openText } from './opening.js';
-import { counted, reason } from './words.js';
-import { refusalIn } from './parse_answers.js';
+import {$, download} from './dom.js';
+import {makeApi} from './api.js';
+import {arrive, counting, goStudy, judgeAgain, work} from './actions.js';
+import {PAGES, app, doc, services, say, study} from './state.js';
+import {showBoard} from './board.js';
+import {listen} from './board_input.js';
+import {firstDocument, holdLock, keep, local} from './documents.js';
+import {close, openDocuments} from './documents_view.js';
+import {close as closeEarlier} from './earlier_view.js';
+import {close as closeFinding, openFinding, startFinding} from './finding_view.js';
+import {makeCore} from './engine.js';
+import {back, forth, listenToKeys} from './keys.js';
+import {savedGames} from './notes.js';
+import {fensOf, gameLines, toText, savedScript} from './script.js';
+import {begin, closeSetup, judgeDraft, openSetup} from './setup.js';
+import {bytesOf} from './packed.js';
+import {makeReaders} from './file_readers.js';
+import {makeTables} from './tables.js';
+import {show, showFacts, showJudged, showProgress, watch} from './show.js';
+import {makeStore} from './store.js';
+import {openFile, openText} from './opening.js';
+import {counted, reason} from './words.js';
+import {refusalIn} from './parse_answers.js';
 
-// ---- the module, in the form that this browser can run; it stands after this script, so that tables are read while it comes
+// ---- the module, in the form that this browser can run; it stands after this script, so that tables are read while
+// it comes
 const whole = new Promise(on => document.addEventListener('DOMContentLoaded', on));
 /**
  * @param {string} id
@@ -43,13 +44,22 @@ async function compile() {
   return WebAssembly.compile(await unpacked(WebAssembly.validate(MEMORY64) && $('module64') ? 'module64' : 'module32'));
 }
 const compiled = () => module = module || compile();
-const source = URL.createObjectURL(new Blob([$('workerSource').textContent], { type: 'text/javascript' }));
+const source = URL.createObjectURL(new Blob([$('workerSource').textContent], {type: 'text/javascript'}));
 const spawn = () => makeCore(() => new Worker(source), compiled), readers = makeReaders(() => new Worker(source));
 
 const store = makeStore();
 services.core = spawn();
 services.facts = spawn();
-services.tables = makeTables({ core: services.core, spawn, readers, store, tell: p => { app.progress = p; showProgress(); } });
+services.tables = makeTables({
+  core: services.core,
+  spawn,
+  readers,
+  store,
+  tell: p => {
+    app.progress = p;
+    showProgress();
+  }
+});
 services.show = show;
 services.showFacts = showFacts;
 services.showJudged = showJudged;
@@ -66,7 +76,7 @@ function fileName(ending) {
 }
 /** @param {File[]} files */
 const openTables = files => work(async () => {
-  const { taken, bad, kept } = await services.tables.open(files);
+  const {taken, bad, kept} = await services.tables.open(files);
   const where = kept ? ' and kept in this browser' : ', for as long as this page stands open';
   const opened = taken.length ? [`${counted(taken.length, 'table')} opened${where}`] : [];
   say('board', [...opened, ...bad].join('; ') + '.', !bad.length);
@@ -76,14 +86,16 @@ const openTables = files => work(async () => {
 });
 /** Those that the script needs, else all that are kept, as downloads one after the other. */
 const saveTables = () => work(async () => {
-  const kept = new Set(await store.names()), need = (await services.tables.classesOf(fensOf(doc().lines))).filter(name => kept.has(name)),
+  const kept = new Set(await store.names()),
+        need = (await services.tables.classesOf(fensOf(doc().lines))).filter(name => kept.has(name)),
         names = need.length ? need : [...kept];
   for (const name of names) {
     const file = await store.get(name);
     if (file) download(name + '.dtm', file);
     await new Promise(on => setTimeout(on, 150));
   }
-  say('board', names.length ? `${counted(names.length, 'table')} saved: ${names.join(' ')}.` : 'No table is kept yet.', true);
+  say('board', names.length ? `${counted(names.length, 'table')} saved: ${names.join(' ')}.` : 'No table is kept yet.',
+    true);
   show();
 });
 
@@ -112,11 +124,17 @@ on('saveScript', () => work(async () => {
   download(fileName('.script'), savedScript(doc(), classes));
 }));
 on('savePgn', () => download(fileName('.pgn'), savedGames(doc())));
-addEventListener('beforeprint', () => { for (const more of document.querySelectorAll('button.more')) /** @type {HTMLElement} */ (more).click(); });
-on('print', () => { if (app.setup) closeSetup(); window.print(); });
+addEventListener('beforeprint', () => {
+  for (const more of document.querySelectorAll('button.more')) /** @type {HTMLElement} */
+    (more).click();
+});
+on('print', () => {
+  if (app.setup) closeSetup();
+  window.print();
+});
 /** The printed pages of all studies. */
 const saveReport = () => work(async () => {
-  const { lines } = doc();
+  const {lines} = doc();
   await services.tables.load(await services.tables.classesOf(fensOf(lines)), services.facts);
   const answer = await services.facts.answer('report', toText(gameLines(doc())), PAGES);
   if (answer.ended === 'done') return download(fileName('.html'), answer.text);
@@ -131,9 +149,12 @@ on('theme', () => theme(!document.documentElement.classList.contains('dark')));
 on('before', () => goStudy(doc().at - 1));
 on('after', () => goStudy(doc().at + 1));
 let byPointer = false;
-for (const kind of ['pointerdown', 'keydown']) $('studies').addEventListener(kind, () => { byPointer = kind === 'pointerdown'; });
+for (const kind of ['pointerdown', 'keydown'])
+  $('studies').addEventListener(kind, () => {
+    byPointer = kind === 'pointerdown';
+  });
 $('studies').addEventListener('change', (/** @type {any} */ e) => {
-  if (byPointer) e.target.blur();      // the arrow keys walk the tree again
+  if (byPointer) e.target.blur();  // the arrow keys walk the tree again
   goStudy(Number(e.target.value));
 });
 $('file').addEventListener('change', (/** @type {any} */ e) => {
@@ -141,19 +162,30 @@ $('file').addEventListener('change', (/** @type {any} */ e) => {
   e.target.value = '';
   if (file) openFile(file);
 });
-$('tableFiles').addEventListener('change', (/** @type {any} */ e) => { const files = [...e.target.files]; e.target.value = ''; openTables(files); });
+$('tableFiles').addEventListener('change', (/** @type {any} */ e) => {
+  const files = [...e.target.files];
+  e.target.value = '';
+  openTables(files);
+});
 /** @param {boolean} dark */
 function theme(dark, kept = true) {
   document.documentElement.classList.toggle('dark', dark);
-  if (kept) try { local.setItem('studyboardDark', dark ? '1' : ''); } catch { /* for this visit */ }
+  if (kept) try {
+      local.setItem('studyboardDark', dark ? '1' : '');
+    } catch { /* for this visit */
+    }
 }
-document.addEventListener('dragover', e => { e.preventDefault(); document.body.classList.add('dropping'); });
+document.addEventListener('dragover', e => {
+  e.preventDefault();
+  document.body.classList.add('dropping');
+});
 document.addEventListener('dragleave', () => document.body.classList.remove('dropping'));
 document.addEventListener('drop', e => {
   e.preventDefault();
   document.body.classList.remove('dropping');
   const files = e.dataTransfer ? [...e.dataTransfer.files] : [], tables = files.filter(f => /\.dtm$/i.test(f.name));
-  if (tables.length) openTables(tables); else if (files.length) openFile(files[0]);
+  if (tables.length) openTables(tables);
+  else if (files.length) openFile(files[0]);
 });
 
 // ---- the beginning
@@ -162,7 +194,10 @@ async function openHash() {
   if (!m) return false;
   history.replaceState(null, '', location.pathname + location.search);
   let text = m[1];
-  try { text = decodeURIComponent(m[1].replace(/\+/g, ' ')); } catch { /* as it stands */ }
+  try {
+    text = decodeURIComponent(m[1].replace(/\+/g, ' '));
+  } catch { /* as it stands */
+  }
   await openText(text, 'board');
   return true;
 }
@@ -173,12 +208,12 @@ async function start() {
   watch();
   const dark = local.getItem('studyboardDark');
   theme(dark === null ? matchMedia('(prefers-color-scheme: dark)').matches : dark === '1', false);
-  const { kept, draft } = await firstDocument();
+  const {kept, draft} = await firstDocument();
   if (kept) {
     showBoard();
     await work(() => arrive(kept.history));
     // Where the program did not run at all the script is shown as it is, and can be saved.
-    if (!doc().id) app.history = { ...kept.history, now: { ...kept.history.now, judged: true } };
+    if (!doc().id) app.history = {...kept.history, now: {...kept.history.now, judged: true}};
   }
   if (draft) begin(draft);
   show();

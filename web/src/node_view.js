@@ -1,22 +1,24 @@
 // @ts-check
 // Below the board: the way through the tree, and the legal moves of the node by what each leaves.
-import { button, h } from './dom.js';
-import { control, other, sideOf, squareName } from './fen.js';
-import { change, go } from './actions.js';
-import { app, doc, node, services, say } from './state.js';
-import { flip } from './board.js';
-import { insert } from './board_input.js';
-import { earlierButton } from './earlier_view.js';
-import { promoteNode, removeNode } from './edits.js';
-import { nodeAt } from './parse_answers.js';
-import { openSetup } from './setup.js';
-import { typedMoves as movesIn } from './typed.js';
-import { counted, markMeaning, markSign, moveName, valueSign, valueText, zugzwangText } from './words.js';
+import {button, h} from './dom.js';
+import {control, other, sideOf, squareName} from './fen.js';
+import {change, go} from './actions.js';
+import {app, doc, node, services, say} from './state.js';
+import {flip} from './board.js';
+import {insert} from './board_input.js';
+import {earlierButton} from './earlier_view.js';
+import {promoteNode, removeNode} from './edits.js';
+import {nodeAt} from './parse_answers.js';
+import {openSetup} from './setup.js';
+import {typedMoves as movesIn} from './typed.js';
+import {counted, markMeaning, markSign, moveName, valueSign, valueText, zugzwangText} from './words.js';
 /** @typedef {import('./types.js').TreeNode} TreeNode @typedef {import('./types.js').Move} Move */
 /** @typedef {import('./types.js').Study} Study */
 
 /** @param {TreeNode | null} n */
-const to = n => () => { if (n) go(n.path); };
+const to = n => () => {
+  if (n) go(n.path);
+};
 /** @param {TreeNode} n */
 export function endOf(n) {
   let end = n;
@@ -44,15 +46,18 @@ export function navView(n) {
     value: typedOr('san', ''),
     onchange: (/** @type {any} */ e) => typedMoves(e.target.value)
   });
-  return [h('div', { class: 'group' }, button('«', 'to the start (Home)', to(root), { id: 'first', disabled: !up, 'aria-label': 'To the start' }),
-    button('‹', 'back (←)', to(up), { id: 'back', disabled: !up, 'aria-label': 'Back' }),
-    button('›', 'on (→)', to(next), { id: 'on', disabled: !next, 'aria-label': 'On' }),
-    button('»', 'to the end (End)', to(endOf(n)), { id: 'end', disabled: !next, 'aria-label': 'To the end' }),
-    button('⇅', 'turn the board (f)', flip, { id: 'flip', 'aria-label': 'Turn the board' })),
-  input,
-  button('Delete', 'this move and all below it (Delete)', () => remove(n.path), { id: 'delete', disabled: !up }),
-  button('Promote', 'this move one place up among its variations', () => promote(n), { id: 'promote', disabled: !up || up.children[0] === n }),
-  button('Set up', 'change the position', () => openSetup(false), { id: 'setUp' })];
+  return [
+    h('div', {class: 'group'},
+      button('«', 'to the start (Home)', to(root), {id: 'first', disabled: !up, 'aria-label': 'To the start'}),
+      button('‹', 'back (←)', to(up), {id: 'back', disabled: !up, 'aria-label': 'Back'}),
+      button('›', 'on (→)', to(next), {id: 'on', disabled: !next, 'aria-label': 'On'}),
+      button('»', 'to the end (End)', to(endOf(n)), {id: 'end', disabled: !next, 'aria-label': 'To the end'}),
+      button('⇅', 'turn the board (f)', flip, {id: 'flip', 'aria-label': 'Turn the board'})),
+    input, button('Delete', 'this move and all below it (Delete)', () => remove(n.path), {id: 'delete', disabled: !up}),
+    button('Promote', 'this move one place up among its variations', () => promote(n),
+      {id: 'promote', disabled: !up || up.children[0] === n}),
+    button('Set up', 'change the position', () => openSetup(false), {id: 'setUp'})
+  ];
 }
 /**
  * Both squares of a move that is written with them, as `c7c8Q`.
@@ -62,16 +67,22 @@ const squares = san => (san || '').replace(/^[KQRBN]|[+#!?=x]/g, '');
 /** @param {string} text */
 async function typedMoves(text) {
   const sans = movesIn(text), [first] = sans,
-        named = app.view &&
-      app.view.moves.find(m => squareName(m.from) + squareName(m.to) + m.promoted === squares(first));
+        named =
+          app.view && app.view.moves.find(m => squareName(m.from) + squareName(m.to) + m.promoted === squares(first));
   if (!sans.length) return;
   await insert(doc().path, named ? [named.san, ...sans.slice(1)] : sans);
-  if (app.say) { Object.assign(app.say, { field: 'san', typed: text }); services.show(); }
+  if (app.say) {
+    Object.assign(app.say, {field: 'san', typed: text});
+    services.show();
+  }
 }
 /** @param {string} path */
 export function remove(path) {
   const n = node();
-  if (path === 'root' || !n) { say('board', 'The start cannot be deleted; choose a move.'); return services.show(); }
+  if (path === 'root' || !n) {
+    say('board', 'The start cannot be deleted; choose a move.');
+    return services.show();
+  }
   return change(now => {
     const s = now.studies[now.at], found = app.view ? nodeAt(app.view.root, path) : null;
     return s && found ? removeNode(now.lines, s, found) : null;
@@ -81,22 +92,25 @@ export function remove(path) {
  * @param {TreeNode} n
  * @param {boolean} [front]
  */
-export const promote = (n, front = false) => change(now => (now.studies[now.at] ? promoteNode(now.lines, now.studies[now.at], n, front) : null));
+export const promote = (n, front = false) =>
+  change(now => (now.studies[now.at] ? promoteNode(now.lines, now.studies[now.at], n, front) : null));
 
 /**
  * @param {Study} s
  * @param {TreeNode} n
  */
 export function hereView(s, n) {
-  const view = app.view, mover = sideOf(n.fen), over = view ? view.over : '', meaning = markMeaning(n, s.aim ? s.aim.hero : undefined);
-  const caption =
-      h('p', {class: 'caption'}, h('b', {id: 'value'}, `${n.parent ? 'After ' + moveName(n) : 'At the start'}: ${valueText(mover, n.value)}`),
-        meaning && h('span', {class: 'mark ' + n.mark}, meaning),
-        n.zugzwang && h('span', {class: 'tag', title: zugzwangText(n.zugzwang)}, 'mutual zugzwang'), h('br', {}),
-        h('small', {},
-          over ? `${mover} is ${over === 'mate' ? 'mated' : 'stalemated'}` : `${mover} to move, ${counted(view ? view.moves.length : 0, 'legal move')}`,
-          ' · ', control(n.fen)));
-  return [caption, movesView(s, n), !n.parent && h('p', { class: 'act' }, earlierButton())];
+  const view = app.view, mover = sideOf(n.fen), over = view ? view.over : '',
+        meaning = markMeaning(n, s.aim ? s.aim.hero : undefined);
+  const caption = h('p', {class: 'caption'},
+    h('b', {id: 'value'}, `${n.parent ? 'After ' + moveName(n) : 'At the start'}: ${valueText(mover, n.value)}`),
+    meaning && h('span', {class: 'mark ' + n.mark}, meaning),
+    n.zugzwang && h('span', {class: 'tag', title: zugzwangText(n.zugzwang)}, 'mutual zugzwang'), h('br', {}),
+    h('small', {},
+      over ? `${mover} is ${over === 'mate' ? 'mated' : 'stalemated'}`
+           : `${mover} to move, ${counted(view ? view.moves.length : 0, 'legal move')}`,
+      ' · ', control(n.fen)));
+  return [caption, movesView(s, n), !n.parent && h('p', {class: 'act'}, earlierButton())];
 }
 /**
  * All legal moves, by outcome, the best first; those of the tree are bold.
@@ -105,11 +119,14 @@ export function hereView(s, n) {
  */
 function movesView(s, n) {
   const mover = sideOf(n.fen), view = app.view;
-  const names = /** @type {[string, string][]} */ ([['loss', `${mover} wins`], ['draw', 'Draw'], ['win', `${other(mover)} wins`]]);
-  const key = (/** @type {Move} */ m) => (m.value.kind === 'loss' ? m.value.n : m.value.kind === 'draw' ? 0 : -m.value.n);
-  return h('div', { class: 'moves', role: 'group', 'aria-label': 'Legal moves' }, ...names.map(([kind, name]) => {
+  const names =
+    /** @type {[string, string][]} */ ([['loss', `${mover} wins`], ['draw', 'Draw'], ['win', `${other(mover)} wins`]]);
+  const key = (/** @type {Move} */ m) => (m.value.kind === 'loss' ? m.value.n
+      : m.value.kind === 'draw'                                   ? 0
+                                                                  : -m.value.n);
+  return h('div', {class: 'moves', role: 'group', 'aria-label': 'Legal moves'}, ...names.map(([kind, name]) => {
     const list = (view ? view.moves : []).filter(m => m.value.kind === kind).sort((x, y) => key(x) - key(y));
-    return list.length > 0 && h('p', { class: 'chips' }, h('span', {}, name), list.map(m => chip(s, n, m)));
+    return list.length > 0 && h('p', {class: 'chips'}, h('span', {}, name), list.map(m => chip(s, n, m)));
   }));
 }
 /**
@@ -133,5 +150,5 @@ function chip(s, n, m) {
     'aria-label': title,
     onclick: () => insert(n.path, [m.san])
   },
-      m.san, h('b', {}, sign), s.aim && h('sub', {}, valueSign(s.aim.hero, after, m.value)));
+    m.san, h('b', {}, sign), s.aim && h('sub', {}, valueSign(s.aim.hero, after, m.value)));
 }

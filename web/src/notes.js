@@ -1,8 +1,8 @@
 // @ts-check
-// What a PGN says beside its moves - comments, NAGs, tags that a script has no place for - kept as remarks of the script,
-// each at the moves that lead to it, and written into the saved PGN again where these moves still stand there.
-import { isKnown } from './edits.js';
-import { TAGS } from './script.js';
+// What a PGN says beside its moves - comments, NAGs, tags that a script has no place for - kept as remarks of the
+// script, each at the moves that lead to it, and written into the saved PGN again where these moves still stand there.
+import {isKnown} from './edits.js';
+import {TAGS} from './script.js';
 /** @typedef {import('./types.js').Study} Study @typedef {import('./types.js').Script} Script */
 
 const OWN_TAGS = new Set([...TAGS, 'Result', 'FEN', 'SetUp']), MOST = 900;
@@ -10,9 +10,11 @@ const TOKEN = /\{([^}]*)\}|;([^\n]*)|(\$\d+)|([()])|([!?]{1,2})|([^\s(){};$!?]+)
 /** @param {string} text */
 const oneLine = text => text.replace(/\s+/g, ' ').trim();
 /** @param {string} symbol */
-const plain = symbol => symbol.replace(/^\d+\.+/, '').replace(/[+#]+$/, '').replace(/[x:=]/g, '').replace(/e\.?p\.?$/, '');
-const RESULT = /^(1-0|0-1|1\/2-1\/2|1\/2|\*)$/, SIGNS = /** @type {Record<string, string>} */ ({ '!': '$1', '?': '$2', '!!': '$3', '??': '$4', '!?': '$5', '?!': '$6',
-  '=': '$10', '+-': '$18', '-+': '$19' });
+const plain = symbol =>
+  symbol.replace(/^\d+\.+/, '').replace(/[+#]+$/, '').replace(/[x:=]/g, '').replace(/e\.?p\.?$/, '');
+const RESULT = /^(1-0|0-1|1\/2-1\/2|1\/2|\*)$/,
+      SIGNS = /** @type {Record<string, string>} */ (
+        {'!': '$1', '?': '$2', '!!': '$3', '??': '$4', '!?': '$5', '?!': '$6', '=': '$10', '+-': '$18', '-+': '$19'});
 /**
  * The moves of a game, one after the other: for each token the moves from the start that lead to it.
  * @param {string} movetext
@@ -23,11 +25,16 @@ function walk(movetext, tell) {
   let at = /** @type {string[]} */ ([]), before = at;
   for (const m of movetext.matchAll(TOKEN)) {
     const [token, brace, line, nag, bracket, sign, symbol] = m, end = (m.index || 0) + token.length;
-    if (bracket === '(') { outer.push([at, before]); at = before; } else if (bracket === ')') [at, before] = outer.pop() || [at, before];
+    if (bracket === '(') {
+      outer.push([at, before]);
+      at = before;
+    } else if (bracket === ')') [at, before] = outer.pop() || [at, before];
     else if (nag || sign) tell('nag', nag || SIGNS[sign] || '', at, end);
     else if (brace !== undefined || line !== undefined) tell('comment', oneLine(brace ?? line), at, end);
     else if (symbol && SIGNS[symbol]) tell('nag', SIGNS[symbol], at, end);
-    else if (symbol && RESULT.test(symbol)) { if (!outer.length) return; } else if (symbol && /[a-hO0]/.test(plain(symbol))) {
+    else if (symbol && RESULT.test(symbol)) {
+      if (!outer.length) return;
+    } else if (symbol && /[a-hO0]/.test(plain(symbol))) {
       [before, at] = [at, [...at, plain(symbol)]];
       tell('move', symbol, at, end);
     }
@@ -48,11 +55,15 @@ function parts(game) {
  * @param {string} game
  */
 export function namesOf(game) {
-  const [tags] = parts(game), text = (/** @type {string} */ name) => (tags[name] || '').replace(/\\(["\\])/g, '$1').trim();
-  return ['Event', 'White'].filter(name => isKnown(text(name))).map(name => `# its ${name} was: ${text(name).slice(0, 80)}`);
+  const [tags] = parts(game),
+        text = (/** @type {string} */ name) => (tags[name] || '').replace(/\\(["\\])/g, '$1').trim();
+  return ['Event', 'White']
+    .filter(name => isKnown(text(name)))
+    .map(name => `# its ${name} was: ${text(name).slice(0, 80)}`);
 }
 /**
- * The games of a PGN, cut as the program cuts them: a line of a tag begins one behind a line of moves, and a second Event.
+ * The games of a PGN, cut as the program cuts them: a line of a tag begins one behind a line of moves, and a second
+ * Event.
  * @param {string} text
  */
 export function gamesIn(text) {
@@ -60,7 +71,10 @@ export function gamesIn(text) {
   let moved = true, event = false;
   for (const line of text.replace(/^\ufeff/, '').replace(/\r\n?/g, '\n').split('\n')) {
     const tag = /^\[(\w+)[ \t]*"/.exec(line), silent = /^\s*$|^[%;]/.test(line);
-    if (!games.length || (tag && (moved || (event && tag[1] === 'Event')))) { games.push([]); moved = event = false; }
+    if (!games.length || (tag && (moved || (event && tag[1] === 'Event')))) {
+      games.push([]);
+      moved = event = false;
+    }
     if (tag) event = event || tag[1] === 'Event';
     else if (!silent) moved = true;
     games[games.length - 1].push(line);
@@ -80,7 +94,8 @@ function partsOf(text) {
   const most = /^[ -~]*$/.test(text) ? MOST / 2 : MOST / 6, out = [''];
   for (const word of text.split(' ')) {
     const last = out[out.length - 1];
-    if (last && last.length + 1 + word.length > most) out.push(word); else out[out.length - 1] = last ? `${last} ${word}` : word;
+    if (last && last.length + 1 + word.length > most) out.push(word);
+    else out[out.length - 1] = last ? `${last} ${word}` : word;
   }
   return out;
 }
@@ -102,14 +117,16 @@ const loose = path => path.split(' ').map(looseMove).join(' ');
  */
 export function remarksOf(game) {
   const [tags, movetext] = parts(game), own = isOwn(movetext), out = /** @type {string[]} */ ([]);
-  for (const [name, text] of Object.entries(tags)) if (!OWN_TAGS.has(name)) out.push(`# tag ${name} ${text}`);
+  for (const [name, text] of Object.entries(tags))
+    if (!OWN_TAGS.has(name)) out.push(`# tag ${name} ${text}`);
   walk(movetext, (kind, text, path) => {
     if (kind === 'move' || !text || (own && (kind === 'nag' ? /^\$[14]$/.test(text) : isOurs(text)))) return;
     for (const part of partsOf(text)) out.push(`# note ${path.join(' ') || '-'}: ${part}`);
   });
   return out.map(short);
 }
-const VERDICT = /^(White|Black) to (win|draw|mate in \d+): /, OURS = /^(draw|mate|(White|Black) mates in \d+)(; dual \d+)?$/;
+const VERDICT = /^(White|Black) to (win|draw|mate in \d+): /,
+      OURS = /^(draw|mate|(White|Black) mates in \d+)(; dual \d+)?$/;
 /** @param {string} comment */
 const isOurs = comment => VERDICT.test(comment) || OURS.test(comment);
 /** @param {string} movetext */
@@ -121,22 +138,29 @@ const isOwn = movetext => VERDICT.test(oneLine((/\{([^}]*)\}/.exec(movetext) || 
  * @param {string[]} remarks
  */
 export function withNotes(game, remarks) {
-  const tags = remarks.map(line => /^# tag (\w+) (.*)$/.exec(line)).filter(Boolean), notes = /** @type {Map<string, string[]>} */ (new Map());
+  const tags = remarks.map(line => /^# tag (\w+) (.*)$/.exec(line)).filter(Boolean),
+        notes = /** @type {Map<string, string[]>} */ (new Map());
   for (const line of remarks) {
     const m = /^# note ([^:]*): (.*)$/.exec(line), key = m && (m[1] === '-' ? '' : m[1]);
     if (m && key !== null) notes.set(key, [...(notes.get(key) || []), /^\$\d+$/.test(m[2]) ? m[2] : `{${m[2]}}`]);
   }
   if (!tags.length && !notes.size) return game;
-  const cut = game.indexOf('\n\n') + 1, head = game.slice(0, cut), movetext = game.slice(cut), puts = /** @type {Map<number, string[]>} */ (new Map());
+  const cut = game.indexOf('\n\n') + 1, head = game.slice(0, cut), movetext = game.slice(cut),
+        puts = /** @type {Map<number, string[]>} */ (new Map());
   let last = '\n';
   const ends = /** @type {Map<string, number>} */ (new Map());
-  walk(movetext, (kind, _, path, end) => { last = path.join(' '); if (kind === 'move' || ends.has(last) || !last) ends.set(last, end); });
+  walk(movetext, (kind, _, path, end) => {
+    last = path.join(' ');
+    if (kind === 'move' || ends.has(last) || !last) ends.set(last, end);
+  });
   const nearly = new Map([...ends].reverse().map(([key, end]) => [loose(key), end]));
   for (const [key, list] of notes) {
     const end = ends.get(key) ?? nearly.get(loose(key));
     if (end !== undefined) puts.set(end, [...(puts.get(end) || []), ...list]);
   }
-  const text = [...puts].sort(([x], [y]) => y - x).reduce((done, [at, list]) => `${done.slice(0, at)} ${list.join(' ')}${done.slice(at)}`, movetext);
+  const text = [...puts]
+                 .sort(([x], [y]) => y - x)
+                 .reduce((done, [at, list]) => `${done.slice(0, at)} ${list.join(' ')}${done.slice(at)}`, movetext);
   const lines = tags.map(m => `[${/** @type {any} */ (m)[1]} "${/** @type {any} */ (m)[2]}"]\n`).join('');
   return head + lines + '\n' + wrapped(text) + '\n\n';
 }
@@ -148,7 +172,8 @@ function wrapped(text) {
   const lines = [''];
   for (const word of text.trim().split(/\s+/)) {
     const last = lines[lines.length - 1];
-    if (last && last.length + 1 + word.length > 79) lines.push(word); else lines[lines.length - 1] = last ? `${last} ${word}` : word;
+    if (last && last.length + 1 + word.length > 79) lines.push(word);
+    else lines[lines.length - 1] = last ? `${last} ${word}` : word;
   }
   return lines.join('\n');
 }
@@ -163,13 +188,13 @@ function gamesOfStudy(lines, study) {
   return study.games.map(game => withNotes(inOwnLetters(study, game), remarks));
 }
 /** @param {Script} script */
-export const savedGames = ({ lines, studies }) => studies.flatMap(study => gamesOfStudy(lines, study)).join('');
+export const savedGames = ({lines, studies}) => studies.flatMap(study => gamesOfStudy(lines, study)).join('');
 /**
  * A game with the texts of its tags in their own letters.
  * @param {Study} study
  * @param {string} game
  */
-function inOwnLetters({ originals }, game) {
+function inOwnLetters({originals}, game) {
   const own = (/** @type {string} */ name) => originals[name].replace(/["\\]/g, '\\$&');
   return game.replace(/^\[(\w+) ".*"\]$/gm, (tag, name) => (originals[name] ? `[${name} "${own(name)}"]` : tag));
 }

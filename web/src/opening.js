@@ -1,14 +1,14 @@
 // @ts-check
 // A file or a text becomes the document: a script as it stands, a PGN by way of the program.
-import { $, button, h } from './dom.js';
-import { change, counting, opened, work } from './actions.js';
-import { app, doc, services, say } from './state.js';
-import { decoded, documentOf, importNote, leftOutBy, looksLikePgn, notKept, withoutAim } from './imported.js';
-import { freshId } from './keep.js';
-import { gamesIn, namesOf, remarksOf } from './notes.js';
-import { replace } from './history.js';
-import { gamesOf, isCommand, isSilent, linesOf } from './script.js';
-import { aimText, counted, endedReason, readAim } from './words.js';
+import {$, button, h} from './dom.js';
+import {change, counting, opened, work} from './actions.js';
+import {app, doc, services, say} from './state.js';
+import {decoded, documentOf, importNote, leftOutBy, looksLikePgn, notKept, withoutAim} from './imported.js';
+import {freshId} from './keep.js';
+import {gamesIn, namesOf, remarksOf} from './notes.js';
+import {replace} from './history.js';
+import {gamesOf, isCommand, isSilent, linesOf} from './script.js';
+import {aimText, counted, endedReason, readAim} from './words.js';
 
 /** What was opened as a PGN last, so that it can be read again with a stipulation. */
 let source = /** @type {{bytes: Uint8Array, name: string, id: string, waiting: number} | null} */ (null);
@@ -17,7 +17,7 @@ export function checkWhole() {
   const d = doc();
   if (!source || source.id !== d.id || !d.note || !d.judged) return;
   if (decoded(source.bytes).replace(/\r\n/g, '\n') !== gamesOf(d)) return;
-  app.history = replace(app.history, { ...d, note: '', name: source.name.replace(/\.\w+$/, '') });
+  app.history = replace(app.history, {...d, note: '', name: source.name.replace(/\.\w+$/, '')});
   services.keep();
   services.show();
 }
@@ -27,7 +27,8 @@ export function checkWhole() {
  * @param {string} aim      words of a stipulation for games that say none, or nothing
  */
 async function imported(bytes, aim) {
-  const answer = await services.core.ask(aim ? 'import ' + aim : 'import', bytes, 0), lines = /** @type {string[]} */ ([]);
+  const answer = await services.core.ask(aim ? 'import ' + aim : 'import', bytes, 0),
+        lines = /** @type {string[]} */ ([]);
   if (answer.ended !== 'done') throw new Error(endedReason(answer.ended));
   for (let at = 0; at < answer.bytes.length;) {
     const end = answer.bytes.indexOf(10, at), next = end < 0 ? answer.bytes.length : end;
@@ -50,7 +51,9 @@ function withRemarks(lines, text) {
     if (m) game = Number(m[1]);
     const source = games[game - 1];
     if (!source) return [line];
-    return line.startsWith('position ') ? [...remarksOf(source), line] : leftOutBy(line) ? [line, ...namesOf(source)] : [line];
+    return line.startsWith('position ') ? [...remarksOf(source), line]
+      : leftOutBy(line)                 ? [line, ...namesOf(source)]
+                                        : [line];
   });
 }
 /** A position for a game that is there for a tag alone. */
@@ -77,14 +80,17 @@ const checkedName = name => (name ? name.replace(/\.\w+$/, '').replace(/\.checke
  */
 async function openPgn(bytes, where, name, aim = '') {
   let lines = /** @type {string[]} */ ([]);
-  await work(async () => { lines = await imported(bytes, aim); }, where);
+  await work(async () => {
+    lines = await imported(bytes, aim);
+  }, where);
   if (!lines.length) return;
-  source = { bytes, name, id: '', waiting: withoutAim(lines) };
+  source = {bytes, name, id: '', waiting: withoutAim(lines)};
   if (!lines.some(line => line.startsWith('position '))) {
     say(where, `No study was found in this PGN. ${importNote(lines)} Nothing was changed.`);
     return services.show();
   }
-  await take(withRemarks(documentOf(lines), decoded(bytes)), where, checkedName(name), [importNote(lines), notKept(lines)].filter(Boolean).join(' '));
+  await take(withRemarks(documentOf(lines), decoded(bytes)), where, checkedName(name),
+    [importNote(lines), notKept(lines)].filter(Boolean).join(' '));
   source.id = doc().id;
   services.show();
   checkWhole();
@@ -95,8 +101,8 @@ async function openPgn(bytes, where, name, aim = '') {
  * @param {string} where
  * @param {string} name      of its file
  */
-export const openText = (text, where = 'script', name = '') => counting(
-    looksLikePgn(text) ? openPgn(new TextEncoder().encode(text), where, name) : openScript(text, where, name));
+export const openText = (text, where = 'script', name = '') =>
+  counting(looksLikePgn(text) ? openPgn(new TextEncoder().encode(text), where, name) : openScript(text, where, name));
 /**
  * A file, in whatever letters it is written.
  * @param {File} file
@@ -114,12 +120,12 @@ async function openScript(text, where, name) {
   const lines = linesOf(text);
   if (!lines.every(isSilent) && !lines.some(isCommand)) {
     say(where, 'This is neither a script nor a PGN. Nothing was changed.');
-    if (where === 'script') Object.assign(app.say || {}, { field: 'script', typed: text });
+    if (where === 'script') Object.assign(app.say || {}, {field: 'script', typed: text});
     return services.show();
   }
   await take(lines, where, name.replace(/\.\w+$/, ''), where === 'script' ? doc().note : '');
   if (app.say && app.say.where === where && !app.say.good) {
-    Object.assign(app.say, { field: 'script', typed: text });
+    Object.assign(app.say, {field: 'script', typed: text});
     services.show();
   }
 }
@@ -136,11 +142,12 @@ async function take(lines, where, name, note) {
   await change(now => ({
     lines,
     note,
-    ...(where === 'script' ? {} : { name, id }),
+    ...(where === 'script' ? {} : {name, id}),
     at: same ? now.at : 0,
     path: same && lines.length === now.lines.length ? now.path : 'root',
     lenient: true
-  }), where);
+  }),
+    where);
   if (where !== 'script' && doc() !== before) opened(before);
 }
 const AIMS = ['white win', 'white draw', 'black win', 'black draw'];
@@ -152,13 +159,15 @@ export function importView() {
   const file = doc().name ? `${doc().name}.pgn` : 'a file of another name';
   const without = / Left out: /.test(note) ? ', without the games that were left out' : '';
   const [doNot, them] = waiting === 1 ? ['does not', 'it'] : ['do not', 'them'];
-  const aimButton = (/** @type {string} */ words) => button(aimText(readAim(words)),
-    'read the PGN again, with this stipulation where none is said',
-    () => again && counting(openPgn(again.bytes, 'board', again.name, words)), { class: 'chip act', 'data-import': words });
+  const aimButton = (/** @type {string} */ words) =>
+    button(aimText(readAim(words)), 'read the PGN again, with this stipulation where none is said',
+      () => again && counting(openPgn(again.bytes, 'board', again.name, words)),
+      {class: 'chip act', 'data-import': words});
   return [
-    note && (!again || mine) && h('p', { class: 'note', id: 'notKept' }, `${note} Save PGN writes ${file}${without}.`),
+    note && (!again || mine) && h('p', {class: 'note', id: 'notKept'}, `${note} Save PGN writes ${file}${without}.`),
     again && waiting > 0 &&
-      h('p', { class: 'row', id: 'aims', role: 'group', 'aria-label': 'The stipulation of games that say none' },
-        `${counted(waiting, 'game')} of this PGN ${doNot} say what is to be done. Read ${them} as: `, AIMS.map(aimButton))
+      h('p', {class: 'row', id: 'aims', role: 'group', 'aria-label': 'The stipulation of games that say none'},
+        `${counted(waiting, 'game')} of this PGN ${doNot} say what is to be done. Read ${them} as: `,
+        AIMS.map(aimButton))
   ];
 }

@@ -1,6 +1,6 @@
 // @ts-check
 // The core's answers about a study - its view, its review, a survey - read into records.
-import { squareAt } from './fen.js';
+import {squareAt} from './fen.js';
 /** @typedef {import('./types.js').Value} Value @typedef {import('./types.js').TreeNode} TreeNode */
 /** @typedef {import('./types.js').View} View */
 /** @typedef {import('./types.js').Move} Move @typedef {import('./types.js').Review} Review */
@@ -13,8 +13,8 @@ import { squareAt } from './fen.js';
  * @returns {[Value, number]}
  */
 export function readValue(words, at) {
-  if (words[at] === 'draw') return [{ kind: 'draw', n: 0 }, at + 1];
-  return [{ kind: words[at] === 'win' ? 'win' : 'loss', n: Number(words[at + 1]) }, at + 2];
+  if (words[at] === 'draw') return [{kind: 'draw', n: 0}, at + 1];
+  return [{kind: words[at] === 'win' ? 'win' : 'loss', n: Number(words[at + 1])}, at + 2];
 }
 /**
  * `only`, `dual 2` ..
@@ -31,9 +31,9 @@ function readMark(words, at) {
  */
 export function readStipulation(text) {
   const m = /^(White|Black) to (win|draw|mate)(?: in (\d+))?: ([^,]*), (.*)$/.exec(text);
-  if (!m) return { aim: null, verdict: '', start: '' };
-  const aim = /** @type {import('./types.js').Aim} */ ({ hero: m[1], goal: m[2], k: Number(m[3]) || 0 });
-  return { aim, verdict: m[4], start: m[5] };
+  if (!m) return {aim: null, verdict: '', start: ''};
+  const aim = /** @type {import('./types.js').Aim} */ ({hero: m[1], goal: m[2], k: Number(m[3]) || 0});
+  return {aim, verdict: m[4], start: m[5]};
 }
 
 /**
@@ -45,7 +45,7 @@ const rowsOf = text => text.split('\n').filter(Boolean).map(line => line.split('
  * Why an answer has no text, as `error NAME`: its own refusal, or that of a line of the script.
  * @param {{text: string, ended: string}} answer
  */
-export function refusalIn({ text, ended }) {
+export function refusalIn({text, ended}) {
   if (ended === 'refused') return 'error ' + text.trim();
   const line = text.split('\n').find(row => row.startsWith('refused '));
   return line === undefined ? 'error ' + (ended === 'done' ? 'NoStudy' : ended) : line.replace(/^refused \d+/, 'error');
@@ -56,14 +56,19 @@ export function refusalIn({ text, ended }) {
  * @returns {View | null}
  */
 export function readView(text) {
-  const view = /** @type {View} */ (/** @type {unknown} */ ({ fen: '', verdict: '', start: '', aim: null, path: 'root', over: '', moves: [] }));
+  const view = /** @type {View} */ (
+    /** @type {unknown} */ ({fen: '', verdict: '', start: '', aim: null, path: 'root', over: '', moves: []}));
   const nodes = /** @type {Map<string, TreeNode>} */ (new Map());
   for (const line of text.split('\n')) {
-    if (line.startsWith('node ')) { addNode(nodes, line); continue; }
+    if (line.startsWith('node ')) {
+      addNode(nodes, line);
+      continue;
+    }
     const row = line.split(' ');
     if (row[0] === 'study') view.fen = row.slice(1).join(' ');
     else if (row[0] === 'stipulation') Object.assign(view, readStipulation(row.slice(1).join(' ')));
-    else if (row[0] === 'at') [view.path, view.over] = [row[1], /^\d/.test(row[2]) ? '' : /** @type {View['over']} */ (row[2])];
+    else if (row[0] === 'at')
+      [view.path, view.over] = [row[1], /^\d/.test(row[2]) ? '' : /** @type {View['over']} */ (row[2])];
     else if (row[0] === 'move') view.moves.push(readMove(row));
     else if (row[0] === 'zugzwang') {
       const node = nodes.get(row[1]);
@@ -71,7 +76,7 @@ export function readView(text) {
     }
   }
   const root = nodes.get('root');
-  return root ? Object.assign(view, { root }) : null;
+  return root ? Object.assign(view, {root}) : null;
 }
 /**
  * A node of its line: at most ten words, and the position as it stands.
@@ -79,20 +84,36 @@ export function readView(text) {
  * @param {string} line
  */
 function addNode(nodes, line) {
-  const row = line.split(' ', 10), [, path, san, squares] = row, [value, at] = readValue(row, 4), [mark, duals, next] = readMark(row, at);
-  const dot = path.lastIndexOf('.'), parent = path === 'root' ? null : nodes.get(dot < 0 ? 'root' : path.slice(0, dot)) || null;
+  const row = line.split(' ', 10), [, path, san, squares] = row, [value, at] = readValue(row, 4),
+        [mark, duals, next] = readMark(row, at);
+  const dot = path.lastIndexOf('.'),
+        parent = path === 'root' ? null : nodes.get(dot < 0 ? 'root' : path.slice(0, dot)) || null;
   let fenAt = 0;
   for (let i = 0; i < next + 2; i++) fenAt += row[i].length + 1;
-  const node = /** @type {TreeNode} */ (
-      {path, san, ...readSquares(squares), value, mark, duals, faults: Number(row[next + 1]), fen: line.slice(fenAt), zugzwang: '', parent,
-        children: []});
+  const node = /** @type {TreeNode} */ ({
+    path,
+    san,
+    ...readSquares(squares),
+    value,
+    mark,
+    duals,
+    faults: Number(row[next + 1]),
+    fen: line.slice(fenAt),
+    zugzwang: '',
+    parent,
+    children: []
+  });
   nodes.set(path, node);
   if (parent) parent.children.push(node);
 }
 /** @param {string} squares */
 function readSquares(squares) {
-  if (squares === '-') return { from: -1, to: -1, promoted: '' };
-  return { from: squareAt(squares.slice(0, 2)), to: squareAt(squares.slice(2, 4)), promoted: squares.slice(4).toUpperCase() };
+  if (squares === '-') return {from: -1, to: -1, promoted: ''};
+  return {
+    from: squareAt(squares.slice(0, 2)),
+    to: squareAt(squares.slice(2, 4)),
+    promoted: squares.slice(4).toUpperCase()
+  };
 }
 /**
  * @param {string[]} row
@@ -100,7 +121,7 @@ function readSquares(squares) {
  */
 function readMove(row) {
   const [value, at] = readValue(row, 3), [mark, duals, next] = readMark(row, at);
-  return { san: row[1], ...readSquares(row[2]), value, mark, duals, fen: row.slice(next).join(' ') };
+  return {san: row[1], ...readSquares(row[2]), value, mark, duals, fen: row.slice(next).join(' ')};
 }
 
 /**
@@ -139,15 +160,20 @@ export const readReviews = text => text.split(/^(?=study )/m).map(readReview).fi
  * @returns {Review | null}
  */
 export function readReview(text) {
-  const review = /** @type {Review} */ ({ empty: false, waste: '', faults: [], also: [], refuted: [], missing: [], ends: [] });
+  const review =
+    /** @type {Review} */ ({empty: false, waste: '', faults: [], also: [], refuted: [], missing: [], ends: []});
   let found = false;
   for (const row of rowsOf(text)) {
     if (row[0] === 'study') found = true;
     else if (row[0] === 'empty') review.empty = true;
     else if (row[0] === 'waste') review.waste = row.slice(1).join(' ');
-    else if (row[0] === 'fault' || row[0] === 'also' || row[0] === 'refuted' || row[0] === 'missing') addFact(review, row);
-    else if (row[0] === 'play') { const [value, at] = readValue(row, 2); review.ends.push({ path: row[1], value, keeping: 0, of: 0, sans: row.slice(at) }); }
-    else if (row[0] === 'keep') review.ends.push({ path: row[1], value: null, keeping: Number(row[2]), of: Number(row[3]), sans: row.slice(4) });
+    else if (row[0] === 'fault' || row[0] === 'also' || row[0] === 'refuted' || row[0] === 'missing')
+      addFact(review, row);
+    else if (row[0] === 'play') {
+      const [value, at] = readValue(row, 2);
+      review.ends.push({path: row[1], value, keeping: 0, of: 0, sans: row.slice(at)});
+    } else if (row[0] === 'keep')
+      review.ends.push({path: row[1], value: null, keeping: Number(row[2]), of: Number(row[3]), sans: row.slice(4)});
   }
   return found ? review : null;
 }
@@ -157,13 +183,14 @@ export function readReview(text) {
  */
 function addFact(review, row) {
   const [kind, path, san] = row;
-  if (san === 'stalemate') return void review.refuted.push({ path, san, value: null });
+  if (san === 'stalemate') return void review.refuted.push({path, san, value: null});
   const [value, at] = readValue(row, 3);
-  if (kind === 'fault' && row[at] === 'dual') review.faults.push({ path, san, value, kind: 'dual', duals: Number(row[at + 1]), time: Number(row[at + 3]) });
-  else if (kind === 'fault') review.faults.push({ path, san, value, kind: 'mistake', duals: 0, time: 0 });
-  else if (kind === 'also') review.also.push({ path, san, value, time: row[at] === 'time' ? Number(row[at + 1]) : -1 });
-  else if (kind === 'refuted') review.refuted.push({ path, san, value });
-  else review.missing.push({ path, san, value, count: Number(row[at]), answer: row[at + 1] || '' });
+  if (kind === 'fault' && row[at] === 'dual')
+    review.faults.push({path, san, value, kind: 'dual', duals: Number(row[at + 1]), time: Number(row[at + 3])});
+  else if (kind === 'fault') review.faults.push({path, san, value, kind: 'mistake', duals: 0, time: 0});
+  else if (kind === 'also') review.also.push({path, san, value, time: row[at] === 'time' ? Number(row[at + 1]) : -1});
+  else if (kind === 'refuted') review.refuted.push({path, san, value});
+  else review.missing.push({path, san, value, count: Number(row[at]), answer: row[at + 1] || ''});
 }
 
 /**
@@ -173,8 +200,14 @@ function addFact(review, row) {
 export function readSurvey(text) {
   return rowsOf(text).filter(row => /^[a-h][1-8]$/.test(row[0])).map(row => {
     const square = squareAt(row[0]);
-    if (row[1] === '-') return { square, kind: 'none', value: null, count: 0, san: '' };
+    if (row[1] === '-') return {square, kind: 'none', value: null, count: 0, san: ''};
     const [value, at] = readValue(row, 2), kind = /** @type {Stand['kind']} */ (row[1]);
-    return { square, kind, value, count: kind === 'only' ? 1 : Number(row[at]) || 0, san: kind === 'only' ? row[at] || '' : '' };
+    return {
+      square,
+      kind,
+      value,
+      count: kind === 'only' ? 1 : Number(row[at]) || 0,
+      san: kind === 'only' ? row[at] || '' : ''
+    };
   });
 }

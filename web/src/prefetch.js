@@ -1,11 +1,21 @@
 // @ts-check
 // Answers that will soon be wanted are requested ahead: the view that a change leads to, those of the neighbours of a
 // node, and what the moves lead to that the user may be about to make.
-import { LARGE, clearRuns, keepReplies, keepView, keptView, lastRunTime, linesToRun, pause, viewOf } from './answer_cache.js';
-import { insertMoves } from './edits.js';
-import { assumeAccepted, editsTo, fensOf, toText } from './script.js';
-import { app, doc, node, services, study } from './state.js';
-import { holds } from './words.js';
+import {
+  LARGE,
+  clearRuns,
+  keepReplies,
+  keepView,
+  keptView,
+  lastRunTime,
+  linesToRun,
+  pause,
+  viewOf
+} from './answer_cache.js';
+import {insertMoves} from './edits.js';
+import {assumeAccepted, editsTo, fensOf, toText} from './script.js';
+import {app, doc, node, services, study} from './state.js';
+import {holds} from './words.js';
 /** @typedef {import('./types.js').Doc} Doc @typedef {import('./types.js').Change} Change */
 /** @typedef {import('./types.js').Study} Study @typedef {import('./types.js').Move} Move */
 
@@ -13,16 +23,16 @@ import { holds } from './words.js';
 const LONG = 100;
 
 // ---- the view that a change leads to
-let viewing = 0;      // how many views were requested of the second worker
+let viewing = 0;  // how many views were requested of the second worker
 /**
  * The study that a change will lead to, if its lines are accepted.
  * @param {Doc} now
  * @param {Change} wanted
  */
-function studyAfter(now, { lines, at }) {
+function studyAfter(now, {lines, at}) {
   const s = now.studies[now.at];
-  return s && at === undefined ? { ...s, end: s.end + lines.length - now.lines.length } :
-    assumeAccepted(lines).studies[at || 0];
+  return s && at === undefined ? {...s, end: s.end + lines.length - now.lines.length}
+                               : assumeAccepted(lines).studies[at || 0];
 }
 /**
  * The view to which a change will lead is requested before its script is run: of the second worker, unless it is busy
@@ -49,13 +59,13 @@ export async function prefetchView(now, wanted) {
  */
 export async function prefetchNeighbours(text, stamp) {
   const n = node(), row = n && n.parent ? n.parent.children : [], at = n ? row.indexOf(n) : 0;
-  const near = n && text.length < LARGE ?
-    [n.children[0], n.parent, row[at - 1], row[at + 1], ...n.children.slice(1, 4)] : [];
+  const near =
+    n && text.length < LARGE ? [n.children[0], n.parent, row[at - 1], row[at + 1], ...n.children.slice(1, 4)] : [];
   for (const next of near) {
     if (!next) continue;
     await pause(20);
     if (stamp !== app.stamp || app.setup) return;
-    await viewOf(text, next.path).catch(() => {});      // whoever goes there sees why there is none
+    await viewOf(text, next.path).catch(() => {});  // whoever goes there sees why there is none
   }
 }
 

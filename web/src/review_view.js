@@ -1,13 +1,13 @@
 // @ts-check
 // The review: duals in side lines, tries and their refutations, defences that are missing, best play from open ends.
-import { button, h } from './dom.js';
-import { other, sideOf } from './fen.js';
-import { change } from './actions.js';
-import { app } from './state.js';
-import { insertLines } from './edits.js';
-import { depth, nodeAt, written } from './parse_answers.js';
-import { add, alsoView, nodeLink } from './verdict_view.js';
-import { counted, numberedLine, valueSign, valueText, winner, zugzwangText } from './words.js';
+import {button, h} from './dom.js';
+import {other, sideOf} from './fen.js';
+import {change} from './actions.js';
+import {app} from './state.js';
+import {insertLines} from './edits.js';
+import {depth, nodeAt, written} from './parse_answers.js';
+import {add, alsoView, nodeLink} from './verdict_view.js';
+import {counted, numberedLine, valueSign, valueText, winner, zugzwangText} from './words.js';
 /** @typedef {import('./types.js').Study} Study @typedef {import('./types.js').TreeNode} TreeNode */
 /** @typedef {import('./types.js').Review} Review @typedef {import('./types.js').Missing} Missing */
 
@@ -22,10 +22,13 @@ const MOST = 60;
 export function table(head, items, cells) {
   const row = (/** @type {T} */ item) => h('tr', {}, cells(item).map(c => h('td', {}, c)));
   const body = h('tbody', {}, items.slice(0, MOST).map(row)), rest = items.slice(MOST);
-  const all = () => { more.remove(); body.append(...rest.map(row)); };
-  const more = h('button', { type: 'button', class: 'chip act more', onclick: all }, `Show ${rest.length} more`);
-  const heads = h('thead', {}, h('tr', {}, head.map(t => h('th', { scope: 'col' }, t))));
-  return h('div', { class: 'scroll' }, h('table', {}, heads, body), rest.length > 0 && more);
+  const all = () => {
+    more.remove();
+    body.append(...rest.map(row));
+  };
+  const more = h('button', {type: 'button', class: 'chip act more', onclick: all}, `Show ${rest.length} more`);
+  const heads = h('thead', {}, h('tr', {}, head.map(t => h('th', {scope: 'col'}, t))));
+  return h('div', {class: 'scroll'}, h('table', {}, heads, body), rest.length > 0 && more);
 }
 const closed = new Set();
 /**
@@ -35,17 +38,16 @@ const closed = new Set();
  * @param {any} body
  */
 function section(id, title, note, body) {
-  return h(
-      'details', {
-        class: 'facts',
-        id,
-        open: !closed.has(id),
-        ontoggle: (/** @type {any} */ e) => {
-          if (e.target.open) closed.delete(id);
-          else closed.add(id);
-        }
-      },
-      h('summary', {}, title), note && h('p', {class: 'note'}, note), body);
+  return h('details', {
+    class: 'facts',
+    id,
+    open: !closed.has(id),
+    ontoggle: (/** @type {any} */ e) => {
+      if (e.target.open) closed.delete(id);
+      else closed.add(id);
+    }
+  },
+    h('summary', {}, title), note && h('p', {class: 'note'}, note), body);
 }
 /**
  * The nodes of some facts, each once, with its facts.
@@ -57,15 +59,20 @@ function section(id, title, note, body) {
 function byNode(facts, root) {
   const map = /** @type {Map<string, F[]>} */ (new Map());
   for (const fact of facts) map.set(fact.path, [...(map.get(fact.path) || []), fact]);
-  return /** @type {[TreeNode, F[]][]} */ ([...map].map(([path, list]) => [nodeAt(root, path), list]).filter(([n]) => n !== null));
+  return /** @type {[TreeNode, F[]][]} */ (
+    [...map].map(([path, list]) => [nodeAt(root, path), list]).filter(([n]) => n !== null));
 }
 /** @param {Study} s */
 export function reviewView(s) {
   const view = app.view, review = app.review;
   if (!view || !s.aim) return null;
   if (!review)
-    return app.noReview ? h('p', {class: 'note'}, `The facts were not found: ${app.noReview}.`) : h('p', {class: 'note'}, 'The facts are being found …');
-  return [dualsView(s, review, view.root), triesView(s, review, view.root), zugzwangView(view.root), defencesView(s, review, view.root), endsView(review, view.root)];
+    return app.noReview ? h('p', {class: 'note'}, `The facts were not found: ${app.noReview}.`)
+                        : h('p', {class: 'note'}, 'The facts are being found …');
+  return [
+    dualsView(s, review, view.root), triesView(s, review, view.root), zugzwangView(view.root),
+    defencesView(s, review, view.root), endsView(review, view.root)
+  ];
 }
 /**
  * @param {Study} s
@@ -74,7 +81,9 @@ export function reviewView(s) {
  */
 function dualsView(s, review, root) {
   const main = new Set(review.faults.map(f => f.path)), rows = byNode(review.also.filter(a => !main.has(a.path)), root);
-  return rows.length > 0 && section('duals', 'Duals in side lines', null, table(['Move', 'Also'], rows, ([n, list]) => [nodeLink(n), alsoView(s, n, list)]));
+  return rows.length > 0 &&
+    section('duals', 'Duals in side lines', null,
+      table(['Move', 'Also'], rows, ([n, list]) => [nodeLink(n), alsoView(s, n, list)]));
 }
 /**
  * @param {Study} s
@@ -83,27 +92,34 @@ function dualsView(s, review, root) {
  */
 function triesView(s, review, root) {
   const rows = byNode(review.refuted, root).sort((x, y) => depth(x[0]) - depth(y[0])), wrong = s.verdict === 'wrong';
-  return rows.length > 0 && section('tries', wrong ? 'What refutes the moves' : 'Tries and their refutations', null,
-    table([wrong ? 'Move' : 'Try', 'Left', 'Refuted by', 'In the tree'], rows, ([n, list]) => tryView(n, list)));
+  return rows.length > 0 &&
+    section('tries', wrong ? 'What refutes the moves' : 'Tries and their refutations', null,
+      table([wrong ? 'Move' : 'Try', 'Left', 'Refuted by', 'In the tree'], rows, ([n, list]) => tryView(n, list)));
 }
 /**
  * @param {TreeNode} n
  * @param {import('./types.js').Refutation[]} list
  */
 function tryView(n, list) {
-  const given = n.children.map(c => c.san), stalemate = list.some(r => r.value === null), refuting = list.filter(r => r.value !== null).map(r => r.san);
+  const given = n.children.map(c => c.san), stalemate = list.some(r => r.value === null),
+        refuting = list.filter(r => r.value !== null).map(r => r.san);
   const open = refuting.filter(san => !given.includes(san)), one = refuting.length === 1;
-  const cell = stalemate ? 'stalemate' : [open.slice(0, 10).map(san => add(n.path, [san], san)), open.length > 10 && ` and ${open.length - 10} more`,
-    one && !open.length && refuting[0], one ? h('b', {}, ' only') : h('small', {}, ` (${refuting.length} in all)`)];
+  const cell = stalemate ? 'stalemate' : [
+    open.slice(0, 10).map(san => add(n.path, [san], san)), open.length > 10 && ` and ${open.length - 10} more`,
+    one && !open.length && refuting[0], one ? h('b', {}, ' only') : h('small', {}, ` (${refuting.length} in all)`)
+  ];
   return [
-    nodeLink(n), valueText(sideOf(n.fen), n.value), cell, n.children.map(c => c.san + (refuting.includes(c.san) ? '' : ' (does not refute)')).join(' ') || '–'
+    nodeLink(n), valueText(sideOf(n.fen), n.value), cell,
+    n.children.map(c => c.san + (refuting.includes(c.san) ? '' : ' (does not refute)')).join(' ') || '–'
   ];
 }
 /** @param {TreeNode} root */
 function zugzwangView(root) {
   const rows = written(root).filter(n => n.zugzwang);
-  return rows.length > 0 && section('zugzwangs', 'Mutual zugzwangs', 'Whoever is to move there would rather not be.',
-    table(['After', 'What is at stake'], rows, n => [n.parent ? nodeLink(n) : 'the start', zugzwangText(n.zugzwang)]));
+  return rows.length > 0 &&
+    section('zugzwangs', 'Mutual zugzwangs', 'Whoever is to move there would rather not be.',
+      table(
+        ['After', 'What is at stake'], rows, n => [n.parent ? nodeLink(n) : 'the start', zugzwangText(n.zugzwang)]));
 }
 /**
  * @param {Study} s
@@ -112,17 +128,22 @@ function zugzwangView(root) {
  */
 function defencesView(s, review, root) {
   const rows = byNode(review.missing, root), aim = s.aim;
-  const hero = aim ? aim.hero : '', mates = `The small number says in how many moves ${hero} mates after the defence; † ` +
+  const hero = aim ? aim.hero : '',
+        mates = `The small number says in how many moves ${hero} mates after the defence; † ` +
     'lasts at least as long as the longest that is given. ';
   const draws = 'After a defence with = it stays a draw; after one with a small number ' +
     `${hero} even mates, in so many moves. `;
-  const note = (aim ? (aim.goal === 'draw' ? draws : mates) : '') +
-    'A press adds it, with its answer where only one holds.';
+  const note =
+    (aim ? (aim.goal === 'draw' ? draws : mates) : '') + 'A press adds it, with its answer where only one holds.';
   const single = review.missing.filter(d => d.count === 1).length;
-  return rows.length > 0 && section('defences', 'Defences that are not in the tree', note,
-    [single > 1 && h('p', { class: 'act' }, button(`Add all ${single} with one answer`, 'each with its only answer', () => addAll(rows),
-      { class: 'chip act', id: 'addAll' })),
-    table(['After', 'Given', 'Not given, with the answer where only one holds'], rows, ([n, list]) => missingView(s, n, list))]);
+  return rows.length > 0 && section('defences', 'Defences that are not in the tree', note, [
+    single > 1 &&
+      h('p', {class: 'act'},
+        button(`Add all ${single} with one answer`, 'each with its only answer', () => addAll(rows),
+          {class: 'chip act', id: 'addAll'})),
+    table(['After', 'Given', 'Not given, with the answer where only one holds'], rows,
+      ([n, list]) => missingView(s, n, list))
+  ]);
 }
 /**
  * How long a defence lasts: one that draws, for ever.
@@ -136,8 +157,9 @@ const FIRST = 5;
  * @param {TreeNode} n
  * @param {Missing} d
  */
-const isLong = (s, n, d) => s.aim !== null && s.aim.goal !== 'draw' && winner(other(sideOf(n.fen)), d.value) === s.aim.hero &&
-    n.children.length > 0 && d.value.n >= Math.max(...n.children.map(c => c.value.n));
+const isLong = (s, n, d) => s.aim !== null && s.aim.goal !== 'draw' &&
+  winner(other(sideOf(n.fen)), d.value) === s.aim.hero && n.children.length > 0 &&
+  d.value.n >= Math.max(...n.children.map(c => c.value.n));
 /**
  * Those that matter first: that last long, then those with one answer which neither takes nor mates, then by length.
  * @param {Study} s
@@ -145,7 +167,10 @@ const isLong = (s, n, d) => s.aim !== null && s.aim.goal !== 'draw' && winner(ot
  * @param {Missing[]} list
  */
 function byWorth(s, n, list) {
-  const worth = (/** @type {Missing} */ d) => (isLong(s, n, d) ? 0 : d.count === 1 && !/[x#]/.test(d.answer) ? 1 : d.count === 0 ? 2 : 3);
+  const worth = (/** @type {Missing} */ d) => (isLong(s, n, d) ? 0
+      : d.count === 1 && !/[x#]/.test(d.answer)                ? 1
+      : d.count === 0                                          ? 2
+                                                               : 3);
   return [...list].sort((x, y) => worth(x) - worth(y) || lasting(y) - lasting(x));
 }
 /**
@@ -154,11 +179,23 @@ function byWorth(s, n, list) {
  * @param {Missing[]} list
  */
 function missingView(s, n, list) {
-  const sorted = byWorth(s, n, list), view = (/** @type {Missing} */ d) => [defenceView(s, n, d),
-    d.count === 1 ? [' ', h('i', {}, d.answer)] : d.count === 0 ? ' stalemate' : h('small', {}, ` ${d.count} answers`), '; '];
-  const rest = sorted.slice(FIRST), more = h('button', { type: 'button', class: 'chip act more', onclick: () => more.replaceWith(...rest.flatMap(d => view(d)).flat()) },
-    `and ${rest.length} more`);
-  return [nodeLink(n), n.children.map(c => c.san).join(' ') || '–', [...sorted.slice(0, FIRST).map(view), rest.length > 0 && more]];
+  const sorted = byWorth(s, n, list),
+        view = (/** @type {Missing} */ d) => [defenceView(s, n, d),
+          d.count === 1     ? [' ', h('i', {}, d.answer)]
+            : d.count === 0 ? ' stalemate'
+                            : h('small', {}, ` ${d.count} answers`),
+          '; '];
+  const rest = sorted.slice(FIRST),
+        more = h('button', {
+          type: 'button',
+          class: 'chip act more',
+          onclick: () => more.replaceWith(...rest.flatMap(d => view(d)).flat())
+        },
+          `and ${rest.length} more`);
+  return [
+    nodeLink(n), n.children.map(c => c.san).join(' ') || '–',
+    [...sorted.slice(0, FIRST).map(view), rest.length > 0 && more]
+  ];
 }
 /**
  * All defences that one answer alone meets, each with it.
@@ -169,11 +206,11 @@ const addAll = rows => change(now => {
   if (!s || !view) return null;
   let lines = now.lines;
   for (const [n, list] of rows) {
-    const study = { ...s, last: s.last + lines.length - now.lines.length };
+    const study = {...s, last: s.last + lines.length - now.lines.length};
     const sans = list.filter(d => d.count === 1).map(d => [d.san, d.answer]);
     lines = insertLines(lines, study, view.root, n.path, sans).lines;
   }
-  return { lines, path: now.path };
+  return {lines, path: now.path};
 });
 /**
  * @param {Study} s
@@ -184,34 +221,38 @@ function defenceView(s, n, d) {
   const after = other(sideOf(n.fen)), aim = s.aim;
   if (!aim) return null;
   const long = isLong(s, n, d);
-  const [sans, what] = d.count === 1 ? [[d.san, d.answer], `add ${d.san} with its only answer ${d.answer}`] :
-    [[d.san], `add ${d.san}`];
+  const [sans, what] =
+    d.count === 1 ? [[d.san, d.answer], `add ${d.san} with its only answer ${d.answer}`] : [[d.san], `add ${d.san}`];
   const lasts = long ? ', as long as the longest that is given' : '';
   const title = `${d.san}: ${valueText(after, d.value)}${lasts}; ${what}`;
   return add(
-      n.path, sans, [h('b', {}, d.san), h('sub', {}, valueSign(aim.hero, after, d.value)), long && '†'], title, true);
+    n.path, sans, [h('b', {}, d.san), h('sub', {}, valueSign(aim.hero, after, d.value)), long && '†'], title, true);
 }
 /**
  * @param {Review} review
  * @param {TreeNode} root
  */
 function endsView(review, root) {
-  const rows = byNode(review.ends, root).sort((x, y) => Number(x[1][0].value === null) - Number(y[1][0].value === null));
-  const cells = (/** @type {[TreeNode, import('./types.js').Ending[]]} */ [n, [end]]) => [
-    n.parent ? nodeLink(n) : 'the start', end.value ? playView(n, end.sans, end.value.n) : keepView(n, end)
-  ];
-  return rows.length > 0 && section('ends', 'Best play from the open ends', null, table(['End', 'Goes on'], rows, cells));
+  const rows =
+    byNode(review.ends, root).sort((x, y) => Number(x[1][0].value === null) - Number(y[1][0].value === null));
+  const cells = (/** @type {[TreeNode, import('./types.js').Ending[]]} */[
+    n, [end]
+  ]) => [n.parent ? nodeLink(n) : 'the start', end.value ? playView(n, end.sans, end.value.n) : keepView(n, end)];
+  return rows.length > 0 &&
+    section('ends', 'Best play from the open ends', null, table(['End', 'Goes on'], rows, cells));
 }
 /**
  * @param {TreeNode} n
  * @param {string[]} sans
  * @param {number} plies      to the mate
  */
-const playView = (n, sans, plies) =>
-    [numberedLine(n.fen, sans), sans.length < plies && ` … (${counted(Math.ceil((plies - sans.length) / 2), 'more move')})`, ' ',
-     h('span', {class: 'act'}, add(n.path, sans, 'add the line', 'put this line into the tree'), add(n.path, sans.slice(0, 1), 'add one move'))];
+const playView = (n, sans, plies) => [numberedLine(n.fen, sans),
+  sans.length < plies && ` … (${counted(Math.ceil((plies - sans.length) / 2), 'more move')})`, ' ',
+  h('span', {class: 'act'}, add(n.path, sans, 'add the line', 'put this line into the tree'),
+    add(n.path, sans.slice(0, 1), 'add one move'))];
 /**
  * @param {TreeNode} n
  * @param {import('./types.js').Ending} end
  */
-const keepView = (n, end) => [`drawn; ${end.keeping} of ${end.of} moves keep it: `, end.sans.map(san => add(n.path, [san], san))];
+const keepView =
+  (n, end) => [`drawn; ${end.keeping} of ${end.of} moves keep it: `, end.sans.map(san => add(n.path, [san], san))];

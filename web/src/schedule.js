@@ -16,7 +16,10 @@ export function makeBuilds(most, make, tell) {
     const before = made;
     waiting.splice(waiting.indexOf(name), 1);
     running.add(name);
-    make(name).then(done => ended(name, done, before), why => { fail(why); ended(name, true, before); });
+    make(name).then(done => ended(name, done, before), why => {
+      fail(why);
+      ended(name, true, before);
+    });
   }
   /**
    * @param {string} name
@@ -25,10 +28,13 @@ export function makeBuilds(most, make, tell) {
    */
   function ended(name, done, before) {
     running.delete(name);
-    if (!done) { tried.set(name, before); waiting.push(name); }
-    else {
+    if (!done) {
+      tried.set(name, before);
+      waiting.push(name);
+    } else {
       made++;
-      for (const want of wants) if (want.left.delete(name) && !want.left.size) want.ok();
+      for (const want of wants)
+        if (want.left.delete(name) && !want.left.size) want.ok();
       wants = wants.filter(want => want.left.size);
     }
     go();
@@ -39,10 +45,15 @@ export function makeBuilds(most, make, tell) {
     [waiting, wants, failed] = [[], [], true];
     all.forEach(want => want.no(why));
   }
-  function begin() { [made, failed] = [0, false]; tried.clear(); }
+  function begin() {
+    [made, failed] = [0, false];
+    tried.clear();
+  }
   function go() {
     if (failed && !running.size) begin();
-    if (!failed) for (const name of [...waiting]) if (running.size < most && tried.get(name) !== made) start(name);
+    if (!failed)
+      for (const name of [...waiting])
+        if (running.size < most && tried.get(name) !== made) start(name);
     if (!failed && !running.size && waiting.length) fail(new Error(`the table ${waiting[0]} could not be built`));
     tell([...running], [...waiting], made);
     if (!running.size) begin();
@@ -55,7 +66,7 @@ export function makeBuilds(most, make, tell) {
      */
     want: names => new Promise((ok, no) => {
       if (!names.length) return ok();
-      wants.push({ left: new Set(names), ok, no });
+      wants.push({left: new Set(names), ok, no});
       const fresh = names.filter(name => !running.has(name));
       waiting = [...fresh, ...waiting.filter(name => !fresh.includes(name))];
       if (!failed) go();
@@ -91,9 +102,11 @@ export function secondsLeft(running, waiting, most) {
  * @param {number} left
  */
 export function progressText(running, made, all, seconds, left) {
-  const more = left >= 90 ? `about ${Math.round(left / 60)} minutes left` :
-    left >= 1 ? `about ${Math.max(5, Math.round(left / 5) * 5)} s left` : 'almost done';
-  const names = `table${running.length > 1 ? 's' : ''} ${running.join(', ')}`, at = `${Math.min(made + 1, all)} of ${all}`;
+  const more = left >= 90 ? `about ${Math.round(left / 60)} minutes left`
+    : left >= 1 ? `about ${Math.max(5, Math.round(left / 5) * 5)} s left`
+                : 'almost done';
+  const names = `table${running.length > 1 ? 's' : ''} ${running.join(', ')}`,
+        at = `${Math.min(made + 1, all)} of ${all}`;
   return `Building the ${names} · ${at} · ${Math.round(seconds)} s, ${more}. It is done once, and kept.`;
 }
 
@@ -105,6 +118,7 @@ export function progressText(running, made, all, seconds, left) {
  * @param {number} small
  */
 export function readingOrder(names, sizeOf, small) {
-  const [first, ...rest] = [...names].sort((x, y) => sizeOf(y) - sizeOf(x)), isSmall = (/** @type {string} */ name) => sizeOf(name) <= small;
+  const [first, ...rest] = [...names].sort((x, y) => sizeOf(y) - sizeOf(x)),
+                isSmall = (/** @type {string} */ name) => sizeOf(name) <= small;
   return names.length ? [first, ...rest.filter(isSmall), ...rest.filter(name => !isSmall(name))] : [];
 }

@@ -1,11 +1,14 @@
 // @ts-check
 // The script is the document: lines of edits, run from the first to the last. Here its replies become studies.
-import { aimText, aimWords } from './words.js';
-import { originalsIn } from './imported.js';
-import { readStipulation } from './parse_answers.js';
+import {aimText, aimWords} from './words.js';
+import {originalsIn} from './imported.js';
+import {readStipulation} from './parse_answers.js';
 /** @typedef {import('./types.js').Script} Script @typedef {import('./types.js').Study} Study */
 /** @typedef {import('./types.js').Aim} Aim */
-/** @typedef {{text: string, line: number}} Sent      a line that is run, and its place in the script; -1 for one of our own */
+/**
+ * @typedef {{text: string, line: number}} Sent
+ *   a line that is run, and its place in the script; -1 for one of our own
+ */
 
 export const TAGS = ['Event', 'White', 'Black', 'Site', 'Date', 'Round'];
 
@@ -18,7 +21,8 @@ export const isTableLine = line => /^ *(build|load|save|verify)( |$)/.test(line)
 /** @param {string} line */
 export const isQuestion = line => /^ *(mark|moves|fen|solve|pgn)( |$)/.test(line);
 /** @param {string} line */
-export const isCommand = line => isTableLine(line) || isQuestion(line) || /^ *(position|stipulate|tag|insert|delete|promote|shift)( |$)/.test(line);
+export const isCommand = line =>
+  isTableLine(line) || isQuestion(line) || /^ *(position|stipulate|tag|insert|delete|promote|shift)( |$)/.test(line);
 /** @param {string} line */
 export const isEdit = line => !isSilent(line) && !isTableLine(line) && !isQuestion(line);
 /** @param {string} text */
@@ -31,7 +35,8 @@ export const linesOf = text => {
  * The positions that lines name.
  * @param {string[]} lines
  */
-export const fensOf = lines => lines.filter(line => /^ *(position|shift) /.test(line)).map(line => line.trim().replace(/^\w+ +/, ''));
+export const fensOf = lines =>
+  lines.filter(line => /^ *(position|shift) /.test(line)).map(line => line.trim().replace(/^\w+ +/, ''));
 
 /** @param {string} line */
 export const isGame = line => /^ *pgn *$/.test(line);
@@ -46,13 +51,13 @@ export function toRun(lines) {
   let begun = false, open = false;
   lines.forEach((text, line) => {
     const position = wordsOf(text)[0] === 'position';
-    if (position && open) sent.push({ text: 'pgn', line: -1 });
+    if (position && open) sent.push({text: 'pgn', line: -1});
     begun = begun || position;
     if (isEdit(text)) open = begun;
     else if (isGame(text)) open = false;
-    sent.push({ text, line });
+    sent.push({text, line});
   });
-  if (open) sent.push({ text: 'pgn', line: -1 });
+  if (open) sent.push({text: 'pgn', line: -1});
   return sent;
 }
 const MOST_BYTES = 1024, MOST_LINES = 100000;
@@ -61,8 +66,8 @@ const MOST_BYTES = 1024, MOST_LINES = 100000;
  * @param {string[]} lines
  */
 export function overLimit(lines) {
-  const long = lines.findIndex(
-      line => line.length > MOST_BYTES / 3 && new TextEncoder().encode(line).length > MOST_BYTES);
+  const long =
+    lines.findIndex(line => line.length > MOST_BYTES / 3 && new TextEncoder().encode(line).length > MOST_BYTES);
   return long >= 0 ? `LineTooLong ${long + 1}` : lines.length > MOST_LINES ? 'TooManyLines' : '';
 }
 
@@ -78,7 +83,8 @@ export function repliesOf(lines, text) {
     if (isSilent(line)) return '';
     if (wordsOf(line)[0] !== 'pgn' || (rows[at] || '').startsWith('error ')) return rows[at++] || '';
     const from = at;
-    for (let empty = 0; empty < 2 && at < rows.length;) if (rows[at++] === '') empty++;
+    for (let empty = 0; empty < 2 && at < rows.length;)
+      if (rows[at++] === '') empty++;
     return rows.slice(from, at).join('\n') + '\n';
   });
 }
@@ -90,13 +96,15 @@ export function repliesOf(lines, text) {
  * @returns {Script}
  */
 export function readScript(lines, sent, replies) {
-  const script = /** @type {Script} */ ({ lines, studies: [], refused: [] });
-  const carried = /** @type {Carried} */ ({ aim: null, tags: {} });
+  const script = /** @type {Script} */ ({lines, studies: [], refused: []});
+  const carried = /** @type {Carried} */ ({aim: null, tags: {}});
   sent.forEach((s, i) => {
     if (!isSilent(s.text) && !isTableLine(s.text)) take(script, carried, s, replies[i] || 'error NoReply');
   });
   for (const study of script.studies) withRemarks(lines, study);
-  script.studies.forEach((study, i) => { study.end = script.studies[i + 1] ? script.studies[i + 1].head : lines.length; });
+  script.studies.forEach((study, i) => {
+    study.end = script.studies[i + 1] ? script.studies[i + 1].head : lines.length;
+  });
   return script;
 }
 /**
@@ -115,9 +123,10 @@ function withRemarks(lines, study) {
  */
 export function assumeAccepted(lines) {
   const sent = toRun(lines);
-  return readScript(lines, sent, sent.map(({ text }) => {
+  return readScript(lines, sent, sent.map(({text}) => {
     const [command, hero = '', goal = '', k = ''] = wordsOf(text);
-    return command === 'stipulate' ? `stipulate ${hero === 'black' ? 'Black' : 'White'} to ${goal}${k && ' in ' + k}` : text.trim();
+    return command === 'stipulate' ? `stipulate ${hero === 'black' ? 'Black' : 'White'} to ${goal}${k && ' in ' + k}`
+                                   : text.trim();
   }));
 }
 
@@ -128,21 +137,21 @@ export function assumeAccepted(lines) {
  * @param {Sent} sent
  * @param {string} reply
  */
-function take(script, carried, { text, line }, reply) {
+function take(script, carried, {text, line}, reply) {
   const [command, name] = wordsOf(text), study = script.studies[script.studies.length - 1];
   if (reply.startsWith('error ')) {
-    if (line >= 0) script.refused.push({ line, text, reply });
+    if (line >= 0) script.refused.push({line, text, reply});
   } else if (command === 'position') {
     script.studies.push(begun(line, reply.slice(9), carried));
   } else if (study && command === 'pgn') {
     if (line >= 0 || !study.ended) study.games.push(reply);
-    Object.assign(study, { pgn: reply, verdict: openingOf(reply).verdict, ended: true });
+    Object.assign(study, {pgn: reply, verdict: openingOf(reply).verdict, ended: true});
   } else if (isEdit(text)) {
-    if (study) Object.assign(study, { ended: false, last: Math.max(line, study.last) });
+    if (study) Object.assign(study, {ended: false, last: Math.max(line, study.last)});
     if (command === 'tag') carry(carried, study, name, text.trim().replace(/^tag +\w+ +/, ''), line);
     else if (command === 'stipulate') stipulated(carried, study, reply, line);
     else if (study && command === 'shift') study.fen = reply.slice(6);
-    else if (study && (command === 'insert' || command === 'promote')) study.made = { line, path: wordsOf(reply)[1] };
+    else if (study && (command === 'insert' || command === 'promote')) study.made = {line, path: wordsOf(reply)[1]};
   }
 }
 /**
@@ -152,9 +161,27 @@ function take(script, carried, { text, line }, reply) {
  * @returns {Study}
  */
 function begun(line, fen, carried) {
-  const old = [...(carried.aim ? ['stipulate ' + aimWords(carried.aim)] : []), ...Object.entries(carried.tags).map(([k, v]) => `tag ${k} ${v}`)];
-  return { head: line, from: line, end: line + 1, last: line, fen, aim: carried.aim, tags: { ...carried.tags }, originals: {}, place: {},
-    carried: old, made: null, pgn: '', verdict: '', games: [], ended: false };
+  const old = [
+    ...(carried.aim ? ['stipulate ' + aimWords(carried.aim)] : []),
+    ...Object.entries(carried.tags).map(([k, v]) => `tag ${k} ${v}`)
+  ];
+  return {
+    head: line,
+    from: line,
+    end: line + 1,
+    last: line,
+    fen,
+    aim: carried.aim,
+    tags: {...carried.tags},
+    originals: {},
+    place: {},
+    carried: old,
+    made: null,
+    pgn: '',
+    verdict: '',
+    games: [],
+    ended: false
+  };
 }
 /**
  * @param {Carried} carried
@@ -177,7 +204,7 @@ function carry(carried, study, name, text, line) {
  */
 function stipulated(carried, study, reply, line) {
   const [, hero, , goal, , k] = reply.split(' ');
-  carried.aim = /** @type {Aim} */ ({ hero, goal, k: Number(k) || 0 });
+  carried.aim = /** @type {Aim} */ ({hero, goal, k: Number(k) || 0});
   if (!study) return;
   study.aim = carried.aim;
   study.place.aim = line;
@@ -194,8 +221,9 @@ function openingOf(pgn) {
  * The verdicts of a script on a study before its last edit, as `White to win: unsound 3`.
  * @param {Study} study
  */
-export const verdictsBefore = study => study.games.filter(game => game !== study.pgn).map(openingOf)
-                                       .map(({ aim, verdict }) => `${aim ? aimText(aim) : ''}: ${verdict}`);
+export const verdictsBefore = study =>
+  study.games.filter(game => game !== study.pgn).map(openingOf).map(({aim,
+    verdict}) => `${aim ? aimText(aim) : ''}: ${verdict}`);
 
 /**
  * The lines that make one study alone: its own, with what it takes over from earlier ones after its position.
@@ -236,7 +264,7 @@ const PRINTED = /^# (game \d+, line |(Event|Site|Date|Round|White|Black) was: )/
  * @param {Script} script
  */
 export const gameLines = script =>
-    linesOf(savedScript(script, [])).filter(line => isEdit(line) || isGame(line) || PRINTED.test(line));
+  linesOf(savedScript(script, [])).filter(line => isEdit(line) || isGame(line) || PRINTED.test(line));
 /**
  * Remarks and questions of a study that is written anew: the last `pgn` is enough.
  * @param {string[]} lines

@@ -1,12 +1,13 @@
 // @ts-check
-// The set-up of men: a draft until it is taken over. The program says of each draft what is wrong with it, or what its value is.
-import { EMPTY, menOf, placement, sideOf, typedFen } from './fen.js';
-import { viewOf } from './answer_cache.js';
-import { app, services, say, clearMessage, study } from './state.js';
-import { Stopped } from './engine.js';
-import { freshId } from './keep.js';
-import { aimText, aimWords, counted, holds, movesTo, reason } from './words.js';
-import { isTurn, turnedAim, turnedFen } from './turning.js';
+// The set-up of men: a draft until it is taken over. The program says of each draft what is wrong with it, or what its
+// value is.
+import {EMPTY, menOf, placement, sideOf, typedFen} from './fen.js';
+import {viewOf} from './answer_cache.js';
+import {app, services, say, clearMessage, study} from './state.js';
+import {Stopped} from './engine.js';
+import {freshId} from './keep.js';
+import {aimText, aimWords, counted, holds, movesTo, reason} from './words.js';
+import {isTurn, turnedAim, turnedFen} from './turning.js';
 /** @typedef {import('./fen.js').Men} Men */
 /** @typedef {{bad: string, text: string, lacking: string[], mate: number}} Judged */
 /**
@@ -25,7 +26,7 @@ import { isTurn, turnedAim, turnedFen } from './turning.js';
  * @property {import('./elsewhere.js').Spot[] | null} survey
  * @property {string[]} waits      the tables that are being built for it
  * @property {string} id      the document that it becomes, where that is a new one
- * @property {import('./turning.js').Turn[]} turns      what was done to the whole diagram, so that the moves can come along
+ * @property {import('./turning.js').Turn[]} turns      of the whole diagram, so that the moves can come along
  * @property {string[]} past      states before, as a FEN, an aim and turns with | between them
  * @property {string[]} future      states that were taken back
  */
@@ -49,15 +50,20 @@ export function openSetup(anew, more = false) {
  * A set-up begins, or goes on as it was kept.
  * @param {import('./types.js').KeptDraft} kept
  */
-export function begin({ placed, past, future, anew, more, id }) {
-  const rest = { tool: 'K', man: null, cursor: null, judged: null, passed: [], survey: null, waits: [] };
-  app.setup = { ...rest, ...stateOf(placed), anew, more, id, past, future };
+export function begin({placed, past, future, anew, more, id}) {
+  const rest = {tool: 'K', man: null, cursor: null, judged: null, passed: [], survey: null, waits: []};
+  app.setup = {...rest, ...stateOf(placed), anew, more, id, past, future};
   app.chosen = null;
   clearMessage();
   services.show();
   judgeDraft();
 }
-export function closeSetup() { app.setup = null; clearMessage(); services.keep(); services.show(); }
+export function closeSetup() {
+  app.setup = null;
+  clearMessage();
+  services.keep();
+  services.show();
+}
 /** @param {string} placed */
 function stateOf(placed) {
   const [fen, aim = '', turns = ''] = placed.split('|'), [, mover, ...tail] = fen.split(' ');
@@ -71,7 +77,10 @@ function stateOf(placed) {
 }
 /** @param {Draft} d */
 const placedOf = d => `${draftFen()}|${d.aim}|${d.turns.join(' ')}`;
-export const draftFen = () => { const d = /** @type {Draft} */ (app.setup); return `${placement(d.men)} ${d.mover} ${d.tail}`; };
+export const draftFen = () => {
+  const d = /** @type {Draft} */ (app.setup);
+  return `${placement(d.men)} ${d.mover} ${d.tail}`;
+};
 /**
  * The set-up at hand as it is kept; none where no man was put down.
  * @returns {import('./types.js').KeptDraft | null}
@@ -95,10 +104,10 @@ export function changeDraft(changes) {
   const d = app.setup;
   if (!d) return;
   const before = placedOf(d);
-  Object.assign(d, changes, { judged: null, survey: null });
+  Object.assign(d, changes, {judged: null, survey: null});
   if (changes.men && changes.tail === undefined) d.tail = noPassed(d.tail);
   if (changes.men && d.man !== null && !d.men[d.man]) d.man = null;
-  if (placedOf(d) !== before) Object.assign(d, { past: [...d.past, before], future: [] });
+  if (placedOf(d) !== before) Object.assign(d, {past: [...d.past, before], future: []});
   redrafted();
 }
 function redrafted() {
@@ -116,9 +125,9 @@ export function stepDraft(back) {
   if (!d) return;
   if (!list.length) return back && study() ? closeSetup() : undefined;
   const now = placedOf(d),
-        moved = back ? { past: d.past.slice(0, -1), future: [now, ...d.future] } :
-                       { past: [...d.past, now], future: d.future.slice(1) };
-  Object.assign(d, stateOf(back ? list[list.length - 1] : list[0]), moved, { man: null, judged: null, survey: null });
+        moved = back ? {past: d.past.slice(0, -1), future: [now, ...d.future]}
+                     : {past: [...d.past, now], future: d.future.slice(1)};
+  Object.assign(d, stateOf(back ? list[list.length - 1] : list[0]), moved, {man: null, judged: null, survey: null});
   redrafted();
 }
 /**
@@ -129,8 +138,9 @@ export function stepDraft(back) {
  * @returns {Men}
  */
 function withMan(men, s, letter) {
-  const next = Object.fromEntries(Object.entries(men).filter(([at, c]) => Number(at) !== s && !(/[Kk]/.test(letter) && c === letter)));
-  return letter === 'x' ? next : { ...next, [s]: letter };
+  const next = Object.fromEntries(
+    Object.entries(men).filter(([at, c]) => Number(at) !== s && !(/[Kk]/.test(letter) && c === letter)));
+  return letter === 'x' ? next : {...next, [s]: letter};
 }
 /**
  * After a white king the black one is offered.
@@ -144,13 +154,13 @@ const nextTool = (men, tool) => (tool === 'K' && !Object.values(men).includes('k
  */
 export function placeAt(s, letter) {
   const d = /** @type {Draft} */ (app.setup), men = withMan(d.men, s, letter || d.tool);
-  changeDraft({ men, man: s, ...(letter ? {} : { tool: nextTool(men, d.tool) }) });
+  changeDraft({men, man: s, ...(letter ? {} : {tool: nextTool(men, d.tool)})});
 }
 /** @param {number} s */
 export function removeAt(s) {
-  const men = { .../** @type {Draft} */ (app.setup).men };
+  const men = {.../** @type {Draft} */ (app.setup).men};
   delete men[s];
-  changeDraft({ men });
+  changeDraft({men});
 }
 /**
  * A man dragged: from the palette or a square, to a square or off the board.
@@ -160,16 +170,16 @@ export function removeAt(s) {
  * @param {boolean} moved
  */
 export function moveDraft(from, to, letter, moved) {
-  const d = /** @type {Draft} */ (app.setup), rest = { ...d.men };
+  const d = /** @type {Draft} */ (app.setup), rest = {...d.men};
   if (from === null && (to === null || !moved)) return services.show();
   if (from !== null) delete rest[from];
-  if (to === null) return changeDraft({ men: rest });
+  if (to === null) return changeDraft({men: rest});
   if (from === to) {
     if (moved || d.survey) return services.show();
-    return d.tool === letter || d.tool === 'x' ? changeDraft({ men: rest }) : placeAt(to);
+    return d.tool === letter || d.tool === 'x' ? changeDraft({men: rest}) : placeAt(to);
   }
   const men = withMan(rest, to, letter);
-  changeDraft({ men, man: to, ...(from === null ? { tool: nextTool(men, letter) } : {}) });
+  changeDraft({men, man: to, ...(from === null ? {tool: nextTool(men, letter)} : {})});
 }
 /**
  * The whole diagram is turned; the moves of its study can come along.
@@ -177,18 +187,32 @@ export function moveDraft(from, to, letter, moved) {
  */
 export function turnDraft(turn) {
   const d = /** @type {Draft} */ (app.setup), fen = turnedFen(turn, draftFen());
-  if (!fen) { say('fen', 'A man would leave the board.'); return services.show(); }
+  if (!fen) {
+    say('fen', 'A man would leave the board.');
+    return services.show();
+  }
   const [placed, mover, ...tail] = fen.split(' ');
   clearMessage();
-  changeDraft({ men: menOf(placed), mover, tail: tail.join(' '), aim: turnedAim(turn, d.aim), turns: [...d.turns, turn], man: null });
+  changeDraft({
+    men: menOf(placed),
+    mover,
+    tail: tail.join(' '),
+    aim: turnedAim(turn, d.aim),
+    turns: [...d.turns, turn],
+    man: null
+  });
 }
 /** @param {string} text */
 export function setTypedFen(text) {
   const d = /** @type {Draft} */ (app.setup), read = typedFen(text, d.mover);
-  if ('bad' in read) { say('fen', read.bad); Object.assign(app.say || {}, { field: 'fen', typed: text }); return services.show(); }
+  if ('bad' in read) {
+    say('fen', read.bad);
+    Object.assign(app.say || {}, {field: 'fen', typed: text});
+    return services.show();
+  }
   const fields = read.fen.split(' ');
   clearMessage();
-  changeDraft({ men: menOf(read.fen), mover: fields[1] === 'b' ? 'b' : 'w', tail: fields.slice(2).join(' '), man: null });
+  changeDraft({men: menOf(read.fen), mover: fields[1] === 'b' ? 'b' : 'w', tail: fields.slice(2).join(' '), man: null});
 }
 
 let judging = 0;
@@ -196,11 +220,12 @@ let judging = 0;
 export async function judgeDraft(build = false) {
   const mine = ++judging, d = app.setup;
   if (!d) return;
-  const judged = await judgement(d, build).catch(fault => ({ bad: '', text: `The program did not answer: ${fault.message}.`, lacking: [], mate: 0 }));
+  const judged = await judgement(d, build).catch(
+    fault => ({bad: '', text: `The program did not answer: ${fault.message}.`, lacking: [], mate: 0}));
   d.waits = [];
   const passed = judged.bad ? [] : await passedSquares().catch(() => []);
   if (mine !== judging || app.setup !== d) return;
-  Object.assign(d, { judged, passed });
+  Object.assign(d, {judged, passed});
   services.showJudged();
 }
 /**
@@ -209,9 +234,9 @@ export async function judgeDraft(build = false) {
  * @returns {Promise<Judged>}
  */
 async function judgement(d, build) {
-  const fen = draftFen(), none = { bad: '', text: '', lacking: /** @type {string[]} */ ([]), mate: 0 };
+  const fen = draftFen(), none = {bad: '', text: '', lacking: /** @type {string[]} */ ([]), mate: 0};
   const check = await services.core.answer('run', `position ${fen}\n`, 1);
-  if (check.text.startsWith('error')) return { ...none, bad: reason(check.text.trim()) };
+  if (check.text.startsWith('error')) return {...none, bad: reason(check.text.trim())};
   let lacking = await services.tables.lacking([fen]);
   if (lacking.length && (build || Object.keys(d.men).length < 4 || services.tables.isComing(lacking))) {
     d.waits = lacking;
@@ -221,18 +246,19 @@ async function judgement(d, build) {
       throw fault;
     });
   }
-  if (lacking.length) return { ...none, lacking };
+  if (lacking.length) return {...none, lacking};
   const view = await viewOf(`position ${fen}\nstipulate ${d.aim}\n`, 'root');
-  if (typeof view === 'string') return { ...none, text: view };
+  if (typeof view === 'string') return {...none, text: view};
   const own = view.moves.filter(holds).map(m => m.san), wrong = view.verdict === 'wrong';
-  const hero = view.aim && sideOf(view.fen) === view.aim.hero, list = own.slice(0, 8).join(' ') + (own.length > 8 ? ' ..' : '');
+  const hero = view.aim && sideOf(view.fen) === view.aim.hero,
+        list = own.slice(0, 8).join(' ') + (own.length > 8 ? ' ..' : '');
   const first = own.length === 1 ? `One first move: ${own[0]}.` : `${counted(own.length, 'first move')} hold: ${list}.`;
   const aim = view.aim ? aimText(view.aim) : '', result = wrong ? 'does not hold' : 'holds';
   const text = `${aim}: ${result}; ${view.start}. ${!wrong && hero ? first : ''}`;
-  return { ...none, text, mate: movesTo(view.root.value) };
+  return {...none, text, mate: movesTo(view.root.value)};
 }
 async function passedSquares() {
-  const { text } = await services.core.answer('passed ' + draftFen().replace(/^(\S+ \S+) .*/, '$1 - - 0 1'), '', 1);
+  const {text} = await services.core.answer('passed ' + draftFen().replace(/^(\S+ \S+) .*/, '$1 - - 0 1'), '', 1);
   return text.split(/\s+/).filter(word => /^[a-h][1-8]$/.test(word));
 }
 /** The number of moves that an aim of mate begins with. */

@@ -1,35 +1,35 @@
 // @ts-check
 // The set-up of men: palette, side to move, stipulation, FEN, what the program says of it, and what it becomes.
-import { $, button, h, put } from './dom.js';
-import { manName, menOf } from './fen.js';
-import { app, node, services, study } from './state.js';
-import { manIcon } from './board.js';
-import { takeUp } from './board_input.js';
-import { aimView, messageAt } from './head_view.js';
-import { typedOr } from './node_view.js';
-import { closeSetup, draftFen, changeDraft, judgeDraft, turnDraft, setTypedFen } from './setup.js';
-import { surveyView } from './survey_view.js';
-import { takeOver } from './taking_over.js';
-import { moveName, readAim } from './words.js';
+import {$, button, h, put} from './dom.js';
+import {manName, menOf} from './fen.js';
+import {app, node, services, study} from './state.js';
+import {manIcon} from './board.js';
+import {takeUp} from './board_input.js';
+import {aimView, messageAt} from './head_view.js';
+import {typedOr} from './node_view.js';
+import {closeSetup, draftFen, changeDraft, judgeDraft, turnDraft, setTypedFen} from './setup.js';
+import {surveyView} from './survey_view.js';
+import {takeOver} from './taking_over.js';
+import {moveName, readAim} from './words.js';
 /** @typedef {import('./setup.js').Draft} Draft */
 
 const HELP = 'FEN, or men as Kb6 Pc6 / Ka1 Rd5';
 export function setupView() {
   const d = app.setup;
   if (!d) return null;
-  const mover = (/** @type {string} */ m, /** @type {string} */ text) => button(
-      text, '', () => changeDraft({mover: m, tail: '- - ' + d.tail.split(' ').slice(2).join(' ')}),
+  const mover = (/** @type {string} */ m, /** @type {string} */ text) =>
+    button(text, '', () => changeDraft({mover: m, tail: '- - ' + d.tail.split(' ').slice(2).join(' ')}),
       {id: 'mover' + m, class: d.mover === m ? 'on' : '', 'aria-pressed': `${d.mover === m}`, 'data-mover': m});
   return [
-    h('h2', { id: 'setupFor' }, study() ? purpose(d) : 'Set up the men'),
-    h('div', { class: 'palette', role: 'group', 'aria-label': 'Men' },
-        [...'KQRBNPxkqrbnp'].map(letter => toolView(d, letter)),
-        button('clear', 'take all men away', () => changeDraft({ men: {}, tool: 'K' }), { id: 'clear', class: 'text' })),
-    h('div', { class: 'row' },
-        h('div', { class: 'group', role: 'group', 'aria-label': 'Side to move' }, mover('w', 'White to play'),
-            mover('b', 'Black to play')),
-        h('span', { class: 'row aim' }, aimView(readAim(d.aim), words => changeDraft({ aim: words }), 'draft')),
-        h('span', { id: 'passedBox' }, passedView(d))),
+    h('h2', {id: 'setupFor'}, study() ? purpose(d) : 'Set up the men'),
+    h('div', {class: 'palette', role: 'group', 'aria-label': 'Men'},
+      [...'KQRBNPxkqrbnp'].map(letter => toolView(d, letter)),
+      button('clear', 'take all men away', () => changeDraft({men: {}, tool: 'K'}), {id: 'clear', class: 'text'})),
+    h('div', {class: 'row'},
+      h('div', {class: 'group', role: 'group', 'aria-label': 'Side to move'}, mover('w', 'White to play'),
+        mover('b', 'Black to play')),
+      h('span', {class: 'row aim'}, aimView(readAim(d.aim), words => changeDraft({aim: words}), 'draft')),
+      h('span', {id: 'passedBox'}, passedView(d))),
     h('input', {
       class: 'fen',
       id: 'fen',
@@ -40,19 +40,19 @@ export function setupView() {
       spellcheck: 'false',
       onchange: (/** @type {any} */ e) => setTypedFen(e.target.value)
     }),
-    h('div', { id: 'judgedBox' }, judgedBox(d)), fromNode(d), turnView(),
-    h('p', { class: 'note keys' },
-        'Press a man, then squares; drag a man to move it, off the board to take it away. By keys: arrows on the ' +
-            'board, then K Q R B N P for White, k q r b n p for Black, Delete; Enter starts.')
+    h('div', {id: 'judgedBox'}, judgedBox(d)), fromNode(d), turnView(),
+    h('p', {class: 'note keys'},
+      'Press a man, then squares; drag a man to move it, off the board to take it away. By keys: arrows on the ' +
+        'board, then K Q R B N P for White, k q r b n p for Black, Delete; Enter starts.')
   ];
 }
 /**
  * What the set-up is for, where there is a study already.
  * @param {Draft} d
  */
-const purpose = d => (!d.anew ? 'Another position for this study' :
-        d.more                ? 'One more study in this script' :
-                                'A new script');
+const purpose = d => (!d.anew ? 'Another position for this study'
+    : d.more                  ? 'One more study in this script'
+                              : 'A new script');
 /**
  * The position of the node that was looked at, as the start of a study of its own.
  * @param {Draft} d
@@ -61,20 +61,25 @@ function fromNode(d) {
   const n = node();
   if (d.anew || !n || !n.parent) return null;
   const [placed, mover, ...tail] = n.fen.split(' ');
-  const take = () => changeDraft({ men: menOf(placed), mover, tail: tail.join(' '), man: null });
-  return h('p', {}, button(`The position after ${moveName(n)}`, 'set up these men instead', take, { id: 'fromNode' }));
+  const take = () => changeDraft({men: menOf(placed), mover, tail: tail.join(' '), man: null});
+  return h('p', {}, button(`The position after ${moveName(n)}`, 'set up these men instead', take, {id: 'fromNode'}));
 }
-const TURN_WORDS = /** @type {[import('./turning.js').Turn, string, string][]} */ ([['left', '←', 'one file to the left'],
-  ['right', '→', 'one file to the right'], ['up', '↑', 'one rank up'], ['down', '↓', 'one rank down'],
-  ['mirror', 'Mirror', 'the files from the other side'], ['colours', 'Colours', 'exchange White and Black']]);
+const TURN_WORDS = /** @type {[import('./turning.js').Turn, string, string][]} */ ([
+  ['left', '←', 'one file to the left'], ['right', '→', 'one file to the right'], ['up', '↑', 'one rank up'],
+  ['down', '↓', 'one rank down'], ['mirror', 'Mirror', 'the files from the other side'],
+  ['colours', 'Colours', 'exchange White and Black']
+]);
 /** The whole diagram over, with the moves of its study. */
-const turnView = () => h('p', { class: 'row', role: 'group', 'aria-label': 'The whole diagram' }, h('span', { class: 'note' }, 'The whole diagram: '),
-  TURN_WORDS.map(([turn, text, title]) => button(text, title, () => turnDraft(turn), { class: 'chip act', 'aria-label': title, 'data-turn': turn })));
+const turnView = () => h('p', {class: 'row', role: 'group', 'aria-label': 'The whole diagram'},
+  h('span', {class: 'note'}, 'The whole diagram: '),
+  TURN_WORDS.map(([turn, text, title]) => button(
+                   text, title, () => turnDraft(turn), {class: 'chip act', 'aria-label': title, 'data-turn': turn})));
 /**
  * What comes late: what the program says of the draft, and what can be done with it.
  * @param {Draft} d
  */
-const judgedBox = d => [messageAt('fen'), judgedView(d), h('div', { class: 'row' }, startView(d, Boolean(study()))), surveyView(d)];
+const judgedBox =
+  d => [messageAt('fen'), judgedView(d), h('div', {class: 'row'}, startView(d, Boolean(study()))), surveyView(d)];
 /** Only these parts are drawn again, so that nothing moves under a finger that is on the palette. */
 export function redrawJudged() {
   if (!app.setup || !$('judgedBox')) return;
@@ -92,39 +97,40 @@ function toolView(d, letter) {
     if (!away) takeUp(letter);
     if (e.target.releasePointerCapture) e.target.releasePointerCapture(e.pointerId);
   };
-  return h(
-      'button', {
-        type: 'button',
-        id: 'man' + letter,
-        class: `${d.tool === letter ? 'on' : ''}${away ? ' text' : ''}`,
-        'data-man': letter,
-        title: name,
-        'aria-label': name,
-        'aria-pressed': `${d.tool === letter}`,
-        onpointerdown: down,
-        onclick: () => {
-          d.tool = letter;
-          services.show();
-        }
-      },
-      away ? name : manIcon(letter));
+  return h('button', {
+    type: 'button',
+    id: 'man' + letter,
+    class: `${d.tool === letter ? 'on' : ''}${away ? ' text' : ''}`,
+    'data-man': letter,
+    title: name,
+    'aria-label': name,
+    'aria-pressed': `${d.tool === letter}`,
+    onpointerdown: down,
+    onclick: () => {
+      d.tool = letter;
+      services.show();
+    }
+  },
+    away ? name : manIcon(letter));
 }
 /** @param {Draft} d */
 function passedView(d) {
   const now = d.tail.split(' ')[1];
   if (!d.passed.length) return null;
-  return h(
-      'label', {class: 'note'}, 'en passant on ',
-      h('select', {id: 'passedSquare', onchange: (/** @type {any} */ e) => changeDraft({tail: `- ${e.target.value} 0 1`})},
-        ['-', ...d.passed].map(square => h('option', {value: square, selected: square === now}, square === '-' ? 'no square' : square))));
+  return h('label', {class: 'note'}, 'en passant on ',
+    h('select',
+      {id: 'passedSquare', onchange: (/** @type {any} */ e) => changeDraft({tail: `- ${e.target.value} 0 1`})},
+      ['-', ...d.passed].map(
+        square => h('option', {value: square, selected: square === now}, square === '-' ? 'no square' : square))));
 }
 /** @param {Draft} d */
-function judgedText({ judged, men, waits }) {
+function judgedText({judged, men, waits}) {
   if (!Object.keys(men).length) return 'Put the men on the board.';
   if (!judged) return waits.length ? `Building its tables: ${waits.join(' ')} …` : '…';
   if (judged.bad) return `Not a position yet: ${judged.bad}.`;
-  const { lacking } = judged;
-  return lacking.length ? `Its tables are not there yet: ${lacking.join(' ')} (${services.tables.estimate(lacking)}).` : judged.text;
+  const {lacking} = judged;
+  return lacking.length ? `Its tables are not there yet: ${lacking.join(' ')} (${services.tables.estimate(lacking)}).`
+                        : judged.text;
 }
 /** @param {Draft} d */
 function judgedView(d) {
@@ -132,7 +138,8 @@ function judgedView(d) {
   return [
     h('p', {id: 'judged', class: judged && judged.text && !judged.bad ? 'judged' : 'note', role: 'status'}, text),
     judged && judged.lacking.length > 0 &&
-        h('p', {}, button('Build them now', 'some seconds for each; once for all', () => judgeDraft(true), {id: 'buildNow'}))
+      h('p', {},
+        button('Build them now', 'some seconds for each; once for all', () => judgeDraft(true), {id: 'buildNow'}))
   ];
 }
 /**
@@ -140,12 +147,18 @@ function judgedView(d) {
  * @param {boolean} behind
  */
 function startView(d, behind) {
-  const disabled = !d.judged || Boolean(d.judged.bad), moved = !d.anew && app.view !== null && app.view.root.children.length > 0;
-  const cancel = behind && button('Cancel', 'back to the study', closeSetup, { id: 'cancel' });
+  const disabled = !d.judged || Boolean(d.judged.bad),
+        moved = !d.anew && app.view !== null && app.view.root.children.length > 0;
+  const cancel = behind && button('Cancel', 'back to the study', closeSetup, {id: 'cancel'});
   if (!moved)
     return [
-      button(d.anew ? 'Start' : 'Take this position', 'play the solution from here', () => takeOver('anew'), {id: 'start', class: 'main', disabled}), cancel
+      button(d.anew ? 'Start' : 'Take this position', 'play the solution from here', () => takeOver('anew'),
+        {id: 'start', class: 'main', disabled}),
+      cancel
     ];
-  return [button('Keep the moves', 'as much of the same tree as is legal on this position', () => takeOver('keep'), { id: 'start', class: 'main', disabled }),
-    button('Without the moves', 'an empty tree', () => takeOver('anew'), { id: 'startEmpty', disabled }), cancel];
+  return [
+    button('Keep the moves', 'as much of the same tree as is legal on this position', () => takeOver('keep'),
+      {id: 'start', class: 'main', disabled}),
+    button('Without the moves', 'an empty tree', () => takeOver('anew'), {id: 'startEmpty', disabled}), cancel
+  ];
 }

@@ -1,33 +1,35 @@
 // @ts-check
 // What is shown: each part a function of the document, its view and its facts.
-import { $, button, h, put } from './dom.js';
-import { spokenMove } from './fen.js';
-import { prefetch } from './prefetch.js';
-import { app, doc, node, study } from './state.js';
-import { showBoard } from './board.js';
-import { tell } from './board_input.js';
-import { listView, showDocuments } from './documents_view.js';
-import { reviewView } from './review_view.js';
-import { headView } from './head_view.js';
-import { hereView, navView } from './node_view.js';
-import { isKnown } from './edits.js';
-import { PAWN, SAAVEDRA } from './samples.js';
-import { toText } from './script.js';
-import { redrawJudged, setupView } from './setup_view.js';
-import { checkWhole, importView, openText } from './opening.js';
-import { listFrom, listView as entriesView } from './list_view.js';
-import { later, listed } from './list_facts.js';
-import { numbersOf, stampOf, studyName } from './entries.js';
-import { textsView } from './texts_view.js';
-import { faultsView, verdictView } from './verdict_view.js';
-import { keyView, listenToTree, markCurrent, showTree } from './tree_view.js';
+import {$, button, h, put} from './dom.js';
+import {spokenMove} from './fen.js';
+import {prefetch} from './prefetch.js';
+import {app, doc, node, study} from './state.js';
+import {showBoard} from './board.js';
+import {tell} from './board_input.js';
+import {listView, showDocuments} from './documents_view.js';
+import {reviewView} from './review_view.js';
+import {headView} from './head_view.js';
+import {hereView, navView} from './node_view.js';
+import {isKnown} from './edits.js';
+import {PAWN, SAAVEDRA} from './samples.js';
+import {toText} from './script.js';
+import {redrawJudged, setupView} from './setup_view.js';
+import {checkWhole, importView, openText} from './opening.js';
+import {listFrom, listView as entriesView} from './list_view.js';
+import {later, listed} from './list_facts.js';
+import {numbersOf, stampOf, studyName} from './entries.js';
+import {textsView} from './texts_view.js';
+import {faultsView, verdictView} from './verdict_view.js';
+import {keyView, listenToTree, markCurrent, showTree} from './tree_view.js';
 
 let pressing = false;
 const late = /** @type {Set<() => void>} */ (new Set());
 export function watch() {
   listenToTree();
   document.addEventListener('pointerover', pointedAt);
-  addEventListener('scroll', () => { $('toast').hidden = true; }, { passive: true });
+  addEventListener('scroll', () => {
+    $('toast').hidden = true;
+  }, {passive: true});
   for (const kind of ['pointerdown', 'pointerup', 'pointercancel'])
     document.addEventListener(kind, () => {
       pressing = kind === 'pointerdown';
@@ -54,7 +56,10 @@ function afterwards() {
  * @param {() => void} draw
  */
 function lately(draw) {
-  if (pressing) { late.add(draw); return; }
+  if (pressing) {
+    late.add(draw);
+    return;
+  }
   const kept = focused();
   draw();
   refocus(kept);
@@ -81,12 +86,15 @@ function isNew(id, from) {
   return true;
 }
 /**
- * Draws a part, but where it stands there already, drawn from the same things: then what the user opened or typed in it stays too.
+ * Draws a part, but where it stands there already, drawn from the same things: then what the user opened or typed in it
+ * stays too.
  * @param {string} id
  * @param {any[]} from
  * @param {() => any} make
  */
-function part(id, from, make) { if (isNew(id, from)) put(id, make()); }
+function part(id, from, make) {
+  if (isNew(id, from)) put(id, make());
+}
 /** A refusal or a note, with what was typed there: whatever shows it is drawn again with it. */
 const saying = () => [app.say, app.say && app.say.text, app.say && app.say.field, app.say && app.say.typed];
 export function show() {
@@ -105,7 +113,7 @@ export function show() {
   for (const id of ['head', 'verdict', 'mend']) $(id).hidden = Boolean(app.setup);
   for (const id of ['tree', 'review', 'texts']) $(id).hidden = Boolean(anew && s);
   part(
-      'head', [s && JSON.stringify([s.fen, s.aim, s.tags, Object.keys(s.place)]), ...saying()], () => s && headView(s));
+    'head', [s && JSON.stringify([s.fen, s.aim, s.tags, Object.keys(s.place)]), ...saying()], () => s && headView(s));
   put('welcome', (!s || anew) && welcomeView());
   if (isNew('tree', [s, app.view !== null])) showTree(s);
   markCurrent(n ? n.path : '');
@@ -128,8 +136,11 @@ export function show() {
  */
 function refocus([id, path, san]) {
   if (document.activeElement !== document.body) return;
-  const again = id ? $(id) : path ? document.querySelector(`[data-path="${path}"]`) : san ? document.querySelector(`[data-san="${san}"]`) : null;
-  if (again) again.focus({ preventScroll: true });
+  const again = id ? $(id)
+    : path         ? document.querySelector(`[data-path="${path}"]`)
+            : san ? document.querySelector(`[data-san="${san}"]`)
+                  : null;
+  if (again) again.focus({preventScroll: true});
 }
 /** A refusal that is off the screen is shown below the bar too, until the page is scrolled. */
 function hint() {
@@ -171,8 +182,11 @@ function showBar() {
   $('after').disabled = d.at + 1 >= d.studies.length;
   const reviews = listed(d);
   if (many)
-    part('studies', [d.studies, d.refused, reviews],
-         () => { const numbers = numbersOf(d); return d.studies.map((s, i) => h('option', {value: i}, `${numbers.get(i)}. ${studyName(s)}: ${stampOf(d, s, reviews[i]).text}`)); });
+    part('studies', [d.studies, d.refused, reviews], () => {
+      const numbers = numbersOf(d);
+      return d.studies.map(
+        (s, i) => h('option', {value: i}, `${numbers.get(i)}. ${studyName(s)}: ${stampOf(d, s, reviews[i]).text}`));
+    });
   if (many) $('studies').value = d.at;
   $('more').disabled = !d.studies.length;
   for (const id of ['saveScript', 'savePgn', 'saveReport', 'print']) $(id).disabled = !d.lines.length;
@@ -191,19 +205,19 @@ function welcomeView() {
   return study() ? keptList : [
     h('h1', {}, 'Compose a study'),
     h('p', {},
-        'Two to four men, kings included. Set up the men, say what is to be done, and play the solution with its ' +
-            'tries and defences on the board. Each move is judged against all legal moves, by endgame tables that this ' +
-            'page builds itself with a proved program.'),
-    h('p', { class: 'row' },
-        button('Show a sample: king and pawn', 'its tables are built in a few seconds', sample(PAWN),
-            { id: 'sample', class: 'main' }),
-        button('Saavedra, 1895 (builds tables for about a minute)', 'eleven tables are built first', sample(SAAVEDRA),
-            { id: 'sample2' })),
+      'Two to four men, kings included. Set up the men, say what is to be done, and play the solution with its ' +
+        'tries and defences on the board. Each move is judged against all legal moves, by endgame tables that this ' +
+        'page builds itself with a proved program.'),
+    h('p', {class: 'row'},
+      button('Show a sample: king and pawn', 'its tables are built in a few seconds', sample(PAWN),
+        {id: 'sample', class: 'main'}),
+      button('Saavedra, 1895 (builds tables for about a minute)', 'eleven tables are built first', sample(SAAVEDRA),
+        {id: 'sample2'})),
     keptList,
-    h('p', { class: 'note keys' },
-        'Keys: ← → ↑ ↓ Home End walk the tree, Delete takes a move away, Ctrl-Z and Ctrl-Y undo and redo, f turns ' +
-            'the board, m goes to the field for a move, Escape leaves it. Nothing leaves this computer; the page works ' +
-            'offline.'),
+    h('p', {class: 'note keys'},
+      'Keys: ← → ↑ ↓ Home End walk the tree, Delete takes a move away, Ctrl-Z and Ctrl-Y undo and redo, f turns ' +
+        'the board, m goes to the field for a move, Escape leaves it. Nothing leaves this computer; the page works ' +
+        'offline.'),
     keyView()
   ];
 }

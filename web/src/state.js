@@ -1,7 +1,8 @@
 // @ts-check
-// What there is: the document with its past, what is shown of it, and the services that the page is made of. Views read this; actions change it.
-import { begin } from './history.js';
-import { nodeAt } from './parse_answers.js';
+// What there is: the document with its past, what is shown of it, and the services that the page is made of. Views read
+// this; actions change it.
+import {begin} from './history.js';
+import {nodeAt} from './parse_answers.js';
 /** @typedef {import('./types.js').Doc} Doc */
 /** @typedef {{where: string, text: string, good: boolean, field?: string, typed?: string}} Say */
 
@@ -21,8 +22,9 @@ export const blank = {
 
 /**
  * @type {{history: import('./history.js').History<Doc>, view: import('./types.js').View | null, noView: string,
- *   review: import('./types.js').Review | null, noReview: string, say: Say | null, chosen: number | null, flip: boolean,
- *   setup: import('./setup.js').Draft | null, progress: import('./tables.js').Progress | null, stamp: number}}
+ *   review: import('./types.js').Review | null, noReview: string, say: Say | null, chosen: number | null,
+ *   flip: boolean, setup: import('./setup.js').Draft | null, progress: import('./tables.js').Progress | null,
+ *   stamp: number}}
  */
 export const app = {
   history: begin(blank),
@@ -39,8 +41,9 @@ export const app = {
 };
 /**
  * The services that main.js puts in.
- * @type {{core: import('./engine.js').Core, facts: import('./engine.js').Core, tables: ReturnType<typeof import('./tables.js').makeTables>,
- *   show: () => void, showFacts: () => void, showJudged: () => void, keep: () => void}}
+ * @type {{core: import('./engine.js').Core, facts: import('./engine.js').Core,
+ *   tables: ReturnType<typeof import('./tables.js').makeTables>, show: () => void, showFacts: () => void,
+ *   showJudged: () => void, keep: () => void}}
  */
 export const services = /** @type {any} */ ({});
 
@@ -51,5 +54,7 @@ export const node = () => (app.view ? nodeAt(app.view.root, doc().path) || app.v
  * @param {string} where
  * @param {string} text
  */
-export function say(where, text, good = false) { app.say = text ? { where, text, good } : null; }
-export const clearMessage = () => { app.say = null; };
+export function say(where, text, good = false) { app.say = text ? {where, text, good} : null; }
+export const clearMessage = () => {
+  app.say = null;
+};

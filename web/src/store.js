@@ -2,14 +2,17 @@
 // The tables that this browser keeps: files by class name, in IndexedDB; in memory alone where that is refused.
 
 export function makeStore(name = 'studyboard') {
-  const here = /** @type {Map<string, Blob>} */ (new Map());        // only what IndexedDB did not take
+  const here = /** @type {Map<string, Blob>} */ (new Map());  // only what IndexedDB did not take
   let opened = /** @type {Promise<IDBDatabase> | null} */ (null);
   /**
    * @template T
    * @param {IDBRequest<T>} request
    * @returns {Promise<T>}
    */
-  const settled = request => new Promise((ok, no) => { request.onsuccess = () => ok(request.result); request.onerror = () => no(request.error); });
+  const settled = request => new Promise((ok, no) => {
+    request.onsuccess = () => ok(request.result);
+    request.onerror = () => no(request.error);
+  });
   function base() {
     return opened = opened || new Promise((ok, no) => {
       const request = indexedDB.open(name, 1);
@@ -44,12 +47,18 @@ export function makeStore(name = 'studyboard') {
     async put(key, blob) {
       try {
         const s = await objects('readwrite');
-        const done = new Promise((ok, no) => { s.transaction.oncomplete = ok; s.transaction.onabort = s.transaction.onerror = () => no(s.transaction.error); });
+        const done = new Promise((ok, no) => {
+          s.transaction.oncomplete = ok;
+          s.transaction.onabort = s.transaction.onerror = () => no(s.transaction.error);
+        });
         s.put(blob, key);
         await done;
         here.delete(key);
         return true;
-      } catch { here.set(key, blob); return false; }
+      } catch {
+        here.set(key, blob);
+        return false;
+      }
     },
     /** @param {string} key */
     async remove(key) {

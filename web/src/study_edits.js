@@ -1,8 +1,8 @@
 // @ts-check
 // Whole studies of a script: copied, moved up and down. Each is written so that it stands alone wherever it comes to.
-import { isKnown, unknown } from './edits.js';
-import { TAGS } from './script.js';
-import { aimWords } from './words.js';
+import {isKnown, unknown} from './edits.js';
+import {TAGS} from './script.js';
+import {aimWords} from './words.js';
 /** @typedef {import('./types.js').Study} Study @typedef {import('./types.js').Change} Change */
 
 /**
@@ -16,7 +16,7 @@ function standing(lines, study, names) {
   while (own.length && !own[own.length - 1].trim()) own.pop();
   const aim = study.aim && study.place.aim === undefined ? ['stipulate ' + aimWords(study.aim)] : [];
   const tags = names.filter(name => study.place[name] === undefined)
-                   .map(name => `tag ${name} ${isKnown(study.tags[name]) ? study.tags[name] : unknown(name)}`);
+                 .map(name => `tag ${name} ${isKnown(study.tags[name]) ? study.tags[name] : unknown(name)}`);
   return [...own.slice(0, at), ...aim, ...tags, ...own.slice(at)];
 }
 /**
@@ -36,10 +36,8 @@ function inOrder(lines, studies, order) {
  * @param {number} at
  * @returns {Change}
  */
-export const copyStudy = (lines, studies, at) => ({
-  lines: inOrder(lines, studies, [...studies.slice(0, at + 1), ...studies.slice(at)]),
-  at: at + 1
-});
+export const copyStudy = (lines, studies, at) =>
+  ({lines: inOrder(lines, studies, [...studies.slice(0, at + 1), ...studies.slice(at)]), at: at + 1});
 /**
  * @param {string[]} lines
  * @param {Study[]} studies
@@ -51,5 +49,5 @@ export function moveStudy(lines, studies, at, by) {
   const to = at + by, order = [...studies];
   if (to < 0 || to >= studies.length) return null;
   [order[at], order[to]] = [order[to], order[at]];
-  return { lines: inOrder(lines, studies, order), at: to };
+  return {lines: inOrder(lines, studies, order), at: to};
 }

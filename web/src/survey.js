@@ -1,14 +1,14 @@
 // @ts-check
 // Where else a man could stand: the squares on which the stipulation holds. What more is known of them comes one square
 // after the other, so that nothing waits for it.
-import { counting, work } from './actions.js';
-import { PAGES, app, services, say } from './state.js';
-import { fenWith, rowAt, treeAt } from './elsewhere.js';
-import { sideOf, squareName } from './fen.js';
-import { readSurvey, refusalIn } from './parse_answers.js';
-import { draftFen } from './setup.js';
-import { bareOf, turnedTree } from './turning.js';
-import { readAim, reason } from './words.js';
+import {counting, work} from './actions.js';
+import {PAGES, app, services, say} from './state.js';
+import {fenWith, rowAt, treeAt} from './elsewhere.js';
+import {sideOf, squareName} from './fen.js';
+import {readSurvey, refusalIn} from './parse_answers.js';
+import {draftFen} from './setup.js';
+import {bareOf, turnedTree} from './turning.js';
+import {readAim, reason} from './words.js';
 /** @typedef {import('./setup.js').Draft} Draft @typedef {import('./elsewhere.js').Spot} Spot */
 /** @typedef {import('./types.js').Stand} Stand */
 
@@ -79,7 +79,7 @@ let known = true;
  * @param {number} man
  */
 async function rows(d, man) {
-  const { hero, goal } = readAim(d.aim), fen = draftFen(), spots = d.survey;
+  const {hero, goal} = readAim(d.aim), fen = draftFen(), spots = d.survey;
   const dots = (spots || []).filter(spot => spot.sign === 'dot');
   if (!known || !dots.length || goal === 'mate' || hero !== sideOf(fen)) return;
   await loadTables(fen);

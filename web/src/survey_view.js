@@ -1,10 +1,10 @@
 // @ts-check
 // 'Where else': the man that is chosen, the squares on which it could stand, and what is known of them.
-import { button, h, svg } from './dom.js';
-import { isWhite, squareName } from './fen.js';
-import { MOST_IN_ROW, byRow, byTree, thereText } from './elsewhere.js';
-import { moveDraft } from './setup.js';
-import { hasTree, treesRequested, lookAtTrees, survey } from './survey.js';
+import {button, h, svg} from './dom.js';
+import {isWhite, squareName} from './fen.js';
+import {MOST_IN_ROW, byRow, byTree, thereText} from './elsewhere.js';
+import {moveDraft} from './setup.js';
+import {hasTree, treesRequested, lookAtTrees, survey} from './survey.js';
 /** @typedef {import('./setup.js').Draft} Draft @typedef {import('./elsewhere.js').Spot} Spot */
 
 const FIRST = 12;
@@ -13,43 +13,45 @@ const FIRST = 12;
  * @param {number} most
  */
 const named = (names, most) =>
-    names.slice(0, most).join(', ') + (names.length > most ? ` and ${names.length - most} more` : '');
+  names.slice(0, most).join(', ') + (names.length > most ? ` and ${names.length - most} more` : '');
 /** @param {Draft} d */
 export function surveyView(d) {
-  const judged = d.judged, men = Object.entries(d.men).map(([s, letter]) => ({ at: Number(s), letter }));
+  const judged = d.judged, men = Object.entries(d.men).map(([s, letter]) => ({at: Number(s), letter}));
   if (men.length < 2 || !judged || judged.bad || judged.lacking.length) return null;
   const chosen = d.man === null ? men[0].at : d.man;
   const list = h('select', {
     id: 'surveyMan',
     'aria-label': 'The man that could stand elsewhere',
     onchange: (/** @type {any} */ e) => survey(Number(e.target.value))
-  }, men.map(({ at, letter }) => h('option', { value: at, selected: at === chosen },
-    `${isWhite(letter) ? 'White' : 'Black'} ${letter.toUpperCase()}${squareName(at)}`)));
+  },
+    men.map(({at, letter}) => h('option', {value: at, selected: at === chosen},
+              `${isWhite(letter) ? 'White' : 'Black'} ${letter.toUpperCase()}${squareName(at)}`)));
   return [
-    h('p', { class: 'row' }, 'Where else could ', list, ' stand?',
-        button('Show', 'the squares on which the stipulation holds', () => survey(chosen), { id: 'survey' })),
+    h('p', {class: 'row'}, 'Where else could ', list, ' stand?',
+      button('Show', 'the squares on which the stipulation holds', () => survey(chosen), {id: 'survey'})),
     d.survey && [standsView(d.survey), rowsView(d.survey), hasTree(d) && treesView(d, d.survey)]
   ];
 }
 /** @param {string} cls */
-const sign = cls => svg('svg', { width: 12, height: 12, 'aria-hidden': 'true' },
-  svg('circle', { class: cls, cx: 6, cy: 6, r: 5 }));
+const sign = cls =>
+  svg('svg', {width: 12, height: 12, 'aria-hidden': 'true'}, svg('circle', {class: cls, cx: 6, cy: 6, r: 5}));
 /** @param {Spot[]} spots */
 function standsView(spots) {
   const only = spots.filter(t => t.sign === 'dot').map(t => t.text), more = spots.length - only.length;
-  return h('p', { class: 'note', role: 'status', id: 'stands' },
-    sign('dot'), ` by one first move: ${only.length ? named(only, FIRST) : 'nowhere'}; `,
-    sign('plain'), ` it holds on ${more}${only.length ? ' more' : ''}. A press on a square puts this man there.`);
+  return h('p', {class: 'note', role: 'status', id: 'stands'}, sign('dot'),
+    ` by one first move: ${only.length ? named(only, FIRST) : 'nowhere'}; `, sign('plain'),
+    ` it holds on ${more}${only.length ? ' more' : ''}. A press on a square puts this man there.`);
 }
 /**
  * The numbers in the dots, the largest first.
  * @param {Spot[]} spots
  */
 function rowsView(spots) {
-  const rows = byRow(spots), words = rows.map(
-      ([n, names]) => `${n === MOST_IN_ROW ? `${n} or more` : n}: ${named(names, FIRST / 2)}`);
-  return rows.length > 0 && h('p', { class: 'note', id: 'inRow' },
-    `The number in a dot: how many only moves in a row the defender can ask for. ${words.join('; ')}.`);
+  const rows = byRow(spots),
+        words = rows.map(([n, names]) => `${n === MOST_IN_ROW ? `${n} or more` : n}: ${named(names, FIRST / 2)}`);
+  return rows.length > 0 &&
+    h('p', {class: 'note', id: 'inRow'},
+      `The number in a dot: how many only moves in a row the defender can ask for. ${words.join('; ')}.`);
 }
 /**
  * What the study's tree would be on each square; a press puts the man there.
@@ -58,15 +60,17 @@ function rowsView(spots) {
  */
 function treesView(d, spots) {
   if (!treesRequested(spots))
-    return h('p', {}, button('What becomes of the moves there?', 'the faults that this study would have on each square',
-      lookAtTrees, { id: 'lookAtTrees', class: 'chip act' }));
+    return h('p', {},
+      button('What becomes of the moves there?', 'the faults that this study would have on each square', lookAtTrees,
+        {id: 'lookAtTrees', class: 'chip act'}));
   const kept = byTree(spots), done = spots.filter(spot => spot.there).length, none = done - kept.length,
         more = kept.length - FIRST;
-  const end = done < spots.length ? ` ${done} of ${spots.length} squares looked at …` :
-      none                        ? ` On ${none} no move stays, or many go.` :
-                                    '';
-  return h('p', { class: 'note', role: 'status', id: 'treesThere' }, 'With the moves of this study: ',
-    kept.slice(0, FIRST).map(spot => [thereView(d, spot), ' ']), more > 0 && `and ${more} more.`, end);
+  const end = done < spots.length ? ` ${done} of ${spots.length} squares looked at …`
+    : none ? ` On ${none} no move stays, or many go.`
+           : '';
+  return h('p', {class: 'note', role: 'status', id: 'treesThere'},
+    'With the moves of this study: ', kept.slice(0, FIRST).map(spot => [thereView(d, spot), ' ']),
+    more > 0 && `and ${more} more.`, end);
 }
 /**
  * @param {Draft} d
@@ -74,6 +78,8 @@ function treesView(d, spots) {
  */
 function thereView(d, spot) {
   const man = d.man, name = squareName(spot.to);
-  const put = () => { if (man !== null && d.men[man]) moveDraft(man, spot.to, d.men[man], true); };
-  return button(thereText(name, spot), 'put the man there', put, { class: 'chip act', 'data-there': name });
+  const put = () => {
+    if (man !== null && d.men[man]) moveDraft(man, spot.to, d.men[man], true);
+  };
+  return button(thereText(name, spot), 'put the man there', put, {class: 'chip act', 'data-there': name});
 }

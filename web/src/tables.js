@@ -2,13 +2,13 @@
 // Tables: which a script needs, taken from where they are kept, or built in workers of their own.
 //
 // A table is taken only where its SHA-256 is that of the list: any page of file:// can write to the store.
-import { CLASSES } from './core_host.js';
-import { DIGESTS } from './digests.js';
-import { SECONDS } from './seconds.js';
-import { Stopped } from './engine.js';
-import { makeBuilds, progressText, readingOrder, secondsLeft } from './schedule.js';
-import { reason } from './words.js';
-import { toText } from './script.js';
+import {CLASSES} from './core_host.js';
+import {DIGESTS} from './digests.js';
+import {SECONDS} from './seconds.js';
+import {Stopped} from './engine.js';
+import {makeBuilds, progressText, readingOrder, secondsLeft} from './schedule.js';
+import {reason} from './words.js';
+import {toText} from './script.js';
 /** @typedef {import('./engine.js').Core} Core */
 /** @typedef {{text: string, done: number, of: number}} Progress */
 
@@ -28,14 +28,15 @@ const sizeOf = name => (DIGESTS[name] ? DIGESTS[name][0] : 5000000);
  * @param {{core: Core, spawn: () => Core, readers: ReturnType<typeof import('./file_readers.js').makeReaders>,
  *   store: ReturnType<typeof import('./store.js').makeStore>, tell: (p: Progress | null) => void}} parts
  */
-export function makeTables({ core, spawn, readers, store, tell }) {
+export function makeTables({core, spawn, readers, store, tell}) {
   const known = /** @type {Map<string, string[]>} */ (new Map());
-  const right = /** @type {Map<string, Blob>} */ (new Map());       // compared with the list in this visit: a blob never changes
+  const right =
+    /** @type {Map<string, Blob>} */ (new Map());  // compared with the list in this visit: a blob never changes
   let builders = /** @type {Core[]} */ ([]), stops = 0, kept = true;
 
   /** @param {string[]} fens */
   async function request(fens) {
-    const { text } = await core.answer('tables', toText(fens.map(fen => 'position ' + fen)), 1);
+    const {text} = await core.answer('tables', toText(fens.map(fen => 'position ' + fen)), 1);
     return text.split(/\s+/).filter(word => DIGESTS[word] !== undefined);
   }
   /**
@@ -69,7 +70,8 @@ export function makeTables({ core, spawn, readers, store, tell }) {
    * @param {string[]} names
    */
   function fetchAhead(names) {
-    for (const name of readingOrder(names.filter(name => DIGESTS[name]), sizeOf, SMALL)) fetched.set(name, bytesOf(name));
+    for (const name of readingOrder(names.filter(name => DIGESTS[name]), sizeOf, SMALL))
+      fetched.set(name, bytesOf(name));
     readers.start();
   }
   /**
@@ -87,10 +89,15 @@ export function makeTables({ core, spawn, readers, store, tell }) {
    */
   async function bytesOf(name) {
     const known = right.get(name);
-    if (known) try { return (await readers.read(known, false)).bytes; } catch { right.delete(name); }
+    if (known) try {
+        return (await readers.read(known, false)).bytes;
+      } catch { right.delete(name); }
     const blob = await store.get(name), file = blob ? await readers.read(blob).catch(() => null) : null;
     if (!blob || !file) return null;
-    if (!isListed(name, file.digest)) { await store.remove(name); return null; }
+    if (!isListed(name, file.digest)) {
+      await store.remove(name);
+      return null;
+    }
     right.set(name, blob);
     return file.bytes;
   }
@@ -104,10 +111,13 @@ export function makeTables({ core, spawn, readers, store, tell }) {
   function loadOne(name, into) {
     const now = loading.get(into) || new Map(), before = now.get(name);
     loading.set(into, now);
-    const done = before || taken(name).then(async bytes => {
-      if (bytes && !into.has(name)) await into.load(name, bytes);
-      return bytes !== null;
-    }).finally(() => now.delete(name));
+    const done = before ||
+      taken(name)
+        .then(async bytes => {
+          if (bytes && !into.has(name)) await into.load(name, bytes);
+          return bytes !== null;
+        })
+        .finally(() => now.delete(name));
     now.set(name, done);
     return done;
   }
@@ -159,9 +169,9 @@ export function makeTables({ core, spawn, readers, store, tell }) {
    */
   const estimate = names => {
     const seconds = secondsLeft([], names.map(weight), most);
-    return seconds > 90 ? `about ${Math.round(seconds / 60)} minutes` :
-        seconds > 45 ? 'about a minute' :
-                       `about ${Math.max(5, Math.ceil(seconds / 5) * 5)} s`;
+    return seconds > 90 ? `about ${Math.round(seconds / 60)} minutes`
+      : seconds > 45 ? 'about a minute'
+                     : `about ${Math.max(5, Math.ceil(seconds / 5) * 5)} s`;
   };
   /**
    * How the builds go; the time that is left is never said to be longer than before, but where more is wanted.
@@ -181,10 +191,10 @@ export function makeTables({ core, spawn, readers, store, tell }) {
     first = first || now;
     if (all > before) least = Infinity;
     ticking = ticking || setInterval(() => reportBuilds(...shown), 500);
-    const left = running.map(
-        name => Math.max(weight(name) / 20, weight(name) - (now - (began.get(name) || now)) / 1000));
+    const left =
+      running.map(name => Math.max(weight(name) / 20, weight(name) - (now - (began.get(name) || now)) / 1000));
     least = Math.min(least, secondsLeft(left, waiting.map(weight), most));
-    tell({ text: progressText(running, made, all, (now - first) / 1000, least), done: made, of: all });
+    tell({text: progressText(running, made, all, (now - first) / 1000, least), done: made, of: all});
   }
   /**
    * Builds one table; false where one that it needs is not there yet.
@@ -198,15 +208,17 @@ export function makeTables({ core, spawn, readers, store, tell }) {
       await load((needs.get(name) || []).filter(other => other !== name), builder);
       if (before !== stops) throw new Stopped(STOPPED);
       began.set(name, performance.now());
-      const { bytes, ended } = await builder.ask('make ' + name, '', 0);
+      const {bytes, ended} = await builder.ask('make ' + name, '', 0);
       if (before !== stops) throw new Stopped(STOPPED);
       const refusal = ended === 'done' ? '' : new TextDecoder().decode(bytes.slice(0, 200)).trim();
       if (/MissingTable/.test(refusal)) return false;
-      if (ended !== 'done') throw new Error(`the table ${name} was not built: ${reason('error ' + (refusal || ended))}`);
+      if (ended !== 'done')
+        throw new Error(`the table ${name} was not built: ${reason('error ' + (refusal || ended))}`);
       spent = [spent[0] + (performance.now() - (began.get(name) || 0)) / 1000, spent[1] + secondsOf(name)];
       if (spent[1] > 2) pace = spent[0] / spent[1];
       const blob = new Blob([bytes]), file = await readers.read(blob);
-      if (!isListed(name, file.digest)) throw new Error(`the table ${name} is not the one of the list; the browser or the machine is faulty`);
+      if (!isListed(name, file.digest))
+        throw new Error(`the table ${name} is not the one of the list; the browser or the machine is faulty`);
       right.set(name, blob);
       if (!await store.put(name, blob)) kept = false;
       await core.load(name, file.bytes);
@@ -229,12 +241,14 @@ export function makeTables({ core, spawn, readers, store, tell }) {
    */
   async function open(files) {
     const taken = /** @type {string[]} */ ([]), bad = /** @type {string[]} */ ([]);
-    const named = files.map(file => ({ file, name: (/K[QRBNP]*K[QRBNP]*(?=[^A-Z]*$)/.exec(file.name.replace(/\.dtm$/i, '')) || [''])[0] }));
-    for (const { file, name } of named)
+    const named = files.map(
+      file => ({file, name: (/K[QRBNP]*K[QRBNP]*(?=[^A-Z]*$)/.exec(file.name.replace(/\.dtm$/i, '')) || [''])[0]}));
+    for (const {file, name} of named)
       if (!DIGESTS[name]) bad.push(`${file.name}: the name of a table is KQK.dtm, KRKP.dtm and so on`);
-    const tables = named.filter(({ name }) => DIGESTS[name]), read = /** @type {Promise<import('./file_readers.js').Read | null>[]} */ ([]);
-    for (const [i, { file, name }] of tables.entries()) {
-      for (const { file } of tables.slice(read.length, i + 3)) read.push(readers.read(file).catch(() => null));
+    const tables = named.filter(({name}) => DIGESTS[name]),
+          read = /** @type {Promise<import('./file_readers.js').Read | null>[]} */ ([]);
+    for (const [i, {file, name}] of tables.entries()) {
+      for (const {file} of tables.slice(read.length, i + 3)) read.push(readers.read(file).catch(() => null));
       const found = await read[i];
       read[i] = Promise.resolve(null);
       if (!found || !isListed(name, found.digest)) {
@@ -244,7 +258,7 @@ export function makeTables({ core, spawn, readers, store, tell }) {
       if (!await store.put(name, new Blob([found.bytes]))) kept = false;
       taken.push(name);
     }
-    return { taken, bad, kept };
+    return {taken, bad, kept};
   }
   /**
    * A table that the program built for a script of another program.
@@ -252,7 +266,7 @@ export function makeTables({ core, spawn, readers, store, tell }) {
    * @param {Uint8Array} bytes
    */
   async function keep(name, bytes) {
-    const blob = new Blob([bytes]), { digest } = await readers.read(blob);
+    const blob = new Blob([bytes]), {digest} = await readers.read(blob);
     if (isListed(name, digest) && !await store.put(name, blob)) kept = false;
   }
   return {

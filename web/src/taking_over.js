@@ -1,13 +1,14 @@
 // @ts-check
-// A set-up becomes lines: a new study, another position for this one with an empty tree, or with as much of its tree as is legal.
-import { $ } from './dom.js';
-import { change, counting, evaluate, opened } from './actions.js';
-import { app, doc, services, say } from './state.js';
-import { addStudy, replacePosition, withMoves } from './edits.js';
-import { fensOf } from './script.js';
-import { closeSetup, draftFen } from './setup.js';
-import { bareOf, legalPart, turnedTree } from './turning.js';
-import { counted } from './words.js';
+// A set-up becomes lines: a new study, another position for this one with an empty tree, or with as much of its tree as
+// is legal.
+import {$} from './dom.js';
+import {change, counting, evaluate, opened} from './actions.js';
+import {app, doc, services, say} from './state.js';
+import {addStudy, replacePosition, withMoves} from './edits.js';
+import {fensOf} from './script.js';
+import {closeSetup, draftFen} from './setup.js';
+import {bareOf, legalPart, turnedTree} from './turning.js';
+import {counted} from './words.js';
 /** @typedef {import('./types.js').Study} Study @typedef {import('./types.js').Doc} Doc */
 /** @typedef {import('./setup.js').Draft} Draft */
 
@@ -17,16 +18,17 @@ import { counted } from './words.js';
  * @param {string} fen
  */
 async function movesFrom(d, fen) {
-  const tree = turnedTree(bareOf(/** @type {import('./types.js').View} */ (app.view).root), d.turns), head = ['position ' + fen, 'stipulate ' + d.aim];
+  const tree = turnedTree(bareOf(/** @type {import('./types.js').View} */ (app.view).root), d.turns),
+        head = ['position ' + fen, 'stipulate ' + d.aim];
   await services.tables.ready(fensOf(head));
   return legalPart(tree, async lines => {
-    const { refused } = await evaluate([...head, ...lines]), first = refused.find(r => r.line >= head.length);
+    const {refused} = await evaluate([...head, ...lines]), first = refused.find(r => r.line >= head.length);
     return first ? first.line - head.length : -1;
   });
 }
 /** @param {{san: string, below: number}[]} fallen */
 function fallenText(fallen) {
-  const list = fallen.slice(0, 8).map(({ san, below }) => san + (below ? ` with ${below} below it` : '')).join(', ');
+  const list = fallen.slice(0, 8).map(({san, below}) => san + (below ? ` with ${below} below it` : '')).join(', ');
   const more = fallen.length > 8 ? `, and ${fallen.length - 8} more` : '';
   return `Not legal any more, and left out: ${list}${more}. Undo brings them back.`;
 }
@@ -42,7 +44,7 @@ function anew(d, now, fen) {
     lines: addStudy(d.more ? now.lines : [], fen, d.aim, d.more ? now.studies[now.studies.length - 1] : undefined),
     at: d.more ? now.studies.length : 0,
     path: 'root',
-    ...(d.more ? {} : { name: '', note: '', id: d.id })
+    ...(d.more ? {} : {name: '', note: '', id: d.id})
   };
 }
 /** @param {'anew' | 'keep'} how */
@@ -55,7 +57,7 @@ async function taken(how) {
     services.show();
     return null;
   };
-  const kept = how === 'keep' && app.view ? await movesFrom(d, fen).catch(failed) : { lines: [], fallen: [] };
+  const kept = how === 'keep' && app.view ? await movesFrom(d, fen).catch(failed) : {lines: [], fallen: []};
   if (!kept || app.setup !== d) return;
   const done = await change(now => {
     const s = now.studies[now.at];
@@ -63,7 +65,7 @@ async function taken(how) {
   }, 'fen');
   if (!done) return;
   closeSetup();
-  $('board').firstChild.focus({ preventScroll: true });
+  $('board').firstChild.focus({preventScroll: true});
   if (kept.fallen.length) say('board', `${counted(kept.lines.length, 'move')} kept. ${fallenText(kept.fallen)}`, true);
   services.show();
   if (d.anew && !d.more) opened(before);

@@ -1,82 +1,98 @@
 // @ts-check
 // The texts: the game as PGN, the script, and refused lines.
-import { button, h } from './dom.js';
-import { change, goStudy } from './actions.js';
-import { app, doc } from './state.js';
-import { dropStudy, tidy } from './edits.js';
-import { copyStudy, moveStudy } from './study_edits.js';
-import { numbersOf } from './entries.js';
-import { table } from './review_view.js';
-import { messageAt } from './head_view.js';
-import { diagramView } from './diagram.js';
-import { openText } from './opening.js';
-import { counted, reason } from './words.js';
+import {button, h} from './dom.js';
+import {change, goStudy} from './actions.js';
+import {app, doc} from './state.js';
+import {dropStudy, tidy} from './edits.js';
+import {copyStudy, moveStudy} from './study_edits.js';
+import {numbersOf} from './entries.js';
+import {table} from './review_view.js';
+import {messageAt} from './head_view.js';
+import {diagramView} from './diagram.js';
+import {openText} from './opening.js';
+import {counted, reason} from './words.js';
 /** @typedef {import('./types.js').Study} Study */
 
-const open = { pgn: false, script: false };
+const open = {
+  pgn: false,
+  script: false
+};
 /** What was typed in the script and not run yet stays there, as long as the document is the same. */
 let unrun = /** @type {{text: string, lines: string[]} | null} */ (null);
 /** @param {Study | undefined} s */
 export function textsView(s) {
   return [
-    doc().refused.length > 0 && refusedView(),
-    h('p', { class: 'row act' }, diagramView(), s && studyButtons()), s && s.pgn && pgnView(s), scriptView(s)
+    doc().refused.length > 0 && refusedView(), h('p', {class: 'row act'}, diagramView(), s && studyButtons()),
+    s && s.pgn && pgnView(s), scriptView(s)
   ];
 }
 /** @param {Study} s */
-const pgnView = s => h('details', { open: open.pgn, id: 'pgnBox', ontoggle: (/** @type {any} */ e) => { open.pgn = e.target.open; } }, h('summary', {}, 'PGN'),
-  h('textarea', { id: 'pgn', readonly: true, 'aria-label': 'The game as PGN' }, s.pgn));
+const pgnView = s => h('details', {
+  open: open.pgn,
+  id: 'pgnBox',
+  ontoggle: (/** @type {any} */ e) => {
+    open.pgn = e.target.open;
+  }
+},
+  h('summary', {}, 'PGN'), h('textarea', {id: 'pgn', readonly: true, 'aria-label': 'The game as PGN'}, s.pgn));
 /** @param {Study | undefined} s */
 function scriptView(s) {
   const script = h('textarea', {
     id: 'script',
     spellcheck: 'false',
     'aria-label': 'The script',
-    oninput: () => { unrun = { text: script.value, lines: doc().lines }; }
+    oninput: () => {
+      unrun = {text: script.value, lines: doc().lines};
+    }
   });
   const kept = unrun && unrun.lines === doc().lines ? unrun.text : doc().lines.join('\n');
   script.value = app.say && app.say.field === 'script' ? app.say.typed : kept;
   const isOpen = open.script || doc().refused.length > 0 || (app.say && app.say.where === 'script');
-  return h(
-      'details', {
-        id: 'scriptBox',
-        open: isOpen
-      },
-      h('summary', { onclick: (/** @type {any} */ e) => { open.script = !e.target.parentNode.open; } }, 'Script'),
-      h('p', {class: 'note'}, 'The script is the study: what you do writes its lines. It can be changed or pasted here, a PGN too.'), script,
-      messageAt('script'),
-      h('div', {class: 'row'}, button('Run the script', 'take the text as it stands', () => openText(script.value), {id: 'runScript'}),
-        s && app.view &&
-            button(
-                'Tidy', 'write this study anew in its shortest form',
-                () => change(now => (app.view && now.studies[now.at] ? tidy(now.lines, now.studies[now.at], app.view.root) : null), 'script'),
-                {id: 'tidy'}),
-        s && doc().studies.length > 1 &&
-            button(
-                'Remove this study', 'take its lines out of the script', () => change(now => dropStudy(now.lines, now.studies[now.at], now.at), 'script'),
-                {id: 'drop'})));
+  return h('details', {id: 'scriptBox', open: isOpen},
+    h('summary', {
+      onclick: (/** @type {any} */ e) => {
+        open.script = !e.target.parentNode.open;
+      }
+    },
+      'Script'),
+    h('p', {class: 'note'},
+      'The script is the study: what you do writes its lines. It can be changed or pasted here, a PGN too.'),
+    script, messageAt('script'),
+    h('div', {class: 'row'},
+      button('Run the script', 'take the text as it stands', () => openText(script.value), {id: 'runScript'}),
+      s && app.view &&
+        button('Tidy', 'write this study anew in its shortest form',
+          () => change(
+            now => (app.view && now.studies[now.at] ? tidy(now.lines, now.studies[now.at], app.view.root) : null),
+            'script'),
+          {id: 'tidy'}),
+      s && doc().studies.length > 1 &&
+        button('Remove this study', 'take its lines out of the script',
+          () => change(now => dropStudy(now.lines, now.studies[now.at], now.at), 'script'), {id: 'drop'})));
 }
 const copy = () => change(now => copyStudy(now.lines, now.studies, now.at), 'script');
 /** What is done with the study as a whole. */
-const studyButtons = () => [
-  button('Copy this study', 'one more of the same behind it', copy, { class: 'chip act', id: 'copyStudy' }),
-  doc().studies.length > 1 && [moveButton('Move up', -1), moveButton('Move down', 1)]
-];
+const studyButtons =
+  () => [button('Copy this study', 'one more of the same behind it', copy, {class: 'chip act', id: 'copyStudy'}),
+    doc().studies.length > 1 && [moveButton('Move up', -1), moveButton('Move down', 1)]];
 /**
  * @param {string} text
  * @param {1 | -1} by
  */
-const moveButton = (text, by) => button(text, 'this study among those of the script', () => change(now => moveStudy(now.lines, now.studies, now.at, by), 'script'),
-  { class: 'chip act', id: by < 0 ? 'studyUp' : 'studyDown', disabled: !doc().studies[doc().at + by] });
+const moveButton = (text, by) => button(text, 'this study among those of the script',
+  () => change(now => moveStudy(now.lines, now.studies, now.at, by), 'script'),
+  {class: 'chip act', id: by < 0 ? 'studyUp' : 'studyDown', disabled: !doc().studies[doc().at + by]});
 function refusedView() {
   const list = doc().refused, studies = doc().studies;
   const of = (/** @type {number} */ line) => studies.findIndex(s => s.from <= line && line < s.end);
-  const cells = (/** @type {import('./types.js').Refused} */ r) => [`${r.line + 1}`, of(r.line) < 0 ? '–' : studyLink(of(r.line)),
-    h('code', {}, r.text.slice(0, 80)), reason(r.reply)];
+  const cells = (/** @type {import('./types.js').Refused} */ r) => [`${r.line + 1}`,
+    of(r.line) < 0 ? '–' : studyLink(of(r.line)), h('code', {}, r.text.slice(0, 80)), reason(r.reply)];
   return [
-    h('h2', {id: 'refused'}, `${counted(list.length, 'line')} of the script ${list.length === 1 ? 'was' : 'were'} refused`),
+    h('h2', {id: 'refused'},
+      `${counted(list.length, 'line')} of the script ${list.length === 1 ? 'was' : 'were'} refused`),
     table(['Line', 'Study', 'Text', 'Reason'], list, cells)
   ];
 }
 /** @param {number} i */
-const studyLink = i => button(`${numbersOf(doc()).get(i)}`, 'show it', () => goStudy(i), { class: 'link', 'aria-current': i === doc().at && 'true' });
+const studyLink = i => button(
+  `${numbersOf(doc()).get(i)}`, 'show it', () => goStudy(i), {class: 'link', 'aria-current': i === doc().at && 'true'});

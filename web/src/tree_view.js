@@ -1,13 +1,13 @@
 // @ts-check
 // The solution, as it is printed: first children in a line, variations below the move that they replace.
-import { $, h, patch } from './dom.js';
-import { numbered, sideOf } from './fen.js';
-import { go } from './actions.js';
-import { app, doc } from './state.js';
-import { written } from './parse_answers.js';
-import { editsTo } from './script.js';
-import { bareTree } from './unmarked.js';
-import { counted, markMeaning, markSign, moveName, valueSign, valueText, zugzwangText } from './words.js';
+import {$, h, patch} from './dom.js';
+import {numbered, sideOf} from './fen.js';
+import {go} from './actions.js';
+import {app, doc} from './state.js';
+import {written} from './parse_answers.js';
+import {editsTo} from './script.js';
+import {bareTree} from './unmarked.js';
+import {counted, markMeaning, markSign, moveName, valueSign, valueText, zugzwangText} from './words.js';
 /** @typedef {import('./types.js').TreeNode} TreeNode @typedef {import('./types.js').Study} Study */
 
 /**
@@ -16,26 +16,34 @@ import { counted, markMeaning, markSign, moveName, valueSign, valueText, zugzwan
  * @param {boolean} first
  */
 function moveView(s, n, first) {
-  const before = n.parent ? n.parent.fen : n.fen, num = first || sideOf(before) === 'White' ? numbered(before).replace(' ', '\u00a0') : '';
+  const before = n.parent ? n.parent.fen : n.fen,
+        num = first || sideOf(before) === 'White' ? numbered(before).replace(' ', '\u00a0') : '';
   const sign = markSign(n);
-  const title = [valueText(sideOf(n.fen), n.value), markMeaning(n, s.aim ? s.aim.hero : undefined)].filter(Boolean).join('; ');
+  const title =
+    [valueText(sideOf(n.fen), n.value), markMeaning(n, s.aim ? s.aim.hero : undefined)].filter(Boolean).join('; ');
   return h('span', {class: 'mv'},
-    h('button', { type: 'button', class: `m ${n.mark}`, 'data-path': n.path, title, 'aria-label': `${moveName(n)}: ${title}` }, num + n.san,
-      sign && h('b', {}, sign)),
-    s.aim && h('sub', {}, valueSign(s.aim.hero, sideOf(n.fen), n.value)), n.mark === 'dual' && h('span', {class: 'tag'}, `dual ${n.duals}`),
+    h('button',
+      {type: 'button', class: `m ${n.mark}`, 'data-path': n.path, title, 'aria-label': `${moveName(n)}: ${title}`},
+      num + n.san, sign && h('b', {}, sign)),
+    s.aim && h('sub', {}, valueSign(s.aim.hero, sideOf(n.fen), n.value)),
+    n.mark === 'dual' && h('span', {class: 'tag'}, `dual ${n.duals}`),
     n.zugzwang && h('span', {class: 'tag zugzwang', title: `mutual zugzwang: ${zugzwangText(n.zugzwang)}`}, '⊙'));
 }
 /**
- * A move, by all that its view is made from: the hero, and of the position before it the side to move and the number; and a space.
+ * A move, by all that its view is made from: the hero, and of the position before it the side to move and the number;
+ * and a space.
  * @param {Study} s
  * @param {TreeNode} n
  * @param {boolean} first
  * @returns {import('./dom.js').Wanted[]}
  */
 function moveItems(s, n, first) {
-  const before = n.parent ? n.parent.fen : n.fen, number = before.slice(before.lastIndexOf(' ')), side = before[before.indexOf(' ') + 1];
-  const key = [n.path, n.san, n.mark, n.duals, n.value.kind, n.value.n, side + number, first, n.zugzwang, s.aim ? s.aim.hero : ''].join(' ');
-  return [{ key, make: () => moveView(s, n, first) }, { key: n.path, make: () => document.createTextNode(' ') }];
+  const before = n.parent ? n.parent.fen : n.fen, number = before.slice(before.lastIndexOf(' ')),
+        side = before[before.indexOf(' ') + 1];
+  const key = [
+    n.path, n.san, n.mark, n.duals, n.value.kind, n.value.n, side + number, first, n.zugzwang, s.aim ? s.aim.hero : ''
+  ].join(' ');
+  return [{key, make: () => moveView(s, n, first)}, {key: n.path, make: () => document.createTextNode(' ')}];
 }
 /**
  * @param {Study} s
@@ -49,7 +57,8 @@ function lineItems(s, from, numberedFirst) {
   for (let n = from; n.children.length; n = n.children[0]) {
     out.push(...moveItems(s, n.children[0], first));
     first = n.children.length > 1;
-    if (first) out.push({ key: 'ul ' + n.path, make: () => h('ul', {}), kids: n.children.slice(1).map(c => variationItem(s, c)) });
+    if (first)
+      out.push({key: 'ul ' + n.path, make: () => h('ul', {}), kids: n.children.slice(1).map(c => variationItem(s, c))});
   }
   return out;
 }
@@ -57,7 +66,8 @@ function lineItems(s, from, numberedFirst) {
  * @param {Study} s
  * @param {TreeNode} n
  */
-const variationItem = (s, n) => ({ key: 'li ' + n.path, make: () => h('li', {}), kids: [...moveItems(s, n, true), ...lineItems(s, n, false)] });
+const variationItem = (s, n) =>
+  ({key: 'li ' + n.path, make: () => h('li', {}), kids: [...moveItems(s, n, true), ...lineItems(s, n, false)]});
 /** @typedef {import('./unmarked.js').Bare} Bare */
 /**
  * Moves as the script has them, with no mark and no board: they lead nowhere yet.
@@ -74,7 +84,7 @@ function bareLine(from, ply, numberedFirst) {
     first = n.children.length > 1;
     if (first)
       out.push(
-          h('ul', {}, n.children.slice(1).map(c => h('li', {}, bareMove(c, ply, true), bareLine(c, ply + 1, false)))));
+        h('ul', {}, n.children.slice(1).map(c => h('li', {}, bareMove(c, ply, true), bareLine(c, ply + 1, false)))));
   }
   return out;
 }
@@ -85,17 +95,17 @@ function bareLine(from, ply, numberedFirst) {
  */
 function bareMove(n, ply, first) {
   const number = first || ply % 2 === 0 ? `${Math.floor(ply / 2)}${ply % 2 ? '...' : '.'}\u00a0` : '';
-  return [h('span', { class: 'mv m' }, number, n.san), ' '];
+  return [h('span', {class: 'mv m'}, number, n.san), ' '];
 }
 /**
  * @param {Study} s
  */
 function bareView(s) {
   const lines = editsTo(doc().lines, s), root = bareTree(lines), fields = s.fen.split(' ');
-  const title = h('h2', { id: 'solution' }, 'Solution ', h('small', {}, 'not marked yet'));
-  const tree = h(
-      'div', { class: 'tree bare' }, bareLine(root, 2 * (Number(fields[5]) || 1) + (fields[1] === 'b' ? 1 : 0), true));
-  return root.children.length ? [{ key: 'bare ' + lines.join(' '), make: () => h('div', {}, title, tree) }] : [];
+  const title = h('h2', {id: 'solution'}, 'Solution ', h('small', {}, 'not marked yet'));
+  const tree =
+    h('div', {class: 'tree bare'}, bareLine(root, 2 * (Number(fields[5]) || 1) + (fields[1] === 'b' ? 1 : 0), true));
+  return root.children.length ? [{key: 'bare ' + lines.join(' '), make: () => h('div', {}, title, tree)}] : [];
 }
 /**
  * Of a tree that stands there already only what has changed is drawn.
@@ -104,11 +114,14 @@ function bareView(s) {
 export function showTree(s) {
   const view = app.view, nodes = s && view ? written(view.root).length - 1 : 0;
   if (!s || !view) return patch($('tree'), s ? bareView(s) : []);
-  const title = () => h('h2', { id: 'solution' }, 'Solution ', nodes > 0 && h('small', {}, counted(nodes, 'move')));
-  const none = () => h('p', { class: 'note' }, 'Play a move on the board, choose one below it, or type it.');
-  const tree = () => h('div', { class: 'tree', role: 'group', 'aria-labelledby': 'solution' });
-  patch($('tree'), [{ key: `solution ${nodes}`, make: title },
-    ...(nodes ? [{ key: 'tree', make: tree, kids: lineItems(s, view.root, true) }, { key: 'key', make: keyView }] : [{ key: 'none', make: none }])]);
+  const title = () => h('h2', {id: 'solution'}, 'Solution ', nodes > 0 && h('small', {}, counted(nodes, 'move')));
+  const none = () => h('p', {class: 'note'}, 'Play a move on the board, choose one below it, or type it.');
+  const tree = () => h('div', {class: 'tree', role: 'group', 'aria-labelledby': 'solution'});
+  patch($('tree'), [
+    {key: `solution ${nodes}`, make: title},
+    ...(nodes ? [{key: 'tree', make: tree, kids: lineItems(s, view.root, true)}, {key: 'key', make: keyView}]
+              : [{key: 'none', make: none}])
+  ]);
 }
 /** A press on a move of the tree leads to it. */
 export const listenToTree = () => $('tree').addEventListener('click', (/** @type {any} */ e) => {
@@ -122,11 +135,18 @@ export const listenToTree = () => $('tree').addEventListener('click', (/** @type
 export function markCurrent(path) {
   const before = document.querySelector('#tree .m.now'), now = document.querySelector(`#tree [data-path="${path}"]`);
   if (before === now) return;
-  if (before) { before.classList.remove('now'); before.removeAttribute('aria-current'); }
-  if (now) { now.classList.add('now'); now.setAttribute('aria-current', 'true'); }
+  if (before) {
+    before.classList.remove('now');
+    before.removeAttribute('aria-current');
+  }
+  if (now) {
+    now.classList.add('now');
+    now.setAttribute('aria-current', 'true');
+  }
 }
-const example = (/** @type {string} */ mark, /** @type {string} */ sign) => h('span', { class: 'm ' + mark }, 'move', sign && h('b', {}, sign));
-export const keyView = () =>
-    h('p', {class: 'note key'}, example('only', '!'), ' the only one that holds · ', example('dual', ''), ' ', h('span', {class: 'tag'}, 'dual 2'),
-      ' two others hold · ', example('mistake', '?'), ' lets the aim go · ', example('', ''), h('sub', {}, '7'), ' mate in 7 · ', h('sub', {}, '−7'),
-      ' is mated in 7 · ', h('sub', {}, '='), ' drawn · ', h('span', {class: 'tag zugzwang'}, '⊙'), ' mutual zugzwang');
+const example = (/** @type {string} */ mark, /** @type {string} */ sign) =>
+  h('span', {class: 'm ' + mark}, 'move', sign && h('b', {}, sign));
+export const keyView = () => h('p', {class: 'note key'}, example('only', '!'), ' the only one that holds · ',
+  example('dual', ''), ' ', h('span', {class: 'tag'}, 'dual 2'), ' two others hold · ', example('mistake', '?'),
+  ' lets the aim go · ', example('', ''), h('sub', {}, '7'), ' mate in 7 · ', h('sub', {}, '−7'), ' is mated in 7 · ',
+  h('sub', {}, '='), ' drawn · ', h('span', {class: 'tag zugzwang'}, '⊙'), ' mutual zugzwang');

@@ -1,8 +1,8 @@
 // @ts-check
-// The whole diagram one file or rank over, mirrored, or with colours exchanged, and a tree of moves along with it. Which
-// moves are legal then is for the program to say.
-import { menOf, other, placement, squareAt, squareName } from './fen.js';
-import { aimWords, readAim } from './words.js';
+// The whole diagram one file or rank over, mirrored, or with colours exchanged, and a tree of moves along with it.
+// Which moves are legal then is for the program to say.
+import {menOf, other, placement, squareAt, squareName} from './fen.js';
+import {aimWords, readAim} from './words.js';
 /** @typedef {import('./unmarked.js').Bare} Bare @typedef {import('./types.js').TreeNode} TreeNode */
 /** @typedef {'left' | 'right' | 'up' | 'down' | 'mirror' | 'colours'} Turn */
 
@@ -55,7 +55,10 @@ export function turnedFen(turn, fen) {
   const [placed, mover, castling, passed, ...rest] = fen.split(' '), men = turnedMen(turn, menOf(placed));
   if (!men) return null;
   const to = /^[a-h][1-8]$/.test(passed) ? turnedSquare(turn, squareAt(passed)) : null;
-  return [placement(men), turn === 'colours' ? (mover === 'w' ? 'b' : 'w') : mover, castling, to === null ? '-' : squareName(to), ...rest].join(' ');
+  return [
+    placement(men), turn === 'colours' ? (mover === 'w' ? 'b' : 'w') : mover, castling,
+    to === null ? '-' : squareName(to), ...rest
+  ].join(' ');
 }
 /**
  * The words of a stipulation after a turn.
@@ -64,22 +67,23 @@ export function turnedFen(turn, fen) {
  */
 export function turnedAim(turn, words) {
   const aim = readAim(words);
-  return turn === 'colours' ? aimWords({ ...aim, hero: other(aim.hero) }) : words;
+  return turn === 'colours' ? aimWords({...aim, hero: other(aim.hero)}) : words;
 }
 /**
  * The text of a move after a turn: its files and ranks are others.
  * @param {Turn} turn
  * @param {string} san
  */
-export const turnedSan = (turn, san) => san.replace(/[a-h]/g, c => 'abcdefgh'[PLACES[turn]('abcdefgh'.indexOf(c), 0)[0]] || c)
-                                            .replace(/[1-8]/g, c => `${PLACES[turn](0, Number(c) - 1)[1] + 1}`);
+export const turnedSan = (turn, san) =>
+  san.replace(/[a-h]/g, c => 'abcdefgh'[PLACES[turn]('abcdefgh'.indexOf(c), 0)[0]] || c)
+    .replace(/[1-8]/g, c => `${PLACES[turn](0, Number(c) - 1)[1] + 1}`);
 
 /**
  * A tree by its moves alone.
  * @param {TreeNode} node
  * @returns {Bare}
  */
-export const bareOf = node => ({ path: node.path, san: node.san, children: node.children.map(bareOf) });
+export const bareOf = node => ({path: node.path, san: node.san, children: node.children.map(bareOf)});
 /**
  * The same moves after some turns.
  * @param {Bare} tree
@@ -97,10 +101,9 @@ export const turnedTree = (tree, turns) => ({
  * @param {string} at
  * @returns {{line: string, node: Bare, parent: Bare}[]}
  */
-export const insertions = (tree, at = 'root') => tree.children.flatMap((node, i) => [
-  { line: `insert ${at} ${node.san}`, node, parent: tree },
-  ...insertions(node, at === 'root' ? `${i}` : `${at}.${i}`)
-]);
+export const insertions = (tree, at = 'root') =>
+  tree.children.flatMap((node, i) => [{line: `insert ${at} ${node.san}`, node, parent: tree},
+                          ...insertions(node, at === 'root' ? `${i}` : `${at}.${i}`)]);
 /** @param {Bare} tree @returns {number} */
 const sizeOf = tree => 1 + tree.children.reduce((sum, child) => sum + sizeOf(child), 0);
 /**
@@ -113,11 +116,11 @@ const sizeOf = tree => 1 + tree.children.reduce((sum, child) => sum + sizeOf(chi
 export async function legalPart(tree, firstRefused, most = Infinity) {
   const fallen = /** @type {{san: string, below: number}[]} */ ([]);
   for (;;) {
-    const list = insertions(tree), lines = list.map(({ line }) => line), at = await firstRefused(lines);
-    if (at < 0) return { lines, fallen };
-    const { node, parent } = list[at];
-    fallen.push({ san: node.san, below: sizeOf(node) - 1 });
+    const list = insertions(tree), lines = list.map(({line}) => line), at = await firstRefused(lines);
+    if (at < 0) return {lines, fallen};
+    const {node, parent} = list[at];
+    fallen.push({san: node.san, below: sizeOf(node) - 1});
     parent.children.splice(parent.children.indexOf(node), 1);
-    if (fallen.length > most) return { lines: [], fallen };
+    if (fallen.length > most) return {lines: [], fallen};
   }
 }

@@ -1,7 +1,7 @@
 // @ts-check
 // Moves as they are typed, in the ways in which books write them, as texts that the program takes.
 
-const GERMAN = /** @type {Record<string, string>} */ ({ S: 'N', T: 'R', L: 'B', D: 'Q' });
+const GERMAN = /** @type {Record<string, string>} */ ({S: 'N', T: 'R', L: 'B', D: 'Q'});
 /** @param {string} letter */
 const english = letter => GERMAN[letter] || letter;
 /**
@@ -14,7 +14,8 @@ export function typedMove(word) {
   const promoted = (/** @type {string} */ _, /** @type {string} */ square, /** @type {string} */ letter) =>
     `${square}=${english(letter)}`;
   const bare = word.replace(/[-\u2013\u2014]/g, '');
-  const move = bare.replace(/^([kqrnstl])(?=[a-h]?[1-8]?x?[a-h][1-8])/, capital).replace(/^[STLD](?=[a-h1-8x])/, english);
+  const move =
+    bare.replace(/^([kqrnstl])(?=[a-h]?[1-8]?x?[a-h][1-8])/, capital).replace(/^[STLD](?=[a-h1-8x])/, english);
   return move.replace(/([a-h][18])[=(]?([QRBNDTLS])\)?(?=[+#!?]*$)/, promoted);
 }
 /**

@@ -6,8 +6,10 @@
  * @typedef {'White' | 'Black'} Side
  * @typedef {{hero: Side, goal: 'win' | 'draw' | 'mate', k: number}} Aim
  *
- * @typedef {{san: string, from: number, to: number, promoted: string, value: Value, mark: string, duals: number, fen: string}} Move
- *   a legal move, and what it would be in the tree: `mark` is only, dual, mistake, idle or reply; `duals` the others that hold
+ * @typedef {{san: string, from: number, to: number, promoted: string, value: Value, mark: string, duals: number,
+ *   fen: string}} Move
+ *   a legal move, and what it would be in the tree: `mark` is only, dual, mistake, idle or reply; `duals` the others
+ *   that hold
  *
  * @typedef {object} TreeNode
  * @property {string} path         `root`, or the places of children joined by dots
@@ -39,10 +41,13 @@
  * @typedef {{path: string, san: string, value: Value | null}} Refutation       no value: the move stalemates
  * @typedef {{path: string, san: string, value: Value, count: number, answer: string}} Missing
  * @typedef {{path: string, value: Value | null, keeping: number, of: number, sans: string[]}} Ending   no value: drawn
- * @typedef {{empty: boolean, waste: string, faults: Fault[], also: Also[], refuted: Refutation[], missing: Missing[], ends: Ending[]}} Review
+ * @typedef {{empty: boolean, waste: string, faults: Fault[], also: Also[], refuted: Refutation[], missing: Missing[],
+ *   ends: Ending[]}} Review
+ *   `empty`: the tree has no move of the hero
  *   `waste`: the stamp by which loss of time is no dual, as `sound but for loss of time`; empty where none loses time
  *
- * @typedef {{square: number, kind: 'none' | 'fails' | 'holds' | 'only', value: Value | null, count: number, san: string}} Stand
+ * @typedef {{square: number, kind: 'none' | 'fails' | 'holds' | 'only', value: Value | null, count: number,
+ *   san: string}} Stand
  *
  * @typedef {object} Study         a study as the lines of the script make it
  * @property {number} head         the first of the remarks right above its position

@@ -1,6 +1,6 @@
 // @ts-check
 // A study before the program has read it: its moves as its lines have them, without marks, values or boards.
-import { isEdit, assumeAccepted, wordsOf } from './script.js';
+import {isEdit, assumeAccepted, wordsOf} from './script.js';
 /** @typedef {{path: string, san: string, children: Bare[]}} Bare      a move of the tree; the root has none */
 
 /**
@@ -10,7 +10,7 @@ import { isEdit, assumeAccepted, wordsOf } from './script.js';
  */
 export function unjudged(lines) {
   const script = assumeAccepted(lines);
-  for (const study of script.studies) Object.assign(study, { pgn: '', verdict: '', games: [], ended: false });
+  for (const study of script.studies) Object.assign(study, {pgn: '', verdict: '', games: [], ended: false});
   return script;
 }
 /**
@@ -19,11 +19,11 @@ export function unjudged(lines) {
  * @returns {Bare}
  */
 export function bareTree(lines) {
-  let root = /** @type {Bare} */ ({ path: 'root', san: '', children: [] });
+  let root = /** @type {Bare} */ ({path: 'root', san: '', children: []});
   for (const line of lines.filter(isEdit)) {
     const [command, path = '', san = ''] = wordsOf(line), places = path === 'root' ? [] : path.split('.').map(Number);
     const last = places[places.length - 1];
-    if (command === 'position') root = { path: 'root', san: '', children: [] };
+    if (command === 'position') root = {path: 'root', san: '', children: []};
     if (command === 'insert') inserted(at(root, places), san);
     const parent = at(root, places.slice(0, -1));
     if (!parent || !places.length || !parent.children[last]) continue;
@@ -37,16 +37,15 @@ export function bareTree(lines) {
  * @param {string} san
  */
 function inserted(node, san) {
-  if (node && san && !node.children.some(child => child.san === san))
-    node.children.push({ path: '', san, children: [] });
+  if (node && san && !node.children.some(child => child.san === san)) node.children.push({path: '', san, children: []});
 }
 /**
  * @param {Bare} root
  * @param {number[]} places
  * @returns {Bare | undefined}
  */
-const at = (root, places) => places.reduce(
-    (/** @type {Bare | undefined} */ node, place) => node && node.children[place], root);
+const at = (root, places) =>
+  places.reduce((/** @type {Bare | undefined} */ node, place) => node && node.children[place], root);
 /**
  * @param {Bare} node
  * @param {string} path
@@ -54,5 +53,5 @@ const at = (root, places) => places.reduce(
  */
 function named(node, path) {
   const base = path === 'root' ? '' : path + '.';
-  return { ...node, path, children: node.children.map((child, i) => named(child, base + i)) };
+  return {...node, path, children: node.children.map((child, i) => named(child, base + i))};
 }

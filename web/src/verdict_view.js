@@ -1,16 +1,28 @@
 // @ts-check
 // The verdict of a study and its faults, each with its remedies.
-import { h } from './dom.js';
-import { numbered, other, sideOf } from './fen.js';
-import { change, go, judgeAgain } from './actions.js';
-import { app, doc } from './state.js';
-import { insert } from './board_input.js';
-import { stipulate } from './edits.js';
-import { stampOf } from './entries.js';
-import { nodeAt, written } from './parse_answers.js';
-import { promote, remove } from './node_view.js';
-import { verdictsBefore } from './script.js';
-import { aimText, counted, difference, holds, moveName, numberedLine, otherAims, readAim, valueText, verdictSentence, winner } from './words.js';
+import {h} from './dom.js';
+import {numbered, other, sideOf} from './fen.js';
+import {change, go, judgeAgain} from './actions.js';
+import {app, doc} from './state.js';
+import {insert} from './board_input.js';
+import {stipulate} from './edits.js';
+import {stampOf} from './entries.js';
+import {nodeAt, written} from './parse_answers.js';
+import {promote, remove} from './node_view.js';
+import {verdictsBefore} from './script.js';
+import {
+  aimText,
+  counted,
+  difference,
+  holds,
+  moveName,
+  numberedLine,
+  otherAims,
+  readAim,
+  valueText,
+  verdictSentence,
+  winner
+} from './words.js';
 /** @typedef {import('./types.js').Study} Study @typedef {import('./types.js').TreeNode} TreeNode */
 /** @typedef {import('./types.js').Also} Also */
 
@@ -18,8 +30,8 @@ import { aimText, counted, difference, holds, moveName, numberedLine, otherAims,
 export function verdictView(s) {
   const view = app.view;
   if (!view) return notJudged();
-  if (!s.aim || !view.verdict) return h('p', { class: 'say' }, 'No stipulation yet: choose who is to win or to draw.');
-  const { kind, text } = stampOf(doc(), { ...s, verdict: view.verdict }, app.review);
+  if (!s.aim || !view.verdict) return h('p', {class: 'say'}, 'No stipulation yet: choose who is to win or to draw.');
+  const {kind, text} = stampOf(doc(), {...s, verdict: view.verdict}, app.review);
   return [
     h('p', {class: 'verdict'}, h('span', {class: 'stamp ' + kind.replace(' ', '-'), id: 'stamp'}, text),
       h('span', {id: 'sentence'}, verdictSentence(view, kind))),
@@ -29,11 +41,11 @@ export function verdictView(s) {
 /** Why there are no marks: tables are on their way, or something failed. */
 function notJudged() {
   if (!app.noView)
-    return h('p', { class: 'note', role: 'status', id: 'unjudged' },
-        'Not judged yet: its tables are being built. The marks come then, and the board follows the moves.');
-  return h('p', { class: 'say', id: 'unjudged' }, `This study is not judged: ${app.noView}. `,
-      / table|ables /.test(app.noView) &&
-          h('button', { type: 'button', class: 'chip act', id: 'buildNow', onclick: judgeAgain }, 'Build the tables'));
+    return h('p', {class: 'note', role: 'status', id: 'unjudged'},
+      'Not judged yet: its tables are being built. The marks come then, and the board follows the moves.');
+  return h('p', {class: 'say', id: 'unjudged'}, `This study is not judged: ${app.noView}. `,
+    / table|ables /.test(app.noView) &&
+      h('button', {type: 'button', class: 'chip act', id: 'buildNow', onclick: judgeAgain}, 'Build the tables'));
 }
 /**
  * The faults, each with what mends it.
@@ -43,8 +55,9 @@ export function faultsView(s) {
   const view = app.view, faults = app.review ? app.review.faults : [];
   if (!view || !s.aim || !view.verdict) return null;
   return [
-    faults.length > 0 && h('ul', {class: 'faults'}, faults.slice(0, 40).map(f => h('li', {}, faultView(s, view.root, f)))), timeView(s, view.root),
-    adviceView(s)
+    faults.length > 0 &&
+      h('ul', {class: 'faults'}, faults.slice(0, 40).map(f => h('li', {}, faultView(s, view.root, f)))),
+    timeView(s, view.root), adviceView(s)
   ];
 }
 /**
@@ -53,9 +66,10 @@ export function faultsView(s) {
  */
 function beforeView(s) {
   const before = verdictsBefore(s);
-  return before.length > 0 && h('p', { class: 'note', id: 'verdictsBefore' }, 'This is the study after its last line. Its script has ',
-    before.length === 1 ? 'one more game' : `${before.length} more games`, ' of it: ', h('b', {}, before.join('; ')), '. Save PGN and Save report include ',
-    before.length === 1 ? 'it.' : 'them.');
+  return before.length > 0 &&
+    h('p', {class: 'note', id: 'verdictsBefore'}, 'This is the study after its last line. Its script has ',
+      before.length === 1 ? 'one more game' : `${before.length} more games`, ' of it: ', h('b', {}, before.join('; ')),
+      '. Save PGN and Save report include ', before.length === 1 ? 'it.' : 'them.');
 }
 /**
  * Names of moves that more than one node of the tree has.
@@ -74,10 +88,12 @@ function sharedNames(root) {
  * A move's name, with the move before it where another move of the tree has the same name.
  * @param {TreeNode} n
  */
-const fullName = n => (app.view && n.parent && n.parent.parent && sharedNames(app.view.root).has(moveName(n)) ?
-  numberedLine(n.parent.parent.fen, [n.parent.san, n.san]) : moveName(n));
+const fullName = n => (app.view && n.parent && n.parent.parent && sharedNames(app.view.root).has(moveName(n))
+    ? numberedLine(n.parent.parent.fen, [n.parent.san, n.san])
+    : moveName(n));
 /** @param {TreeNode} n */
-export const nodeLink = n => h('button', { type: 'button', class: 'link', title: lineTo(n), onclick: () => go(n.path) }, fullName(n));
+export const nodeLink = n =>
+  h('button', {type: 'button', class: 'link', title: lineTo(n), onclick: () => go(n.path)}, fullName(n));
 /**
  * All moves from the start to a node.
  * @param {TreeNode} n
@@ -96,17 +112,16 @@ function lineTo(n) {
  * @param {string} [title]
  * @param {boolean} [named]      whether the title is its name for a screen reader too
  */
-export const add = (path, sans, label, title, named = false) =>
-    h('button', {
-      type: 'button',
-      class: 'chip add',
-      title: title || `put ${sans.join(' ')} into the tree`,
-      'aria-label': named && title,
-      'data-path': path,
-      'data-sans': sans.join(' '),
-      onclick: () => insert(path, sans)
-    },
-      label);
+export const add = (path, sans, label, title, named = false) => h('button', {
+  type: 'button',
+  class: 'chip add',
+  title: title || `put ${sans.join(' ')} into the tree`,
+  'aria-label': named && title,
+  'data-path': path,
+  'data-sans': sans.join(' '),
+  onclick: () => insert(path, sans)
+},
+  label);
 /**
  * @param {Study} s
  * @param {TreeNode} n
@@ -130,17 +145,30 @@ function faultView(s, root, f) {
   const n = nodeAt(root, f.path), all = app.review ? app.review.also.filter(a => a.path === f.path) : [];
   if (!n) return f.san;
   if (f.kind === 'mistake') return mistakeView(s, n);
-  return [nodeLink(n), ': also ', alsoView(s, n, all.slice(0, 6)), all.length > 6 && `and ${all.length - 6} more `, cut(n, 'End before it')];
+  return [
+    nodeLink(n), ': also ', alsoView(s, n, all.slice(0, 6)), all.length > 6 && `and ${all.length - 6} more `,
+    cut(n, 'End before it')
+  ];
 }
 /**
  * @param {Study} s
  * @param {TreeNode} n
  */
 function mistakeView(s, n) {
-  const late = s.aim && s.aim.goal === 'mate' && winner(sideOf(n.fen), n.value) === s.aim.hero, better = n.parent ? n.parent.children.find(holds) : undefined;
-  const left = late ? `mate comes on move ${Math.ceil((n.path.split('.').length + n.value.n) / 2)}` : valueText(sideOf(n.fen), n.value);
-  return [nodeLink(n), h('b', {}, ' lets the aim go'), `: ${left} `,
-    better && [h('button', { type: 'button', class: 'chip act', onclick: () => promote(better, true) }, `Put ${better.san} first`), ' '], cut(n, 'Delete it')];
+  const late = s.aim && s.aim.goal === 'mate' && winner(sideOf(n.fen), n.value) === s.aim.hero,
+        better = n.parent ? n.parent.children.find(holds) : undefined;
+  const left = late ? `mate comes on move ${Math.ceil((n.path.split('.').length + n.value.n) / 2)}`
+                    : valueText(sideOf(n.fen), n.value);
+  return [
+    nodeLink(n), h('b', {}, ' lets the aim go'), `: ${left} `,
+    better &&
+      [
+        h('button', {type: 'button', class: 'chip act', onclick: () => promote(better, true)},
+          `Put ${better.san} first`),
+        ' '
+      ],
+    cut(n, 'Delete it')
+  ];
 }
 /**
  * A button that takes a move out of the tree; it says how much goes with it, and which move comes to its place.
@@ -158,7 +186,8 @@ function cut(n, text) {
     title: [gone, next].filter(Boolean).join('; '),
     'data-cut': n.path,
     onclick: () => remove(n.path)
-  }, '✕ ', text, words && h('small', {}, ` (${words})`));
+  },
+    '✕ ', text, words && h('small', {}, ` (${words})`));
 }
 /**
  * A move with the first ones below it.
@@ -176,17 +205,17 @@ function lineFrom(n) {
  * @param {TreeNode} root
  */
 function timeView(s, root) {
-  const duals = app.review ? app.review.faults.filter(f => f.kind === 'dual') : [], all = duals.reduce((sum, f) => sum + f.duals, 0),
-        idle = duals.reduce((sum, f) => sum + f.time, 0);
+  const duals = app.review ? app.review.faults.filter(f => f.kind === 'dual') : [],
+        all = duals.reduce((sum, f) => sum + f.duals, 0), idle = duals.reduce((sum, f) => sum + f.time, 0);
   if (!idle || !s.aim || !app.review) return null;
   const also = app.review.also, rest = duals.flatMap(f => also.filter(a => a.path === f.path && a.time < 0).map(a => {
     const n = nodeAt(root, f.path);
     return (n && n.parent ? numbered(n.parent.fen) : '') + a.san;
   }));
-  return h(
-      'p', {}, h('b', {}, all === 1 ? 'This one loses time' : `${idle} of these ${all} ${idle === 1 ? 'loses' : 'lose'} time`),
-      `: ${other(s.aim.hero)} forces a position of the same line again. `,
-      rest.length ? ['There remains: ', h('b', {}, rest.slice(0, 8).join(', ')), '.'] : 'None remains.');
+  return h('p', {},
+    h('b', {}, all === 1 ? 'This one loses time' : `${idle} of these ${all} ${idle === 1 ? 'loses' : 'lose'} time`),
+    `: ${other(s.aim.hero)} forces a position of the same line again. `,
+    rest.length ? ['There remains: ', h('b', {}, rest.slice(0, 8).join(', ')), '.'] : 'None remains.');
 }
 /**
  * What could be said of this position instead.
@@ -197,10 +226,11 @@ function adviceView(s) {
   if (!view || !s.aim) return null;
   const duals = app.review !== null && app.review.faults.some(f => f.kind === 'dual');
   const offers = otherAims(s.aim, view.verdict, sideOf(view.fen), view.root.value, duals);
-  return offers.length > 0 && h('p', { class: 'act' }, 'Say instead: ', offers.map(words => [aimButton(words), ' ']));
+  return offers.length > 0 && h('p', {class: 'act'}, 'Say instead: ', offers.map(words => [aimButton(words), ' ']));
 }
 /** @param {string} words */
 function aimButton(words) {
-  const onclick = () => change(now => (now.studies[now.at] ? stipulate(now.lines, now.studies[now.at], words) : null), 'head');
-  return h('button', { type: 'button', class: 'chip add', 'data-aim': words, onclick }, aimText(readAim(words)));
+  const onclick = () =>
+    change(now => (now.studies[now.at] ? stipulate(now.lines, now.studies[now.at], words) : null), 'head');
+  return h('button', {type: 'button', class: 'chip add', 'data-aim': words, onclick}, aimText(readAim(words)));
 }

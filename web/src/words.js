@@ -1,6 +1,6 @@
 // @ts-check
 // Values, verdicts and refusals in the words of the printed page.
-import { numbered, other, sideOf } from './fen.js';
+import {numbered, other, sideOf} from './fen.js';
 /** @typedef {import('./types.js').Value} Value @typedef {import('./types.js').Side} Side */
 /** @typedef {import('./types.js').Aim} Aim */
 /** @typedef {import('./types.js').TreeNode} TreeNode */
@@ -52,7 +52,7 @@ export const aimText = aim => `${aim.hero} to ${aim.goal}${aim.goal === 'mate' ?
  */
 export function readAim(words) {
   const [hero, goal, k] = words.trim().split(/ +/);
-  return { hero: hero === 'black' ? 'Black' : 'White', goal: /** @type {Aim['goal']} */ (goal), k: Number(k) || 0 };
+  return {hero: hero === 'black' ? 'Black' : 'White', goal: /** @type {Aim['goal']} */ (goal), k: Number(k) || 0};
 }
 /** @param {{mark: string}} move */
 export const holds = move => move.mark === 'only' || move.mark === 'dual';
@@ -71,12 +71,14 @@ export const numberedName = (before, san) => numbered(before) + san;
  */
 export function numberedLine(fen, sans) {
   let white = sideOf(fen) === 'White', k = Number(fen.split(' ')[5]);
-  return sans.map((san, i) => {
-    const text = (white ? `${k}. ` : i ? '' : `${k}... `) + san;
-    if (!white) k++;
-    white = !white;
-    return text;
-  }).join(' ');
+  return sans
+    .map((san, i) => {
+      const text = (white ? `${k}. ` : i ? '' : `${k}... `) + san;
+      if (!white) k++;
+      white = !white;
+      return text;
+    })
+    .join(' ');
 }
 
 const SENTENCES = /** @type {Record<string, string>} */ ({
@@ -97,7 +99,7 @@ export function verdictSentence(view, kind) {
   return `${kind === 'unsound' ? unsound : SENTENCES[kind] || ''} At the start: ${view.start}.`;
 }
 /** @param {{mark: string}} move */
-export const markSign = ({ mark }) => (mark === 'only' ? '!' : mark === 'mistake' ? '?' : '');
+export const markSign = ({mark}) => (mark === 'only' ? '!' : mark === 'mistake' ? '?' : '');
 /**
  * What the mark of a node means.
  * @param {TreeNode} node
@@ -107,7 +109,8 @@ export function markMeaning(node, hero) {
   if (node.mark === 'only') return 'the only move that holds';
   if (node.mark === 'dual') return node.duals === 1 ? 'dual: one other move holds' : `dual: ${node.duals} others hold`;
   if (node.mark === 'idle') return 'nothing was to be gained';
-  if (node.mark === 'mistake') return node.parent && sideOf(node.parent.fen) === hero ? 'lets the aim go' : 'gives the aim back';
+  if (node.mark === 'mistake')
+    return node.parent && sideOf(node.parent.fen) === hero ? 'lets the aim go' : 'gives the aim back';
   return '';
 }
 /**
@@ -116,8 +119,8 @@ export function markMeaning(node, hero) {
  */
 export function zugzwangText(kind) {
   const side = kind.endsWith('white') ? 'White' : 'Black';
-  return kind === 'full' ? 'a full point: whoever moves loses' :
-    `half a point: ${side} wins if the other side is to move, else it is a draw`;
+  return kind === 'full' ? 'a full point: whoever moves loses'
+                         : `half a point: ${side} wins if the other side is to move, else it is a draw`;
 }
 /**
  * How much longer another move takes than the one played.
@@ -150,25 +153,48 @@ export function otherAims(aim, verdict, mover, value, duals) {
 }
 
 const REASONS = /** @type {Record<string, string>} */ ({
-  BadByte: 'a letter that is not plain ASCII: write names without accents', UnknownCommand: 'the first word is no command',
+  BadByte: 'a letter that is not plain ASCII: write names without accents',
+  UnknownCommand: 'the first word is no command',
   BadArguments: 'a word too few or too many, or a path or a number that is not of its form',
-  UnknownStipulation: 'no stipulation: write white or black, then win, draw, or mate and a number from 1 to 127', UnknownTag: 'not one of the six tags',
-  NoPosition: 'there is no position yet', NoStudy: 'no stipulation is chosen yet', NoSuchNode: 'no move stands at this place of the tree',
-  PagedMode: 'it wants whole tables, and the board reads them by pages', NotAClass: 'there is no such material',
-  FieldCount: 'a FEN has six fields, or four', Placement: 'the first field does not fill the eight ranks',
-  TooManyMen: 'more than four men; the tables go up to four, kings included', KingCount: 'each side needs exactly one king',
-  PawnOnEndRank: 'a pawn stands on the first or last rank', SideField: 'the side to move is w or b',
-  OpponentInCheck: 'the side that is not to move is in check', Castling: 'castling is left out: write -',
-  EnPassantField: 'the en passant square is a square or -', EnPassantImpossible: 'no pawn can just have jumped over that square',
-  Clock: 'the half-move count has one to four digits', MoveNumber: 'the move number has one to four digits',
-  NotSan: 'not the text of a move, as Kb6 or c8=R, without its number', CastlingLeftOut: 'castling is left out',
-  NoSuchMove: 'not legal here', Ambiguous: 'two men can make this move: add the file or rank of the origin',
-  RootNotAllowed: 'the start can be neither deleted nor promoted', AlreadyFirst: 'it is the first already',
-  AlreadyThere: 'the move stands there already', TooDeep: 'more than 256 plies', TreeFull: 'more than 4096 nodes',
-  TagText: 'a text has at most 60 characters', NoFile: 'there is no file of this table', Cut: 'the file is cut short',
-  NotATable: 'the file is no table', HeaderDamaged: 'the head of the file is damaged', TrailingBytes: 'the file is too long',
-  OutOfMemory: 'no memory is left', NoMan: 'no man stands there', Device: 'it could not be written',
-  NoSuchTheme: 'no such theme', NoSuchFilter: 'a word that names no square of a man: write Kf7, or Pa2-h4 for any square between',
+  UnknownStipulation: 'no stipulation: write white or black, then win, draw, or mate and a number from 1 to 127',
+  UnknownTag: 'not one of the six tags',
+  NoPosition: 'there is no position yet',
+  NoStudy: 'no stipulation is chosen yet',
+  NoSuchNode: 'no move stands at this place of the tree',
+  PagedMode: 'it wants whole tables, and the board reads them by pages',
+  NotAClass: 'there is no such material',
+  FieldCount: 'a FEN has six fields, or four',
+  Placement: 'the first field does not fill the eight ranks',
+  TooManyMen: 'more than four men; the tables go up to four, kings included',
+  KingCount: 'each side needs exactly one king',
+  PawnOnEndRank: 'a pawn stands on the first or last rank',
+  SideField: 'the side to move is w or b',
+  OpponentInCheck: 'the side that is not to move is in check',
+  Castling: 'castling is left out: write -',
+  EnPassantField: 'the en passant square is a square or -',
+  EnPassantImpossible: 'no pawn can just have jumped over that square',
+  Clock: 'the half-move count has one to four digits',
+  MoveNumber: 'the move number has one to four digits',
+  NotSan: 'not the text of a move, as Kb6 or c8=R, without its number',
+  CastlingLeftOut: 'castling is left out',
+  NoSuchMove: 'not legal here',
+  Ambiguous: 'two men can make this move: add the file or rank of the origin',
+  RootNotAllowed: 'the start can be neither deleted nor promoted',
+  AlreadyFirst: 'it is the first already',
+  AlreadyThere: 'the move stands there already',
+  TooDeep: 'more than 256 plies',
+  TreeFull: 'more than 4096 nodes',
+  TagText: 'a text has at most 60 characters',
+  NoFile: 'there is no file of this table',
+  Cut: 'the file is cut short',
+  NotATable: 'the file is no table',
+  HeaderDamaged: 'the head of the file is damaged',
+  TrailingBytes: 'the file is too long',
+  OutOfMemory: 'no memory is left',
+  NoMan: 'no man stands there',
+  Device: 'it could not be written',
+  NoSuchTheme: 'no such theme',
+  NoSuchFilter: 'a word that names no square of a man: write Kf7, or Pa2-h4 for any square between',
   NoKeyMove: 'positions of this theme have no one first move',
 });
 /**

@@ -1,38 +1,48 @@
-// Workers around the core, with made-up workers: a trap or a stop ends a worker, and what was asked is told so; the next question begins a new one.
+// Workers around the core, with made-up workers: a trap or a stop ends a worker, and whoever waits hears of it; the
+// next question begins a new one.
 import test from 'node:test';
 import assert from 'node:assert/strict';
-import { ending } from '../src/core_host.js';
-import { Stopped, makeCore } from '../src/engine.js';
+import {ending} from '../src/core_host.js';
+import {Stopped, makeCore} from '../src/engine.js';
 
 /** A worker that answers each request by its own text, and traps at `trap`. */
 class Made {
   static begun = 0;
-  constructor() { this.ended = false; this.seen = []; Made.begun++; }
+  constructor() {
+    this.ended = false;
+    this.seen = [];
+    Made.begun++;
+  }
   postMessage(message) {
     this.seen.push(message.kind);
     if (message.request === 'sleep') return;
     setTimeout(() => {
       if (this.ended) return;
-      if (message.request === 'trap') return this.onmessage({ data: { id: message.id, failed: 'RuntimeError: unreachable' } });
+      if (message.request === 'trap')
+        return this.onmessage({data: {id: message.id, failed: 'RuntimeError: unreachable'}});
       const bytes = new TextEncoder().encode(message.request || '');
-      this.onmessage({ data: { id: message.id, bytes, ended: 'done', saved: [], ms: 1, memory: 2 } });
+      this.onmessage({data: {id: message.id, bytes, ended: 'done', saved: [], ms: 1, memory: 2}});
     });
   }
   terminate() { this.ended = true; }
 }
 function begun() {
-  const workers = [], core = makeCore(() => { const w = new Made(); workers.push(w); return w; }, async () => ({}));
-  return { workers, core };
+  const workers = [], core = makeCore(() => {
+    const w = new Made();
+    workers.push(w);
+    return w;
+  }, async () => ({}));
+  return {workers, core};
 }
 test('answers come to those who asked', async () => {
-  const { core, workers } = begun();
+  const {core, workers} = begun();
   const texts = await Promise.all(['a', 'b', 'c'].map(text => core.answer(text, '', 1)));
   assert.deepEqual(texts.map(t => t.text), ['a', 'b', 'c']);
   assert.equal(workers.length, 1);
   assert.equal(workers[0].seen[0], 'start');
 });
 test('a trap ends the worker, with the tables in it; the next question begins anew', async () => {
-  const { core, workers } = begun();
+  const {core, workers} = begun();
   await core.load('KK', new Uint8Array(8));
   assert.ok(core.has('KK'));
   const waiting = core.answer('sleep', '', 1), other = assert.rejects(waiting, /unreachable/);
@@ -43,7 +53,7 @@ test('a trap ends the worker, with the tables in it; the next question begins an
   assert.equal(workers.length, 2);
 });
 test('a stop is told as a stop', async () => {
-  const { core } = begun();
+  const {core} = begun();
   await core.answer('a', '', 1);
   const waiting = core.answer('sleep', '', 1), told = assert.rejects(waiting, fault => fault instanceof Stopped);
   await new Promise(on => setTimeout(on, 5));
@@ -51,9 +61,12 @@ test('a stop is told as a stop', async () => {
   await told;
 });
 test('a module that is not compiled is told', async () => {
-  const core = makeCore(() => new Made(), async () => { throw new Error('no module'); });
+  const core = makeCore(() => new Made(), async () => {
+    throw new Error('no module');
+  });
   await assert.rejects(core.answer('a', '', 1), /no module/);
 });
 test('how an answer ended', () => {
-  assert.deepEqual(['answered', 'refused', 'ran 7 1', 'stopped LineTooLong 3', 'stopped OutOfMemory'].map(ending), ['done', 'refused', 'done', 'LineTooLong 3', 'OutOfMemory']);
+  assert.deepEqual(['answered', 'refused', 'ran 7 1', 'stopped LineTooLong 3', 'stopped OutOfMemory'].map(ending),
+    ['done', 'refused', 'done', 'LineTooLong 3', 'OutOfMemory']);
 });

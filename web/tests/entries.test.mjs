@@ -1,23 +1,28 @@
 // Entries, their stamps and the list as a file; whole studies copied and moved; diagrams turned with their moves.
 import test from 'node:test';
 import assert from 'node:assert/strict';
-import { countsOf, csvOf, entriesOf, hasSolution, nameOf, stampOf } from '../src/entries.js';
-import { readReview, readReviews } from '../src/parse_answers.js';
-import { readScript } from '../src/script.js';
-import { copyStudy, moveStudy } from '../src/study_edits.js';
-import { insertions, isTurn, legalPart, turnedAim, turnedFen, turnedSan, turnedTree } from '../src/turning.js';
+import {countsOf, csvOf, entriesOf, hasSolution, nameOf, stampOf} from '../src/entries.js';
+import {readReview, readReviews} from '../src/parse_answers.js';
+import {readScript} from '../src/script.js';
+import {copyStudy, moveStudy} from '../src/study_edits.js';
+import {insertions, isTurn, legalPart, turnedAim, turnedFen, turnedSan, turnedTree} from '../src/turning.js';
 
-const FEN = '7K/8/k1P5/7p/8/8/8/8 w - - 0 1', game = verdict => `[Event "?"]\n\n{White to win: ${verdict}, draw} 1-0\n\n`;
+const FEN = '7K/8/k1P5/7p/8/8/8/8 w - - 0 1',
+      game = verdict => `[Event "?"]\n\n{White to win: ${verdict}, draw} 1-0\n\n`;
 const LINES = [
-  'position ' + FEN, 'stipulate white win', 'tag Event A, "first"', 'tag White Reti', 'insert root Kg7', 'pgn', '', 'position ' + FEN,
-  'tag Event B', 'pgn', '', 'position x', 'tag White Kasparyan, G.', '', '# game 9, line 3: left out: 7 men', '', 'position ' + FEN, 'insert root Kz9',
-  'pgn'
+  'position ' + FEN, 'stipulate white win', 'tag Event A, "first"', 'tag White Reti', 'insert root Kg7', 'pgn', '',
+  'position ' + FEN, 'tag Event B', 'pgn', '', 'position x', 'tag White Kasparyan, G.', '',
+  '# game 9, line 3: left out: 7 men', '', 'position ' + FEN, 'insert root Kz9', 'pgn'
 ];
 function doc(verdicts) {
-  const sent = LINES.map((text, line) => ({ text, line })), left = [...verdicts];
-  const replies = LINES.map(text => (text === 'pgn' ? game(left.shift()) : text === 'position x' ? 'error FieldCount' : /Kz9|Kasparyan/.test(text) ? 'error NotSan' :
-    text.startsWith('stipulate') ? 'stipulate White to win' : text.startsWith('insert') ? 'insert 0' : text));
-  return { ...readScript(LINES, sent, replies), at: 0, path: 'root', name: '', id: 'x', note: '', judged: true };
+  const sent = LINES.map((text, line) => ({text, line})), left = [...verdicts];
+  const replies = LINES.map(text => (text === 'pgn'            ? game(left.shift())
+                                : text === 'position x'        ? 'error FieldCount'
+                                : /Kz9|Kasparyan/.test(text)   ? 'error NotSan'
+                                : text.startsWith('stipulate') ? 'stipulate White to win'
+                                : text.startsWith('insert')    ? 'insert 0'
+                                                               : text));
+  return {...readScript(LINES, sent, replies), at: 0, path: 'root', name: '', id: 'x', note: '', judged: true};
 }
 const REVIEW = 'study 1 x\nstipulation White to win: unsound 1, draw\nfault 0 Kg7 win 3 dual 2 time 2\n' +
   'waste sound but for loss of time\nmissing 0 Kb6 win 3 0\n';
@@ -26,20 +31,24 @@ test('each entry has a row and a stamp', () => {
   const rows = entriesOf(d, [review]);
   assert.deepEqual(rows.map(r => [r.kind, r.title, r.author, r.stamp]), [
     ['time', 'A, "first"', 'Reti', 'sound but for loss of time'], ['holds', 'B', 'Reti', 'holds'],
-    ['left out', '', 'Kasparyan, G.', 'left out: a FEN has six fields, or four'], ['left out', 'game 9 of the PGN, line 3', '', 'left out: 7 men'],
-    ['not read', 'B', 'Reti', 'not read: Kz9']
+    ['left out', '', 'Kasparyan, G.', 'left out: a FEN has six fields, or four'],
+    ['left out', 'game 9 of the PGN, line 3', '', 'left out: 7 men'], ['not read', 'B', 'Reti', 'not read: Kz9']
   ]);
   assert.deepEqual(countsOf(rows), [['time', 1], ['holds', 1], ['not read', 1], ['left out', 2]]);
   assert.equal(stampOf(d, d.studies[0], null).text, 'unsound 1');
   assert.deepEqual(d.studies.map(s => hasSolution(d.lines, s, null)), [true, false, true]);
-  assert.equal(nameOf({ ...d.studies[0], originals: { White: 'Réti' } }, 'White'), 'Réti');
+  assert.equal(nameOf({...d.studies[0], originals: {White: 'Réti'}}, 'White'), 'Réti');
 });
 test('a game that was left out has its title and its author, where remarks behind it have them', () => {
-  const lines = ['# game 2, line 9: left out: 7 men', '# Event was: A "prize"', '# White was: Kasparyan, G.', '', '# game 3, line 20: NoSuchMove at Kh9',
-    '# White was: Réti', '# game 4, line 31: left out: 6 men'];
-  const rows = entriesOf({ ...readScript(lines, [], []), at: 0, path: 'root', name: '', id: 'x', note: '', judged: true });
+  const lines = [
+    '# game 2, line 9: left out: 7 men', '# Event was: A "prize"', '# White was: Kasparyan, G.', '',
+    '# game 3, line 20: NoSuchMove at Kh9', '# White was: Réti', '# game 4, line 31: left out: 6 men'
+  ];
+  const rows =
+    entriesOf({...readScript(lines, [], []), at: 0, path: 'root', name: '', id: 'x', note: '', judged: true});
   assert.deepEqual(rows.map(r => [r.title, r.author, r.stamp]), [
-    ['A "prize" (game 2 of the PGN, line 9)', 'Kasparyan, G.', 'left out: 7 men'], ['game 3 of the PGN, line 20', 'Réti', 'left out: Kh9: not legal here'],
+    ['A "prize" (game 2 of the PGN, line 9)', 'Kasparyan, G.', 'left out: 7 men'],
+    ['game 3 of the PGN, line 20', 'Réti', 'left out: Kh9: not legal here'],
     ['game 4 of the PGN, line 31', '', 'left out: 6 men']
   ]);
 });
@@ -51,10 +60,12 @@ test('the list as comma-separated values', () => {
   assert.equal(text.split('\r\n').length, 7);
 });
 test('studies that are copied and moved stand alone', () => {
-  const d = doc(['sound', 'sound', 'sound']), moved = moveStudy(d.lines, d.studies, 0, 1), copied = copyStudy(d.lines, d.studies, 1);
+  const d = doc(['sound', 'sound', 'sound']), moved = moveStudy(d.lines, d.studies, 0, 1),
+        copied = copyStudy(d.lines, d.studies, 1);
   assert.equal(moveStudy(d.lines, d.studies, 0, -1), null);
   assert.equal(moved.at, 1);
-  assert.deepEqual(moved.lines.slice(0, 5), ['position ' + FEN, 'stipulate white win', 'tag White Reti', 'tag Event B', 'pgn']);
+  assert.deepEqual(
+    moved.lines.slice(0, 5), ['position ' + FEN, 'stipulate white win', 'tag White Reti', 'tag Event B', 'pgn']);
   assert.equal(copied.at, 2);
   assert.equal(copied.lines.filter(l => l === 'tag Event B').length, 3);
 });
@@ -67,11 +78,21 @@ test('a diagram is turned, and its moves with it', async () => {
   assert.equal(turnedAim('left', 'white win'), 'white win');
   assert.equal(turnedSan('mirror', 'Nbd7+'), 'Nge7+');
   assert.equal(turnedSan('colours', 'exd8=Q#'), 'exd1=Q#');
-  const tree = { path: 'root', san: '', children: [{ path: '0', san: 'Ka2', children: [{ path: '0.0', san: 'Kh3', children: [] }] }, { path: '1', san: 'Kb1', children: [] }] };
+  const tree = {
+    path: 'root',
+    san: '',
+    children: [
+      {path: '0', san: 'Ka2', children: [{path: '0.0', san: 'Kh3', children: []}]},
+      {path: '1', san: 'Kb1', children: []}
+    ]
+  };
   const turned = turnedTree(tree, ['mirror', 'up']);
-  assert.deepEqual(insertions(turned).map(({ line }) => line), ['insert root Kh3', 'insert 0 Ka4', 'insert root Kg2']);
+  assert.deepEqual(insertions(turned).map(({line}) => line), ['insert root Kh3', 'insert 0 Ka4', 'insert root Kg2']);
   const asked = [];
-  const kept = await legalPart(turned, async lines => { asked.push(lines.length); return lines.indexOf('insert root Kh3'); });
-  assert.deepEqual(kept, { lines: ['insert root Kg2'], fallen: [{ san: 'Kh3', below: 1 }] });
+  const kept = await legalPart(turned, async lines => {
+    asked.push(lines.length);
+    return lines.indexOf('insert root Kh3');
+  });
+  assert.deepEqual(kept, {lines: ['insert root Kg2'], fallen: [{san: 'Kh3', below: 1}]});
   assert.deepEqual(asked, [3, 1]);
 });

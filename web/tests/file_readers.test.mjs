@@ -1,7 +1,7 @@
 // Files read by workers: three at a time, each answer to its own question.
 import assert from 'node:assert/strict';
-import { test } from 'node:test';
-import { makeReaders } from '../src/file_readers.js';
+import {test} from 'node:test';
+import {makeReaders} from '../src/file_readers.js';
 
 /** Workers that answer when they are told to, a file named `bad` by a fault and one named `dead` by none at all. */
 function fakes() {
@@ -11,32 +11,37 @@ function fakes() {
     spawned++;
     const worker = {
       terminate() { ended++; },
-      postMessage({ kind, blob }) {
+      postMessage({kind, blob}) {
         assert.equal(kind, 'read');
         asked.push(() => {
-          if (blob === 'dead') worker.onerror({ message: 'gone' });
-          else worker.onmessage({ data: blob === 'bad' ? { failed: 'NotReadableError: bad' } : { bytes: blob, digest: 'of ' + blob } });
+          if (blob === 'dead') worker.onerror({message: 'gone'});
+          else
+            worker.onmessage(
+              {data: blob === 'bad' ? {failed: 'NotReadableError: bad'} : {bytes: blob, digest: 'of ' + blob}});
         });
       },
     };
     return worker;
   };
-  return { spawn, asked, counts: () => [spawned, ended] };
+  return {spawn, asked, counts: () => [spawned, ended]};
 }
 
 test('three files are read at a time, by workers that are used again', async () => {
-  const { spawn, asked, counts } = fakes(), readers = makeReaders(spawn);
+  const {spawn, asked, counts} = fakes(), readers = makeReaders(spawn);
   const answers = ['a', 'b', 'c', 'd', 'e'].map(blob => readers.read(blob));
   assert.equal(asked.length, 3);
   asked[1]();
   assert.equal(asked.length, 4);
-  asked[0](); asked[3](); asked[2](); asked[4]();
+  asked[0]();
+  asked[3]();
+  asked[2]();
+  asked[4]();
   assert.deepEqual((await Promise.all(answers)).map(file => file.digest), ['of a', 'of b', 'of c', 'of d', 'of e']);
   assert.deepEqual(counts(), [3, 0]);
 });
 
 test('a file that cannot be read, and a worker that ends, are told and hold nothing up', async () => {
-  const { spawn, asked, counts } = fakes(), readers = makeReaders(spawn);
+  const {spawn, asked, counts} = fakes(), readers = makeReaders(spawn);
   const answers = ['bad', 'dead', 'a', 'b', 'c'].map(blob => readers.read(blob));
   const told = Promise.allSettled(answers);
   for (let i = 0; i < 5; i++) asked[i]();
@@ -46,11 +51,14 @@ test('a file that cannot be read, and a worker that ends, are told and hold noth
 });
 
 test('workers are started ahead, once, and one that does not start is not used', async () => {
-  const { spawn, asked, counts } = fakes(), made = [], readers = makeReaders(() => { made.push(spawn()); return made[made.length - 1]; });
+  const {spawn, asked, counts} = fakes(), made = [], readers = makeReaders(() => {
+    made.push(spawn());
+    return made[made.length - 1];
+  });
   readers.start();
   readers.start();
   assert.deepEqual(counts(), [3, 0]);
-  made[2].onerror({ message: 'gone' });
+  made[2].onerror({message: 'gone'});
   const answers = ['a', 'b', 'c'].map(blob => readers.read(blob));
   assert.deepEqual(counts(), [4, 1]);
   for (let i = 0; i < 3; i++) asked[i]();

@@ -1,19 +1,32 @@
 // What the program makes of a PGN, as the page reads it; the lines are those of an independent reference.
 import test from 'node:test';
 import assert from 'node:assert/strict';
-import { decoded, documentOf, importNote, leftOut, looksLikePgn, notKept, originalsIn, whyLeftOut, withoutAim } from '../src/imported.js';
-import { savedGames } from '../src/notes.js';
-import { readScript, assumeAccepted } from '../src/script.js';
+import {
+  decoded,
+  documentOf,
+  importNote,
+  leftOut,
+  looksLikePgn,
+  notKept,
+  originalsIn,
+  whyLeftOut,
+  withoutAim
+} from '../src/imported.js';
+import {savedGames} from '../src/notes.js';
+import {readScript, assumeAccepted} from '../src/script.js';
 
 const LINES = [
-  '# game 1, line 1: stipulated by its comment', '# not taken over: comments 9, NAGs 4, tags 1, repeated 1, moves behind 2',
-  '# White was: Троицкий', 'position 7K/8/8/8/8/8/8/k7 w - - 0 1', 'stipulate white draw', 'tag White Troickij', 'pgn', '',
-  '# game 2, line 14: left out: 7 men', '', '# game 3, line 31, column 17: NoSuchMove at Kb6', '', '# game 4, line 40: NoStipulation', '',
-  '# game 5, line 52: stipulated by its tag Result', '# not taken over: comments 1', 'position 7K/8/8/8/8/8/8/k7 w - - 0 1',
-  'stipulate white draw', 'tag White ?', 'pgn', '', '# games 5, studies 2'
+  '# game 1, line 1: stipulated by its comment',
+  '# not taken over: comments 9, NAGs 4, tags 1, repeated 1, moves behind 2', '# White was: Троицкий',
+  'position 7K/8/8/8/8/8/8/k7 w - - 0 1', 'stipulate white draw', 'tag White Troickij', 'pgn', '',
+  '# game 2, line 14: left out: 7 men', '', '# game 3, line 31, column 17: NoSuchMove at Kb6', '',
+  '# game 4, line 40: NoStipulation', '', '# game 5, line 52: stipulated by its tag Result',
+  '# not taken over: comments 1', 'position 7K/8/8/8/8/8/8/k7 w - - 0 1', 'stipulate white draw', 'tag White ?', 'pgn',
+  '', '# games 5, studies 2'
 ];
 test('a PGN is told from a script', () => {
-  for (const text of ['[Event "x"]', '\ufeff\n [White "x"]', '% a remark\n[FEN "x"]', 'by an editor\n\n[FEN "x"]']) assert.ok(looksLikePgn(text), text);
+  for (const text of ['[Event "x"]', '\ufeff\n [White "x"]', '% a remark\n[FEN "x"]', 'by an editor\n\n[FEN "x"]'])
+    assert.ok(looksLikePgn(text), text);
   for (const text of ['', 'position x', '# [FEN "x"]', '{"FEN": 1}', '[1, 2]']) assert.ok(!looksLikePgn(text), text);
 });
 test('a file is UTF-8, else Latin 1', () => {
@@ -21,26 +34,31 @@ test('a file is UTF-8, else Latin 1', () => {
   assert.equal(decoded(Uint8Array.from([82, 0xe9, 116, 105])), 'Réti');
 });
 test('games that were left out, and why', () => {
-  assert.deepEqual(leftOut(LINES).map(whyLeftOut), ['7 men', 'Kb6: not legal here', 'it does not say what is to be done']);
-  assert.deepEqual(leftOut(LINES)[1], { game: 3, line: 31, column: 17, why: 'NoSuchMove', text: 'Kb6' });
+  assert.deepEqual(
+    leftOut(LINES).map(whyLeftOut), ['7 men', 'Kb6: not legal here', 'it does not say what is to be done']);
+  assert.deepEqual(leftOut(LINES)[1], {game: 3, line: 31, column: 17, why: 'NoSuchMove', text: 'Kb6'});
   assert.deepEqual(leftOut(['# game 6, line 60, column 8: NullMove']).map(whyLeftOut), ['a null move in the main line']);
   assert.equal(withoutAim(LINES), 1);
-  assert.equal(importNote(LINES), '5 games, 2 studies. Left out: game 2, line 14: 7 men; game 3, line 31, column 17: Kb6: not legal here; ' +
-    'game 4, line 40: it does not say what is to be done.');
-  assert.equal(importNote(['# game 1, line 1: stipulated by its result', '', '# games 1, studies 1']), '1 game, 1 study.');
+  assert.equal(importNote(LINES),
+    '5 games, 2 studies. Left out: game 2, line 14: 7 men; game 3, line 31, column 17: Kb6: not legal here; ' +
+      'game 4, line 40: it does not say what is to be done.');
+  assert.equal(
+    importNote(['# game 1, line 1: stipulated by its result', '', '# games 1, studies 1']), '1 game, 1 study.');
 });
 test('what a script has no place for', () => {
   assert.equal(notKept(LINES), 'Not kept of this PGN: 1 repeated move, 2 moves behind null moves.');
   assert.equal(notKept(['# game 1, line 1: stipulated by its result']), '');
 });
 test('remarks above a position are the study\'s, and names stay in their letters', () => {
-  const lines = documentOf(LINES), { studies } = assumeAccepted(lines);
+  const lines = documentOf(LINES), {studies} = assumeAccepted(lines);
   assert.equal(lines.length, LINES.length - 2);
   assert.deepEqual(studies.map(s => [s.head, s.from, s.end]), [[0, 3, 14], [14, 16, lines.length]]);
-  assert.deepEqual(studies.map(s => s.originals), [{ White: 'Троицкий' }, {}]);
-  assert.deepEqual(originalsIn(['# Site was:  a b ']), { Site: 'a b' });
-  const game = '[Event "?"]\n[White "Troickij"]\n\n1-0\n\n', sent = lines.map((text, line) => ({ text, line }));
-  const replies = lines.map(text => (text === 'pgn' ? game : text.startsWith('stipulate') ? 'stipulate White to draw' : text));
+  assert.deepEqual(studies.map(s => s.originals), [{White: 'Троицкий'}, {}]);
+  assert.deepEqual(originalsIn(['# Site was:  a b ']), {Site: 'a b'});
+  const game = '[Event "?"]\n[White "Troickij"]\n\n1-0\n\n', sent = lines.map((text, line) => ({text, line}));
+  const replies = lines.map(text => (text === 'pgn'            ? game
+                                : text.startsWith('stipulate') ? 'stipulate White to draw'
+                                                               : text));
   const script = readScript(lines, sent, replies);
   assert.equal(savedGames(script), game.replace('Troickij', 'Троицкий') + game);
 });

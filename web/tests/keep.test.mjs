@@ -1,8 +1,9 @@
-// The documents that a browser keeps, over made-up storage: each at its place, with its undo, and two pages never write into one.
+// The documents that a browser keeps, over made-up storage: each at its place, with its undo, and two pages never write
+// into one.
 import test from 'node:test';
 import assert from 'node:assert/strict';
-import { difference, makeKeeper, packed, summary, unpacked } from '../src/keep.js';
-import { advance, begin, undo } from '../src/history.js';
+import {difference, makeKeeper, packed, summary, unpacked} from '../src/keep.js';
+import {advance, begin, undo} from '../src/history.js';
 
 /** Storage for so many letters. */
 function made(room = 1e6) {
@@ -20,17 +21,17 @@ function made(room = 1e6) {
     removeItem: key => map.delete(key)
   };
 }
-const doc = (id, ...lines) => (
-    { id, lines, studies: [], refused: [], at: 0, path: 'root', name: '', note: '', judged: true });
-const history = (id, ...states) => states.slice(1).reduce(
-    (h, lines) => advance(h, doc(id, ...lines)), begin(doc(id, ...states[0])));
+const doc = (id, ...lines) =>
+  ({id, lines, studies: [], refused: [], at: 0, path: 'root', name: '', note: '', judged: true});
+const history = (id, ...states) =>
+  states.slice(1).reduce((h, lines) => advance(h, doc(id, ...lines)), begin(doc(id, ...states[0])));
 const texts = list => list.map(d => d.lines.join(' '));
 
 test('a change of lines is told by what replaces what', () => {
   for (const [old, next] of [['', 'a'], ['a b c', 'a c'], ['a b c', 'a b b c'], ['a', ''], ['a b', 'c d e'],
-           ['a b c', 'a b c'], ['a a a', 'a a']]) {
+         ['a b c', 'a b c'], ['a a a', 'a a']]) {
     const [from, to] = [old, next].map(t => t.split(' ').filter(Boolean)),
-                 { from: at, gone, lines } = difference(from, to);
+                 {from: at, gone, lines} = difference(from, to);
     assert.deepEqual([...from.slice(0, at), ...lines, ...from.slice(at + gone)], to);
   }
 });
@@ -43,38 +44,38 @@ test('states are kept as changes and come back, those of other documents left ou
 });
 test('a document is kept with its undo and its redo', () => {
   const local = made(), h = undo(history('A', ['p'], ['p', 'q'], ['p', 'q', 'r']));
-  assert.ok(makeKeeper({ local, page: '1', now: () => 5 }).keep(h, null, ['KK']));
-  const { head, history: back } = makeKeeper({ local, page: '2' }).open('A', false);
+  assert.ok(makeKeeper({local, page: '1', now: () => 5}).keep(h, null, ['KK']));
+  const {head, history: back} = makeKeeper({local, page: '2'}).open('A', false);
   assert.deepEqual([texts(back.past), back.now.lines, texts(back.future)], [['p'], ['p', 'q'], ['p q r']]);
   assert.deepEqual([head.time, head.tables, head.verdict], [5, ['KK'], 'not judged']);
 });
 test('each document has a place of its own, the one seen last is first, and a walk does not count as a change', () => {
   let clock = 0;
-  const local = made(), keeper = makeKeeper({ local, page: '1', now: () => ++clock }), a = history('A', ['p']);
+  const local = made(), keeper = makeKeeper({local, page: '1', now: () => ++clock}), a = history('A', ['p']);
   keeper.keep(a, null, []);
   keeper.keep(history('B', ['q']), null, []);
   const before = keeper.headAt('A').time;
-  keeper.keep({ ...a, now: { ...a.now, path: '0.0' } }, null, []);
+  keeper.keep({...a, now: {...a.now, path: '0.0'}}, null, []);
   assert.deepEqual(keeper.list().map(h => h.id), ['A', 'B']);
   assert.deepEqual([keeper.headAt('A').time, keeper.headAt('A').path], [before, '0.0']);
   keeper.remove('A');
   assert.deepEqual(keeper.list().map(h => h.id), ['B']);
 });
 test('two pages with one document: the one whose document was taken over goes on at a new place', () => {
-  const local = made(), first = makeKeeper({ local, page: '1' }), second = makeKeeper({ local, page: '2' });
+  const local = made(), first = makeKeeper({local, page: '1'}), second = makeKeeper({local, page: '2'});
   first.keep(history('A', ['p']), null, []);
   second.open('A', false);
   second.keep(history('A', ['p'], ['p', 'second']), null, []);
   first.keep(history('A', ['p'], ['p', 'first']), null, []);
   second.keep(history('A', ['p'], ['p', 'second', 'again']), null, []);
   first.keep(history('A', ['p'], ['p', 'first', 'again']), null, []);
-  const scripts = first.list().map(h => makeKeeper({ local, page: '3' }).open(h.id, true).history.now.lines.join(' '));
+  const scripts = first.list().map(h => makeKeeper({local, page: '3'}).open(h.id, true).history.now.lines.join(' '));
   assert.deepEqual(scripts.sort(), ['p first again', 'p second again']);
   assert.equal(second.placeOf('A'), 'A');
   assert.notEqual(first.placeOf('A'), 'A');
 });
 test('a copy leaves the document to its page', () => {
-  const local = made(), first = makeKeeper({ local, page: '1' }), second = makeKeeper({ local, page: '2' });
+  const local = made(), first = makeKeeper({local, page: '1'}), second = makeKeeper({local, page: '2'});
   first.keep(history('A', ['p']), null, []);
   second.open('A', true);
   second.keep(history('A', ['p', 'copy']), null, []);
@@ -83,7 +84,7 @@ test('a copy leaves the document to its page', () => {
   assert.equal(first.list().length, 2);
 });
 test('a set-up is kept, with the men put down before', () => {
-  const local = made(), keeper = makeKeeper({ local, page: '1' });
+  const local = made(), keeper = makeKeeper({local, page: '1'});
   const draft = {
     placed: '8/8/8/7k/8/8/1P4K1/8 w - - 0 1|white win',
     past: ['8/8/8/8/8/8/8/8 w - - 0 1|white win'],
@@ -97,7 +98,7 @@ test('a set-up is kept, with the men put down before', () => {
   assert.deepEqual(keeper.open('D', false).head.draft, draft);
 });
 test('where there is no room the undo of other documents goes, never a script', () => {
-  const local = made(3000), keeper = makeKeeper({ local, page: '1' }), long = 'x'.repeat(400);
+  const local = made(3000), keeper = makeKeeper({local, page: '1'}), long = 'x'.repeat(400);
   keeper.keep(history('A', [long], ['a', long + 1], ['a', long + 2]), null, []);
   assert.ok(keeper.keep(history('B', ['b', long]), null, []));
   assert.ok(keeper.keep(history('C', ['c', long + long]), null, []));
@@ -106,7 +107,7 @@ test('where there is no room the undo of other documents goes, never a script', 
   assert.ok(!keeper.keep(history('D', [long.repeat(9)]), null, []));
 });
 test('what another page wrote there is only text, or nothing', () => {
-  const local = made(), keeper = makeKeeper({ local, page: '1' });
+  const local = made(), keeper = makeKeeper({local, page: '1'});
   local.setItem('studyboard.head.X', '{"title": {"a": 1}, "time": "<b>", "tables": 7, "draft": 5}');
   local.setItem('studyboard.head.Y', '{"script"');
   local.setItem('studyboard.body.X', '[1');
@@ -115,12 +116,19 @@ test('what another page wrote there is only text, or nothing', () => {
 });
 test('what a list says of a document', () => {
   const fen = '8/8/1KP5/3r4/8/8/8/k7 w - - 0 1', lines = ['position ' + fen, 'insert root c7'];
-  const study = (verdict, Event) => (
-      { verdict, tags: { Event, White: 'Réti' }, originals: {}, fen, from: 0, end: 2, aim: { hero: 'White', goal: 'win', k: 0 } });
-  const said = (studies, shown = lines) => summary({ studies, lines: shown, refused: [] });
-  assert.deepEqual(said([study('unsound 3', 'A')]), { title: 'A, Réti', verdict: 'unsound 3' });
+  const study = (verdict, Event) => ({
+    verdict,
+    tags: {Event, White: 'Réti'},
+    originals: {},
+    fen,
+    from: 0,
+    end: 2,
+    aim: {hero: 'White', goal: 'win', k: 0}
+  });
+  const said = (studies, shown = lines) => summary({studies, lines: shown, refused: []});
+  assert.deepEqual(said([study('unsound 3', 'A')]), {title: 'A, Réti', verdict: 'unsound 3'});
   assert.deepEqual(said([study('unsound 3', '?'), study('sound', 'B'), study('sound', 'B')]),
-    { title: 'Réti and 2 more studies', verdict: '2 sound, 1 unsound' });
-  assert.deepEqual(said([study('sound', 'A')], [lines[0], '']), { title: 'A, Réti', verdict: 'holds' });
-  assert.deepEqual(said([{ ...study('', '?'), tags: {} }]), { title: 'Kb6 Pc6 / Ka1 Rd5', verdict: 'not judged' });
+    {title: 'Réti and 2 more studies', verdict: '2 sound, 1 unsound'});
+  assert.deepEqual(said([study('sound', 'A')], [lines[0], '']), {title: 'A, Réti', verdict: 'holds'});
+  assert.deepEqual(said([{...study('', '?'), tags: {}}]), {title: 'Kb6 Pc6 / Ka1 Rd5', verdict: 'not judged'});
 });

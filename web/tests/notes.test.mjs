@@ -1,7 +1,7 @@
 // What a PGN says beside its moves is kept, and written again.
 import test from 'node:test';
 import assert from 'node:assert/strict';
-import { gamesIn, namesOf, remarksOf, withNotes } from '../src/notes.js';
+import {gamesIn, namesOf, remarksOf, withNotes} from '../src/notes.js';
 
 const GAME = `[Event "Rigaer Tageblatt"]
 [White "Reti"]
@@ -27,8 +27,8 @@ test('title and author of a game that is left out', () => {
 });
 test('remarks of a game, at the moves that lead to them', () => {
   assert.deepEqual(remarksOf(GAME), [
-    '# tag Annotator an editor', '# note -: A study for practice.', '# note Kg3: $1', '# note Kg3: The only move', '# note b4: $2', '# note b4: $4',
-    '# note b4 Kf6: draws [%cal Gg5f6]', '# note Kg3 Kf5 Kf3: $1'
+    '# tag Annotator an editor', '# note -: A study for practice.', '# note Kg3: $1', '# note Kg3: The only move',
+    '# note b4: $2', '# note b4: $4', '# note b4 Kf6: draws [%cal Gg5f6]', '# note Kg3 Kf5 Kf3: $1'
   ]);
   assert.deepEqual(remarksOf(OURS), []);
 });
@@ -36,7 +36,9 @@ test('they are written behind what the program says there', () => {
   const text = withNotes(OURS, remarksOf(GAME));
   assert.match(text, /\[SetUp "1"\]\n\[Annotator "an editor"\]\n\n/);
   const words = text.slice(text.indexOf('\n\n')).replace(/\s+/g, ' ');
-  assert.ok(words.includes('White mates in 28} {A study for practice.} 1. Kg3 $1 {White mates in 28} $1 {The only move} (1. b4'), words);
+  assert.ok(words.includes(
+              'White mates in 28} {A study for practice.} 1. Kg3 $1 {White mates in 28} $1 {The only move} (1. b4'),
+    words);
   assert.ok(words.includes('Kf6 {draw} {draws [%cal Gg5f6]})'));
   assert.equal(withNotes(OURS, []), OURS);
   assert.equal(withNotes(OURS, ['# note Kh1: gone']).replace(/\s+/g, ' '), OURS.replace(/\s+/g, ' '));

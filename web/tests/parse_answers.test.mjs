@@ -1,23 +1,28 @@
 // The texts of the core - views, surveys, reviews - as an independent program wrote them, read and told again.
 import test from 'node:test';
 import assert from 'node:assert/strict';
-import { readFileSync, readdirSync } from 'node:fs';
-import { menOf, sideOf, squareName, isWhite } from '../src/fen.js';
-import { nodeAt, readReview, readSurvey, readView, refusalIn, written } from '../src/parse_answers.js';
-import { aimText, valueSign, valueText, verdictSentence } from '../src/words.js';
+import {readFileSync, readdirSync} from 'node:fs';
+import {menOf, sideOf, squareName, isWhite} from '../src/fen.js';
+import {nodeAt, readReview, readSurvey, readView, refusalIn, written} from '../src/parse_answers.js';
+import {aimText, valueSign, valueText, verdictSentence} from '../src/words.js';
 
 const folder = new URL('./data/', import.meta.url), text = name => readFileSync(new URL(name, folder), 'utf8');
 const views =
-    readdirSync(folder)
-        .filter(name => name.endsWith('.views'))
-        .flatMap(
-            name =>
-                text(name).split(/^# view /m).slice(1).map(part => [name, ...[part.indexOf('\n')].flatMap(at => [part.slice(0, at), part.slice(at + 1)])]));
-const valueWords = v => (v.kind === 'draw' ? 'draw' : `${v.kind} ${v.n}`), markWords = m => (m.mark === 'dual' ? `dual ${m.duals}` : m.mark);
+  readdirSync(folder)
+    .filter(name => name.endsWith('.views'))
+    .flatMap(
+      name => text(
+        name).split(/^# view /m)
+                .slice(1)
+                .map(part => [name, ...[part.indexOf('\n')].flatMap(at => [part.slice(0, at), part.slice(at + 1)])]));
+const valueWords = v => (v.kind === 'draw' ? 'draw' : `${v.kind} ${v.n}`),
+      markWords = m => (m.mark === 'dual' ? `dual ${m.duals}` : m.mark);
 const squares = m => (m.from < 0 ? '-' : squareName(m.from) + squareName(m.to) + m.promoted.toLowerCase());
 function told(view) {
   const rows = [`study ${view.fen}`, `stipulation ${aimText(view.aim)}: ${view.verdict}, ${view.start}`];
-  for (const n of written(view.root)) rows.push(`node ${n.path} ${n.san} ${squares(n)} ${valueWords(n.value)} ${markWords(n)} faults ${n.faults} ${n.fen}`);
+  for (const n of written(view.root))
+    rows.push(
+      `node ${n.path} ${n.san} ${squares(n)} ${valueWords(n.value)} ${markWords(n)} faults ${n.faults} ${n.fen}`);
   rows.push(`at ${view.path} ${view.over || view.moves.length}`);
   for (const m of view.moves) rows.push(`move ${m.san} ${squares(m)} ${valueWords(m.value)} ${markWords(m)} ${m.fen}`);
   return rows.join('\n') + '\n';
@@ -40,10 +45,11 @@ test('values in words', () => {
   const view = readView(views.find(([name, path]) => name === 'saavedra_1895.views' && path === 'root')[2]);
   assert.equal(valueText('White', view.root.value), 'White mates in 26');
   assert.equal(valueText('White', view.root.value), view.start);
-  assert.equal(verdictSentence(view, 'unsound'), 'The stipulation holds; the solution has 3 faults. At the start: White mates in 26.');
-  assert.equal(valueSign('White', 'Black', { kind: 'loss', n: 0 }), '#');
-  assert.equal(valueSign('White', 'White', { kind: 'loss', n: 6 }), '−3');
-  assert.equal(valueSign('White', 'Black', { kind: 'draw', n: 0 }), '=');
+  assert.equal(verdictSentence(view, 'unsound'),
+    'The stipulation holds; the solution has 3 faults. At the start: White mates in 26.');
+  assert.equal(valueSign('White', 'Black', {kind: 'loss', n: 0}), '#');
+  assert.equal(valueSign('White', 'White', {kind: 'loss', n: 6}), '−3');
+  assert.equal(valueSign('White', 'Black', {kind: 'draw', n: 0}), '=');
 });
 test('surveys are read whole', () => {
   const parts = text('surveys.txt').split(/^# .*\n/m).slice(1);
@@ -53,9 +59,9 @@ test('surveys are read whole', () => {
     assert.equal(stands.length, 63);
     stands.forEach((s, i) => {
       const value = s.value ? valueWords(s.value) : '';
-      const again = s.kind === 'none' ?
-          `${squareName(s.square)} -` :
-          [squareName(s.square), s.kind, value, s.san || (s.kind === 'holds' && s.count ? s.count : '')].filter(x => x !== '').join(' ');
+      const again = s.kind === 'none' ? `${squareName(s.square)} -` : [
+        squareName(s.square), s.kind, value, s.san || (s.kind === 'holds' && s.count ? s.count : '')
+      ].filter(x => x !== '').join(' ');
       assert.equal(again, rows[i]);
     });
   }
@@ -63,20 +69,24 @@ test('surveys are read whole', () => {
 test('reviews are read whole', () => {
   for (const name of readdirSync(folder).filter(n => n.endsWith('.lines'))) {
     for (const part of text(name).split(/^(?=study )/m)) {
-      const review = readReview(part), rows = part.trim().split('\n'), count = kind => rows.filter(r => r.startsWith(kind + ' ')).length;
+      const review = readReview(part), rows = part.trim().split('\n'),
+            count = kind => rows.filter(r => r.startsWith(kind + ' ')).length;
       if (!review) continue;
-      assert.deepEqual([review.faults, review.also, review.refuted, review.missing].map(l => l.length), ['fault', 'also', 'refuted', 'missing'].map(count));
+      assert.deepEqual([review.faults, review.also, review.refuted, review.missing].map(l => l.length),
+        ['fault', 'also', 'refuted', 'missing'].map(count));
       assert.equal(review.ends.length, count('play') + count('keep'));
       assert.equal(review.empty, rows.includes('empty'));
     }
   }
   const first = readReview(text('saavedra_1895.lines').split(/^(?=study )/m)[0]);
-  assert.deepEqual(
-      first.faults.map(f => [f.path, f.san, f.kind, f.duals, f.time]),
-      [['0.0.0.0.0', 'Kb4', 'dual', 1, 1], ['0.0.0.0.0.0.0', 'Kb3', 'dual', 2, 1], ['0.0.0.0.0.0.0.0.0.0.0', 'c8=R', 'dual', 2, 2]]);
-  assert.deepEqual(first.also[0], { path: '0.0.0.0.0', san: 'Kb6', value: { kind: 'loss', n: 50 }, time: 0 });
+  assert.deepEqual(first.faults.map(f => [f.path, f.san, f.kind, f.duals, f.time]), [
+    ['0.0.0.0.0', 'Kb4', 'dual', 1, 1], ['0.0.0.0.0.0.0', 'Kb3', 'dual', 2, 1],
+    ['0.0.0.0.0.0.0.0.0.0.0', 'c8=R', 'dual', 2, 2]
+  ]);
+  assert.deepEqual(first.also[0], {path: '0.0.0.0.0', san: 'Kb6', value: {kind: 'loss', n: 50}, time: 0});
 });
 test('refusals', () => {
-  assert.equal(refusalIn({ text: 'NoTable KRK\n', ended: 'refused' }), 'error NoTable KRK');
-  assert.equal(refusalIn({ text: 'study 8/8/8/8/8/k7/8/K7 w - - 0 1\nrefused 2 UnknownStipulation\n', ended: 'done' }), 'error UnknownStipulation');
+  assert.equal(refusalIn({text: 'NoTable KRK\n', ended: 'refused'}), 'error NoTable KRK');
+  assert.equal(refusalIn({text: 'study 8/8/8/8/8/k7/8/K7 w - - 0 1\nrefused 2 UnknownStipulation\n', ended: 'done'}),
+    'error UnknownStipulation');
 });

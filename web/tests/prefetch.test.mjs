@@ -1,13 +1,15 @@
-// What is asked of the program ahead, over made-up workers: nobody waits for it, it is not asked twice, and what the user does goes first.
+// What is asked of the program ahead, over made-up workers: nobody waits for it, it is not asked twice, and what the
+// user does goes first.
 import test from 'node:test';
 import assert from 'node:assert/strict';
-import { repliesTo, viewOf } from '../src/answer_cache.js';
-import { readView } from '../src/parse_answers.js';
-import { cancelPrefetch, dropPrefetched, prefetch, prefetchView } from '../src/prefetch.js';
-import { assumeAccepted } from '../src/script.js';
-import { app, services } from '../src/state.js';
+import {repliesTo, viewOf} from '../src/answer_cache.js';
+import {readView} from '../src/parse_answers.js';
+import {cancelPrefetch, dropPrefetched, prefetch, prefetchView} from '../src/prefetch.js';
+import {assumeAccepted} from '../src/script.js';
+import {app, services} from '../src/state.js';
 
-const FEN = '8/8/8/6k1/8/8/1P5K/8 w - - 0 1', VIEW = `study ${FEN}\nnode root - - win 51 reply faults 0 ${FEN}\nat root 0\n`;
+const FEN = '8/8/8/6k1/8/8/1P5K/8 w - - 0 1',
+      VIEW = `study ${FEN}\nnode root - - win 51 reply faults 0 ${FEN}\nat root 0\n`;
 /** A worker that answers when it is told to, or at once. */
 function made(asked, name) {
   const held = [];
@@ -17,7 +19,7 @@ function made(asked, name) {
     waiting: () => held.length,
     answer: (request, text) => {
       asked.push(`${name} ${request} ${text.split('\n').length - 1}`);
-      const told = { text: request === 'run' ? 'replies' : VIEW, ended: 'done' };
+      const told = {text: request === 'run' ? 'replies' : VIEW, ended: 'done'};
       return made.slow === name ? new Promise(ok => held.push(() => ok(told))) : Promise.resolve(told);
     }
   };
@@ -26,17 +28,22 @@ function begin() {
   const asked = [], lines = ['position ' + FEN, 'stipulate white win'];
   made.slow = '';
   Object.assign(services, {
-    core: made(asked, 'core'), facts: made(asked, 'facts'),
-    tables: { named: () => ['KPK'], classesOf: async () => ['KPK'], load: async () => [] }
+    core: made(asked, 'core'),
+    facts: made(asked, 'facts'),
+    tables: {named: () => ['KPK'], classesOf: async () => ['KPK'], load: async () => []}
   });
-  Object.assign(app, { history: { now: { ...assumeAccepted(lines), at: 0, path: 'root', name: '' }, past: [], future: [] }, view: readView(VIEW), setup: null });
+  Object.assign(app, {
+    history: {now: {...assumeAccepted(lines), at: 0, path: 'root', name: ''}, past: [], future: []},
+    view: readView(VIEW),
+    setup: null
+  });
   dropPrefetched();
-  return { asked, lines };
+  return {asked, lines};
 }
 const text = lines => lines.map(line => line + '\n').join('');
 
 test('what follows from moves is asked one after the other, and then nobody asks again', async () => {
-  const { asked, lines } = begin();
+  const {asked, lines} = begin();
   await prefetch('root', [['Kg3'], ['b4']]);
   assert.equal(asked.filter(a => a.startsWith('core run')).length, 2);
   assert.equal(asked.filter(a => a.startsWith('facts view')).length, 2);
@@ -46,7 +53,7 @@ test('what follows from moves is asked one after the other, and then nobody asks
   assert.equal(asked.length, 4);
 });
 test('what the user does ends it, and at another node it is not used', async () => {
-  const { asked, lines } = begin(), going = prefetch('root', [['Kh3'], ['b3'], ['Kg1']]);
+  const {asked, lines} = begin(), going = prefetch('root', [['Kh3'], ['b3'], ['Kg1']]);
   cancelPrefetch();
   await going;
   assert.deepEqual(asked, []);
@@ -56,22 +63,22 @@ test('what the user does ends it, and at another node it is not used', async () 
   assert.equal(asked.filter(a => a.startsWith('core run')).length, 2);
 });
 test('a view does not wait behind facts', async () => {
-  const { asked, lines } = begin(), now = app.history.now;
+  const {asked, lines} = begin(), now = app.history.now;
   made.slow = 'facts';
   services.facts.answer('review', '');
-  await prefetchView(now, { lines: [...lines, 'insert root Kh1'], path: '0' });
+  await prefetchView(now, {lines: [...lines, 'insert root Kh1'], path: '0'});
   assert.deepEqual(asked, ['facts review 0', 'core view 0 3']);
 });
 test('a view that is coming is waited for, and asked again where it fails', async () => {
-  const { asked, lines } = begin(), now = app.history.now, wanted = [...lines, 'insert root Kg2'];
+  const {asked, lines} = begin(), now = app.history.now, wanted = [...lines, 'insert root Kg2'];
   made.slow = 'facts';
-  prefetchView(now, { lines: wanted, path: '0' });
+  prefetchView(now, {lines: wanted, path: '0'});
   const view = viewOf(text(wanted), '0');
   services.facts.held.pop()();
   assert.equal((await view).fen, FEN);
   assert.deepEqual(asked, ['facts view 0 3']);
   services.facts.answer = () => Promise.reject(new Error('stopped'));
-  prefetchView(now, { lines: [...lines, 'insert root b3'], path: '0' });
+  prefetchView(now, {lines: [...lines, 'insert root b3'], path: '0'});
   assert.equal(typeof await viewOf(text([...lines, 'insert root b3']), '0'), 'object');
   assert.deepEqual(asked.slice(1), ['core view 0 3']);
 });

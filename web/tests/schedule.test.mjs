@@ -1,23 +1,37 @@
-// The order of builds: over made-up needs, each table is built once, after what it needs, and never too many at a time; who wants a table does
-// not wait for those that others want. The time that is left; the order of reading.
+// The order of builds: over made-up needs, each table is built once, after what it needs, and never too many at a time;
+// who wants a table does not wait for those that others want. The time that is left; the order of reading.
 import test from 'node:test';
 import assert from 'node:assert/strict';
-import { makeBuilds, readingOrder, secondsLeft } from '../src/schedule.js';
+import {makeBuilds, readingOrder, secondsLeft} from '../src/schedule.js';
 
-const NEEDS = { A: [], B: ['A'], C: ['A'], D: ['B', 'C'], E: ['D'], F: [] };
+const NEEDS = {
+  A: [],
+  B: ['A'],
+  C: ['A'],
+  D: ['B', 'C'],
+  E: ['D'],
+  F: []
+};
 const pause = ms => new Promise(on => setTimeout(on, ms));
 for (const most of [1, 2, 3, 9]) {
   test(`${most} at a time`, async () => {
     const there = new Set();
     let running = 0, highest = 0, last = null;
-    const builds = makeBuilds(most, async name => {
-      highest = Math.max(highest, ++running);
-      const able = NEEDS[name].every(n => there.has(n));
-      await pause(able ? 3 + name.charCodeAt(0) % 5 : 1);
-      running--;
-      if (able) { assert.ok(!there.has(name)); there.add(name); }
-      return able;
-    }, (now, waiting) => { last = [now, waiting]; });
+    const builds = makeBuilds(most,
+      async name => {
+        highest = Math.max(highest, ++running);
+        const able = NEEDS[name].every(n => there.has(n));
+        await pause(able ? 3 + name.charCodeAt(0) % 5 : 1);
+        running--;
+        if (able) {
+          assert.ok(!there.has(name));
+          there.add(name);
+        }
+        return able;
+      },
+      (now, waiting) => {
+        last = [now, waiting];
+      });
     await Promise.all([builds.want(['A', 'B', 'C', 'D']), builds.want(['A', 'C', 'D', 'E', 'F']), builds.want([])]);
     assert.equal(there.size, 6);
     assert.ok(highest <= most);
@@ -33,7 +47,7 @@ function held(most = 1) {
     begun.push(name);
     ends.set(name, [() => ok(true), no]);
   }),
-      () => {});
+    () => {});
   return {
     builds,
     begun,
@@ -48,7 +62,7 @@ function held(most = 1) {
   };
 }
 test('a small wish does not wait for the end of a large one, and what is asked last begins next', async () => {
-  const { builds, begun, done } = held(), told = [];
+  const {builds, begun, done} = held(), told = [];
   builds.want(['A', 'B', 'C', 'D']).then(() => told.push('large'));
   builds.want(['A', 'X']).then(() => told.push('small'));
   await done('A');
@@ -58,7 +72,7 @@ test('a small wish does not wait for the end of a large one, and what is asked l
   assert.deepEqual([begun, told], [['A', 'X', 'B', 'C', 'D'], ['small', 'large']]);
 });
 test('a fault ends all wishes; a later one begins anew once the other builds have ended', async () => {
-  const { builds, begun, done, fail } = held(2), first = assert.rejects(builds.want(['A', 'B', 'C']), /A/);
+  const {builds, begun, done, fail} = held(2), first = assert.rejects(builds.want(['A', 'B', 'C']), /A/);
   await fail('A');
   await first;
   const second = builds.want(['D']);
@@ -70,17 +84,19 @@ test('a fault ends all wishes; a later one begins anew once the other builds hav
 });
 test('what cannot be built is told', async () => {
   await assert.rejects(makeBuilds(2, async name => name === 'A', () => {}).want(['A', 'B']), /B could not be built/);
-  await assert.rejects(makeBuilds(2, async () => { throw new Error('a trap'); }, () => {}).want(['A', 'B']), /a trap/);
+  await assert.rejects(makeBuilds(2, async () => {
+    throw new Error('a trap');
+  }, () => {}).want(['A', 'B']), /a trap/);
 });
 test('the seconds that are left', () => {
   assert.equal(secondsLeft([], [], 3), 0);
   assert.equal(secondsLeft([4, 1], [], 2), 4);
-  assert.equal(secondsLeft([4], [5, 2], 2), 6);      // 5 in the free place; 2 after the 4
-  assert.equal(secondsLeft([4, 1], [5, 2], 2), 6);      // 5 after the 1; 2 after the 4
+  assert.equal(secondsLeft([4], [5, 2], 2), 6);     // 5 in the free place; 2 after the 4
+  assert.equal(secondsLeft([4, 1], [5, 2], 2), 6);  // 5 after the 1; 2 after the 4
   assert.equal(secondsLeft([10], [10, 10], 1), 30);
 });
 test('the largest file is read first, then small ones, then the others', () => {
-  const sizes = { A: 3, B: 50, C: 90, D: 1, E: 70, F: 50 };
+  const sizes = {A: 3, B: 50, C: 90, D: 1, E: 70, F: 50};
   assert.deepEqual(readingOrder(Object.keys(sizes), name => sizes[name], 10), ['C', 'A', 'D', 'E', 'B', 'F']);
   assert.deepEqual(readingOrder([], name => sizes[name], 10), []);
   assert.deepEqual(readingOrder(['D', 'A'], name => sizes[name], 10), ['A', 'D']);

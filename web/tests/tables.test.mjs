@@ -1,21 +1,24 @@
 // Tables: which positions need them, over a made-up core; and nobody waits for a table that he does not need.
 import test from 'node:test';
 import assert from 'node:assert/strict';
-import { makeTables } from '../src/tables.js';
+import {makeTables} from '../src/tables.js';
 
-if (!globalThis.navigator) globalThis.navigator = { hardwareConcurrency: 2 };
+if (!globalThis.navigator) globalThis.navigator = {hardwareConcurrency: 2};
 const RIGHT = '8/8/8/8/8/1k6/7Q/K7 w - - 0 1', REFUSED = '8/8/8/8/8/1k6/1Q6/K7 w - - 0 1',
       PAWN = '8/8/8/6k1/8/8/1P5K/8 w - - 0 1';
 /** A core that knows two positions; each other one is refused. Builders end when they are stopped. */
 function made(kept = []) {
-  const asked = [], loaded = new Set(), told = [], classes = { [RIGHT]: 'KK KQK', [PAWN]: 'KK KQK KRK KBK KNK KPK' };
+  const asked = [], loaded = new Set(), told = [], classes = {[RIGHT]: 'KK KQK', [PAWN]: 'KK KQK KRK KBK KNK KPK'};
   const core = {
     answer: async (request, script) => {
       asked.push(script);
       const all = script.trim().split('\n').flatMap(line => (classes[line.slice(9)] || '').split(' '));
-      return { text: [...new Set(all)].reverse().join('\n'), ended: 'done' };
+      return {text: [...new Set(all)].reverse().join('\n'), ended: 'done'};
     },
-    has: name => loaded.has(name), load: async name => { loaded.add(name); }
+    has: name => loaded.has(name),
+    load: async name => {
+      loaded.add(name);
+    }
   };
   const spawn = () => {
     let end = () => {};
@@ -33,23 +36,23 @@ function made(kept = []) {
     put: async () => true,
     remove: async () => {}
   };
-  const readers = { start() {}, read: async () => ({ bytes: new Uint8Array(1), digest: '' }) };
-  const tables = makeTables({ core, spawn, readers, store, tell: p => told.push(p) });
-  return { tables, asked, loaded, told };
+  const readers = {start() {}, read: async () => ({bytes: new Uint8Array(1), digest: ''})};
+  const tables = makeTables({core, spawn, readers, store, tell: p => told.push(p)});
+  return {tables, asked, loaded, told};
 }
 test('a refused position of the same men takes no classes from a right one, in either order', async () => {
   for (const order of [[RIGHT, REFUSED], [REFUSED, RIGHT]]) {
-    const { tables } = made();
+    const {tables} = made();
     for (const fen of order) await tables.classesOf([fen]);
     assert.deepEqual(await tables.classesOf([RIGHT]), ['KK', 'KQK']);
     assert.deepEqual(await tables.classesOf([REFUSED]), []);
     assert.deepEqual(await tables.classesOf(order), ['KK', 'KQK']);
     assert.deepEqual(
-        [tables.named([RIGHT]), tables.named([REFUSED]), tables.named(order)], [['KK', 'KQK'], [], ['KK', 'KQK']]);
+      [tables.named([RIGHT]), tables.named([REFUSED]), tables.named(order)], [['KK', 'KQK'], [], ['KK', 'KQK']]);
   }
 });
 test('each position is asked for once, and classes come in the order in which they are built', async () => {
-  const { tables, asked } = made();
+  const {tables, asked} = made();
   assert.deepEqual(await tables.classesOf([PAWN, RIGHT]), ['KK', 'KQK', 'KRK', 'KBK', 'KNK', 'KPK']);
   await tables.classesOf([RIGHT, PAWN]);
   assert.equal(asked.length, 2);
@@ -58,7 +61,7 @@ test('each position is asked for once, and classes come in the order in which th
   assert.equal(asked.length, 3);
 });
 test('while tables are built, a position whose tables are there is ready', async () => {
-  const { tables, loaded, told } = made();
+  const {tables, loaded, told} = made();
   const first = assert.rejects(tables.ready([PAWN]), /Stopped/), pause = () => new Promise(on => setTimeout(on, 5));
   await pause();
   assert.ok(tables.isBuilding() && /^Building the table/.test(told[told.length - 1].text));

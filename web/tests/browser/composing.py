@@ -1,4 +1,5 @@
-"""A man's other squares, what a remedy takes away, missing defences, a diagram: in headless Chromium, by mouse and keys.
+"""A man's other squares, what a remedy takes away, missing defences, a diagram: in headless Chromium, by mouse and
+keys.
 
     composing.py TABLES [NAME ..]
 
@@ -46,6 +47,7 @@ def view(user, lines, path="root"):
 
 class Rows:
     """Only moves in a row, by the marks of single positions."""
+
     def __init__(self, user):
         self.user, self.views = user, {}
 
@@ -79,13 +81,20 @@ def surveyed(user, man):
 
 def moved(square):
     """The king of FEN on another square of its ranks."""
-    return {"g2": "8/8/8/6k1/8/8/1P4K1/8 w - - 0 1", "h3": "8/8/8/6k1/8/7K/1P6/8 w - - 0 1", "f2": "8/8/8/6k1/8/8/1P3K2/8 w - - 0 1"}[square]
+    return {
+        "g2": "8/8/8/6k1/8/8/1P4K1/8 w - - 0 1",
+        "h3": "8/8/8/6k1/8/7K/1P6/8 w - - 0 1",
+        "f2": "8/8/8/6k1/8/8/1P3K2/8 w - - 0 1",
+    }[square]
 
 
 def test_rows_of_only_moves_at_the_dots(user):
     opened(user)
     surveyed(user, 15)
-    shown = user.js("return Object.fromEntries([...document.querySelectorAll('#board [data-row]')].map(e => [e.dataset.row, e.textContent]))")
+    shown = user.js(
+        "return Object.fromEntries([...document.querySelectorAll('#board [data-row]')].map(e => [e.dataset.row,"
+        " e.textContent]))"
+    )
     rows = Rows(user)
     assert shown == {square: str(rows.most(moved(square))) for square in ("g2", "h3")} == {"g2": "6", "h3": "6"}, shown
     assert "6: g2 (Kg3), h3 (Kg3)." in user.text("inRow"), user.text("inRow")
@@ -105,10 +114,16 @@ def test_trees_on_other_squares(user):
     user.click("lookAtTrees")
     user.until("document.querySelectorAll('#treesThere [data-there]').length", 60)
     user.settle()
-    chips = dict(user.js("return [...document.querySelectorAll('#treesThere [data-there]')].map(e => [e.dataset.there, e.innerText])"))
+    chips = dict(
+        user.js(
+            "return [...document.querySelectorAll('#treesThere [data-there]')].map(e => [e.dataset.there, e.innerText])"
+        )
+    )
     for square in ("g2", "h3", "f2"):
         rows = view(user, STUDY.replace(FEN, moved(square)))
-        refused, faults = [row for row in rows if row[0] == "refused"], re.search(r"faults (\d+)", " ".join(rows[2])).group(1)
+        refused, faults = [row for row in rows if row[0] == "refused"], re.search(
+            r"faults (\d+)", " ".join(rows[2])
+        ).group(1)
         assert not refused and chips[square] == f"{square}: unsound {faults}", (square, chips)
     assert list(chips)[:2] == ["g2", "h3"] and "looked at" not in user.text("treesThere"), chips
     assert "no move stays" in user.text("treesThere"), user.text("treesThere")
@@ -144,7 +159,9 @@ def test_what_a_remedy_takes_away(user):
     user.until("document.querySelector('[data-cut]')", 30)
     cut = user.d.find_element(By.CSS_SELECTOR, '[data-cut="0.1.0"]')
     assert cut.text == "✕ End before it (2 moves; 2. Kf3 comes to its place)", cut.text
-    assert cut.get_attribute("title") == "delete 2 moves: 2. Kf4 Kg6; 2. Kf3 comes to its place", cut.get_attribute("title")
+    assert cut.get_attribute("title") == "delete 2 moves: 2. Kf4 Kg6; 2. Kf3 comes to its place", cut.get_attribute(
+        "title"
+    )
     cut.click()
     user.settle()
     assert len(user.d.find_elements(By.CSS_SELECTOR, ".tree [data-path]")) == 7
@@ -165,8 +182,13 @@ def test_all_defences_with_one_answer(user):
 def test_a_fen_and_pictures(user):
     opened(user)
     user.click("copyFen")
-    user.until("document.getElementById('sayBoard').textContent.includes('FEN') || "
-               "document.getElementById('sayBoard').textContent.includes('Copied')", 20)
+    user.until(
+        (
+            "document.getElementById('sayBoard').textContent.includes('FEN') || "
+            "document.getElementById('sayBoard').textContent.includes('Copied')"
+        ),
+        20,
+    )
     assert FEN in user.text("sayBoard")
     folder = tempfile.mkdtemp()
     user.d.execute_cdp_cmd("Browser.setDownloadBehavior", {"behavior": "allow", "downloadPath": folder})

@@ -38,8 +38,10 @@ def script(user):
 
 def rows(user):
     """The list of entries: number, title, author, stipulation, verdict."""
-    return user.js("""return [...document.querySelectorAll('#list tbody tr')].map(row =>
-        [...row.cells].map(cell => cell.innerText.trim()))""")
+    return user.js(
+        """return [...document.querySelectorAll('#list tbody tr')].map(row =>
+        [...row.cells].map(cell => cell.innerText.trim()))"""
+    )
 
 
 def opened(user, name, text, waited="document.getElementById('stamp')"):
@@ -50,19 +52,33 @@ def opened(user, name, text, waited="document.getElementById('stamp')"):
 
 def test_ten_entries_are_ten_rows(user):
     user.open_tables(TABLES, SMALL)
-    pgn = "% made by hand\n" + "".join((
-        game("One", "Réti, Richard", "1. Kg3 Kf5 2. Kf3"), game("Two", "Троицкий", "1. Kg3! {The only move} Kf5"), game("Three", "A", "1. Kh9"),
-        game("Four", "B", "1. Kg3", fen=BAD), game("Five", "C", "", "1-0"), game("Six", "D", "1. Kg3 --"), game("Seven", "E", "1. b4 Kf6"),
-        game("Eight", "F", "1. Kg3", "*"), game("Nine", "G", "1. Kg3", "0-1"), game("Ten", "H", "1. Kg3 Kf5 2. Kf3 (2. Kg2 --) Ke5")))
+    pgn = "% made by hand\n" + "".join(
+        (
+            game("One", "Réti, Richard", "1. Kg3 Kf5 2. Kf3"),
+            game("Two", "Троицкий", "1. Kg3! {The only move} Kf5"),
+            game("Three", "A", "1. Kh9"),
+            game("Four", "B", "1. Kg3", fen=BAD),
+            game("Five", "C", "", "1-0"),
+            game("Six", "D", "1. Kg3 --"),
+            game("Seven", "E", "1. b4 Kf6"),
+            game("Eight", "F", "1. Kg3", "*"),
+            game("Nine", "G", "1. Kg3", "0-1"),
+            game("Ten", "H", "1. Kg3 Kf5 2. Kf3 (2. Kg2 --) Ke5"),
+        )
+    )
     opened(user, "entries.pgn", pgn)
     list_ = rows(user)
     assert len(list_) == 10, list_
-    assert [row[4].split(":")[0].split(" ")[0] for row in list_] == "sound sound left left holds left unsound left wrong sound".split(), list_
+    assert [
+        row[4].split(":")[0].split(" ")[0] for row in list_
+    ] == "sound sound left left holds left unsound left wrong sound".split(), list_
     assert list_[0][2] == "Réti, Richard" and list_[1][2] == "Троицкий"
     assert "Kh9" in list_[2][4] and "6 men" in list_[3][4] and "null move" in list_[5][4], list_
     assert list_[2][2] == "A" and list_[2][1].startswith("Three (game 3 of") and list_[3][2] == "B", list_
     note = user.text("import")
-    assert "10 games, 6 studies" in note and "game 3, line" in note and "Not kept of this PGN: 1 null move." in note, note
+    assert (
+        "10 games, 6 studies" in note and "game 3, line" in note and "Not kept of this PGN: 1 null move." in note
+    ), note
     counts = user.js("return [...document.querySelectorAll('#list [data-kind]')].map(b => b.innerText)")
     assert counts == ["3 sound", "1 unsound", "1 wrong", "1 holds", "4 left out"], counts
     user.js("document.querySelector('#list [data-kind=wrong]').click()")
@@ -71,7 +87,9 @@ def test_ten_entries_are_ten_rows(user):
     user.promise("new Promise(on => setTimeout(on, 3000))")
     name, text = user.download("saveList")
     table = list(csv.reader(io.StringIO(text)))
-    assert name == "entries.checked.csv" and len(table) == 11 and table[2][2] == "Троицкий" and table[1][5] == "sound", table
+    assert (
+        name == "entries.checked.csv" and len(table) == 11 and table[2][2] == "Троицкий" and table[1][5] == "sound"
+    ), table
     assert table[7][5].startswith("unsound") and int(table[7][6]) + 1 >= 1 and int(table[1][8]) > 0
     name, saved = user.download("savePgn")
     assert name == "entries.checked.pgn" and '[White "Троицкий"]' in saved and '[Annotator "an editor"]' in saved
@@ -108,7 +126,11 @@ def test_neither_script_nor_pgn(user):
     user.open_tables(TABLES, SMALL)
     user.set_up(FEN, "white win")
     before = script(user)
-    for name, text in (("a.json", '{"position": 1}'), ("b.txt", "prose\nand more\n"), ("c.pgn", '[Event "x"]\n\n1. e4 *\n')):
+    for name, text in (
+        ("a.json", '{"position": 1}'),
+        ("b.txt", "prose\nand more\n"),
+        ("c.pgn", '[Event "x"]\n\n1. e4 *\n'),
+    ):
         user.open_file(name, text)
         user.until("document.body.textContent.includes('Nothing was changed')", 20)
         user.settle()
@@ -128,8 +150,10 @@ def test_our_own_pgn_is_kept_whole(user):
 
 def test_studies_are_copied_and_moved(user):
     user.open_tables(TABLES, SMALL)
-    text = (f"position {FEN}\nstipulate white win\ntag Event One\ninsert root Kg3\n\nposition 8/3k4/8/3KP3/8/8/8/8 w - - 0 1\n"
-            "stipulate white draw\ntag Event Two\n")
+    text = (
+        f"position {FEN}\nstipulate white win\ntag Event One\ninsert root Kg3\n\nposition 8/3k4/8/3KP3/8/8/8/8 w - - 0"
+        " 1\nstipulate white draw\ntag Event Two\n"
+    )
     user.promise("studyboard.open(a[0])", text)
     user.settle()
     user.click("copyStudy")
@@ -200,7 +224,11 @@ def test_a_study_begins_earlier(user):
     user.d.find_element(By.CSS_SELECTOR, "#earlier [data-before]").click()
     user.settle()
     sans = re.findall(r"insert (\S+) (\S+)", script(user))
-    assert [path for path, _ in sans] == ["root", "0", "0.0"] and [san for _, san in sans] == [second, first, "Kg3"], sans
+    assert [path for path, _ in sans] == ["root", "0", "0.0"] and [san for _, san in sans] == [
+        second,
+        first,
+        "Kg3",
+    ], sans
 
 
 def test_a_diagram_is_saved(user):
@@ -221,7 +249,10 @@ def test_find_all_zugzwangs_of_king_and_pawn(user):
     assert user.js("return document.querySelectorAll('#foundList li').length") == 80
     user.picture("find", whole=False)
     user.choose("findTheme", "win N")
-    user.js("const e = document.getElementById('findN'); e.value = '6'; e.dispatchEvent(new Event('input', {bubbles: true}))")
+    user.js(
+        "const e = document.getElementById('findN'); e.value = '6'; e.dispatchEvent(new Event('input', {bubbles:"
+        " true}))"
+    )
     user.click("findGo")
     user.until("document.getElementById('findState').innerText.includes('all there are')", 120)
     assert "KPK win 6: 15 positions found" in user.text("findState"), user.text("findState")

@@ -30,7 +30,7 @@ def games(expected):
 def play(user, script, wanted):
     """The edits of a script by mouse, up to its first `pgn`."""
     lines = [line for line in script.split("\n") if line and not line.startswith("#")]
-    lines = lines[:lines.index("pgn")]
+    lines = lines[: lines.index("pgn")]
     fen = aim = ""
     for line in lines:
         word, _, rest = line.strip().partition(" ")
@@ -73,7 +73,9 @@ def refused(lines, expected, line):
 
 def main():
     scripts = [name[:-7] for name in os.listdir(EXAMPLES) if name.endswith(".script")]
-    names = sys.argv[2:] or sorted(name for name in scripts if os.path.exists(os.path.join(EXAMPLES, name + ".expected")))
+    names = sys.argv[2:] or sorted(
+        name for name in scripts if os.path.exists(os.path.join(EXAMPLES, name + ".expected"))
+    )
     user, bad = User(), 0
     for name in names:
         with open(os.path.join(EXAMPLES, name + ".script"), encoding="utf-8") as file:

@@ -42,10 +42,12 @@ def documents(user):
     """The rows of the list: title, verdict, where it is open."""
     user.click("documentsButton")
     user.until("!document.getElementById('documents').hidden")
-    rows = user.js("""return [...document.querySelectorAll('#documents tbody tr')].map(row => {
+    rows = user.js(
+        """return [...document.querySelectorAll('#documents tbody tr')].map(row => {
         const cells = [...row.cells].map(cell => cell.innerText.trim());
         return [cells[0].split('\\n')[0], cells[1], cells[0].split('\\n').slice(1).join(' ')];
-    })""")
+    })"""
+    )
     user.keys(Keys.ESCAPE)
     assert user.js("return document.getElementById('documents').hidden")
     return rows
@@ -172,7 +174,9 @@ def test_a_file_whose_tables_lack(user):
         user.open_tables(TABLES, "KQKR KRKR KRKB KRKN KRKP".split())
         user.click("buildNow") if user.has("buildNow") else None
         user.settle()
-        user.until("document.getElementById('stamp') && document.getElementById('stamp').innerText.includes('unsound 2')", 60)
+        user.until(
+            "document.getElementById('stamp') && document.getElementById('stamp').innerText.includes('unsound 2')", 60
+        )
         assert "Glasgow" in user.text("head")
 
 
@@ -222,8 +226,10 @@ def replies(text):
 
 def test_studybench_takes_what_is_saved(user):
     remark = "# " + "x" * 1022
-    text = (f"position {FEN}\nstipulate white win\n{remark}\n# Réti\ntag Event A\n"
-            "insert root Kg3\nmark 9\ninsert root Kz9\nmark 0\n")
+    text = (
+        f"position {FEN}\nstipulate white win\n{remark}\n# Réti\ntag Event A\n"
+        "insert root Kg3\nmark 9\ninsert root Kz9\nmark 0\n"
+    )
     user.open_tables(TABLES, SMALL)
     user.promise("studyboard.open(a[0])", text)
     assert user.text("stamp") == "not read: Kz9" and user.text("refused") == "2 lines of the script were refused"
@@ -248,7 +254,13 @@ def test_what_a_pgn_says_beside_its_moves_is_kept(user):
     user.settle()
     assert "1 game, 1 study" in user.text("notKept")
     name, saved = user.download("savePgn")
-    said = ('[Annotator "an editor"]', '[Source "a book"]', "{A study for practice.}", "{The only move}", "{draws [%cal Gg5f6]}")
+    said = (
+        '[Annotator "an editor"]',
+        '[Source "a book"]',
+        "{A study for practice.}",
+        "{The only move}",
+        "{draws [%cal Gg5f6]}",
+    )
     assert name == "entries.checked.pgn" and all(words in saved.replace("\n", " ") for words in said), saved
     reload(user)
     assert "1 game, 1 study" in user.text("notKept") and user.download("savePgn") == (name, saved)
@@ -285,7 +297,9 @@ def test_removed_for_good(user):
     user.click("documentsButton")
     button = "//*[@id='documents']//button[contains(., 'Remove')]"
     for _ in range(2):
-        user.until("[...document.querySelectorAll('#documents button')].some(it => it.textContent.includes('Remove'))", 10)
+        user.until(
+            "[...document.querySelectorAll('#documents button')].some(it => it.textContent.includes('Remove'))", 10
+        )
         user.d.find_element(By.XPATH, button).click()
     user.keys(Keys.ESCAPE)
     assert [row[0] for row in documents(user)] == ["Second"]
@@ -294,9 +308,11 @@ def test_removed_for_good(user):
 
 def test_storage_that_is_full(user):
     user.open_tables(TABLES, SMALL)
-    user.js("""let text = 'x'.repeat(1 << 20);
+    user.js(
+        """let text = 'x'.repeat(1 << 20);
         for (let i = 0; text; i++)
-            try { localStorage.setItem('filled' + i, text); } catch { text = text.slice(text.length >> 1 || 1); }""")
+            try { localStorage.setItem('filled' + i, text); } catch { text = text.slice(text.length >> 1 || 1); }"""
+    )
     started(user, FEN, "Not kept")
     assert user.by("unkept").is_displayed() and user.text("stamp") == "holds"
     user.js("for (const key of Object.keys(localStorage)) if (key.startsWith('filled')) localStorage.removeItem(key)")

@@ -25,37 +25,46 @@ def digest(name):
 
 def kept(user, name):
     """The SHA-256 of a table in the browser's store, or nothing."""
-    return user.promise("""(async () => {
+    return user.promise(
+        """(async () => {
         const base = await new Promise((ok, no) => {
             const r = indexedDB.open('studyboard', 1);
             r.onsuccess = () => ok(r.result);
             r.onerror = () => no(r.error);
         });
-        const get = base.transaction('tables').objectStore('tables').get(a[0]), blob = await new Promise(ok => { get.onsuccess = () => ok(get.result); });
+        const get = base.transaction('tables').objectStore('tables').get(a[0]);
+        const blob = await new Promise(ok => { get.onsuccess = () => ok(get.result); });
         if (!blob) return '';
         const sum = new Uint8Array(await crypto.subtle.digest('SHA-256', await blob.arrayBuffer()));
         return [...sum].map(b => b.toString(16).padStart(2, '0')).join('');
-    })()""", name)
+    })()""",
+        name,
+    )
 
 
 def put_forged(user, name):
-    user.promise("""(async () => {
+    user.promise(
+        """(async () => {
         const base = await new Promise((ok, no) => {
             const r = indexedDB.open('studyboard', 1);
             r.onsuccess = () => ok(r.result);
             r.onerror = () => no(r.error);
         });
         const s = base.transaction('tables', 'readwrite').objectStore('tables'), get = s.get(a[0]);
-        const blob = await new Promise(ok => { get.onsuccess = () => ok(get.result); }), bytes = new Uint8Array(await blob.arrayBuffer());
+        const blob = await new Promise(ok => { get.onsuccess = () => ok(get.result); });
+        const bytes = new Uint8Array(await blob.arrayBuffer());
         bytes[bytes.length - 100] ^= 1;
         const put = base.transaction('tables', 'readwrite').objectStore('tables').put(new Blob([bytes]), a[0]);
         await new Promise(ok => { put.onsuccess = ok; });
         return 0;
-    })()""", name)
+    })()""",
+        name,
+    )
 
 
 class Tags(HTMLParser, list):
     """The names of a page's elements."""
+
     def __init__(self):
         HTMLParser.__init__(self)
         list.__init__(self)
@@ -91,7 +100,9 @@ def test_composed_by_keys_alone(user):
     for _ in range(3):
         user.keys(Keys.ARROW_UP)
     user.keys(Keys.ARROW_LEFT, "k")
-    assert user.js("return document.getElementById('fen').value") == FEN, user.js("return document.getElementById('fen').value")
+    assert user.js("return document.getElementById('fen').value") == FEN, user.js(
+        "return document.getElementById('fen').value"
+    )
     user.until("!document.getElementById('start').disabled", 60)
     user.by("start").send_keys(Keys.ENTER)
     user.until("document.getElementById('san')", 60)
@@ -147,7 +158,9 @@ def test_faults_and_their_repairs(user):
     user.picture("fault")
     user.go("root")
     user.play("c8=R")
-    user.until("[...document.querySelectorAll('.faults button')].some(b => b.textContent === 'Put c8=R first')", 30, "a repair")
+    user.until(
+        "[...document.querySelectorAll('.faults button')].some(b => b.textContent === 'Put c8=R first')", 30, "a repair"
+    )
     user.d.find_element(By.XPATH, "//button[text()='Put c8=R first']").click()
     user.settle()
     assert user.text("stamp") == "sound"
@@ -200,7 +213,9 @@ def test_a_study_from_a_node(user):
     user.until("document.getElementById('startEmpty') && !document.getElementById('startEmpty').disabled", 30)
     user.click("startEmpty")
     user.settle()
-    assert user.promise("studyboard.script()").startswith("position 8/8/8/5k2/8/6K1/1P6/8 w - - 2 2\nstipulate white win\n")
+    assert user.promise("studyboard.script()").startswith(
+        "position 8/8/8/5k2/8/6K1/1P6/8 w - - 2 2\nstipulate white win\n"
+    )
     assert not user.d.find_elements(By.CSS_SELECTOR, ".tree [data-path]")
 
 
@@ -257,11 +272,15 @@ def test_forged_and_damaged_tables(user):
 
 
 def test_hostile_texts_are_texts(user):
-    tags = 'tag Event <img src=x onerror=alert(1)><script>alert(2)</script>\ntag White "><b>b\n<script>alert(3)</script>\n'
+    tags = (
+        'tag Event <img src=x onerror=alert(1)><script>alert(2)</script>\ntag White "><b>b\n<script>alert(3)</script>\n'
+    )
     script = f"position {FEN}\nstipulate white win\n{tags}insert root Kg3\n"
     user.promise("studyboard.open(a[0])", script)
     user.settle()
-    assert user.by("head").find_element(By.TAG_NAME, "h1").text == "<img src=x onerror=alert(1)><script>alert(2)</script>"
+    assert (
+        user.by("head").find_element(By.TAG_NAME, "h1").text == "<img src=x onerror=alert(1)><script>alert(2)</script>"
+    )
     assert not user.d.find_elements(By.CSS_SELECTOR, "#right img, #right script, h1 b")
     assert "1 line of the script was refused" in user.text("texts")
     user.picture("hostile")
@@ -284,11 +303,14 @@ def test_a_pgn_where_a_script_is_meant(user):
     user.settle()
     assert user.promise("studyboard.pgn()") == pgn
     user.promise("studyboard.open(a[0])", '[Event "x"]\n\n1. e4 *\n')
-    assert "Nothing was changed" in user.js("return document.body.textContent") and user.promise("studyboard.pgn()") == pgn
+    assert (
+        "Nothing was changed" in user.js("return document.body.textContent") and user.promise("studyboard.pgn()") == pgn
+    )
 
 
 def test_a_script_in_the_address(user):
     from urllib.parse import quote
+
     user.open_tables(TABLES, SMALL)
     user.open("#script=" + quote(f"position {FEN}\nstipulate white win\ninsert root Kg3\n"))
     user.until("document.getElementById('stamp')", 30)
@@ -328,7 +350,9 @@ def test_from_study_to_study(user):
     assert "refused" in user.text("sayBoard") and user.text("refused") == "1 line of the script was refused"
     user.keys(Keys.PAGE_DOWN)
     user.settle()
-    assert user.js("return document.getElementById('studies').value") == "1" and user.by("after").get_attribute("disabled")
+    assert user.js("return document.getElementById('studies').value") == "1" and user.by("after").get_attribute(
+        "disabled"
+    )
     user.click("clearOld")
     user.settle()
     assert not user.has("clearOld") and "First" not in user.text("head")

@@ -1,5 +1,5 @@
-"""The page on a laptop's screen, by keys, for a screen reader and on paper; and that nobody waits for a build that he does
-not need.
+"""The page on a laptop's screen, by keys, for a screen reader and on paper; and that nobody waits for a build that he
+does not need.
 
     screen.py TABLES [NAME ..]
 """
@@ -14,7 +14,8 @@ TABLES = os.path.abspath(sys.argv[1])
 FEN = "8/8/8/6k1/8/8/1P5K/8 w - - 0 1"
 SMALL = "KK KQK KRK KBK KNK KPK".split()
 SCROLLS = """return [...document.querySelectorAll('main, main *, .bar')].filter(e => e.tagName !== 'TEXTAREA' &&
-    e.scrollHeight > e.clientHeight + 1 && /auto|scroll/.test(getComputedStyle(e).overflowY)).map(e => e.id || e.className)"""
+    e.scrollHeight > e.clientHeight + 1 && /auto|scroll/.test(getComputedStyle(e).overflowY)
+    ).map(e => e.id || e.className)"""
 CHIPS = """const all = [...document.querySelectorAll('.moves .chip')];
     return [all.length, Math.max(...all.map(chip => chip.getBoundingClientRect().bottom))]"""
 LABELS = "return [...document.querySelectorAll(arguments[0])].map(chip => chip.getAttribute('aria-label'))"
@@ -215,7 +216,8 @@ def contrast(one, two):
 
 def colours(user):
     """Text and ground of all that has text of its own and is shown."""
-    return user.js("""const out = [];
+    return user.js(
+        """const out = [];
         for (const e of document.querySelectorAll('main *, .bar *')) {
             const text = [...e.childNodes].some(n => n.nodeType === 3 && n.textContent.trim());
             if (!text || !e.getClientRects().length || e.disabled || e.closest('svg, option')) continue;
@@ -226,7 +228,8 @@ def colours(user):
             }
             out.push([getComputedStyle(e).color, ground || 'rgb(255, 255, 255)', e.textContent.slice(0, 30)]);
         }
-        return out;""")
+        return out;"""
+    )
 
 
 def test_colours_and_paper(user):
@@ -248,15 +251,17 @@ def test_colours_and_paper(user):
 
 
 def test_a_draft_does_not_wait_for_a_build(user):
-    """While a class of four men is built: a draft whose tables are there is judged at once, a study is played on, and the
-    time left never grows."""
+    """While a class of four men is built: a draft whose tables are there is judged at once, a study is played on, and
+    the time left never grows."""
     small(user)
     user.click("sample2")
     user.until("document.getElementById('progressText').textContent.includes('K')", 30)
     user.until("document.getElementById('head').innerText.includes('Saavedra')", 10)
-    user.js("""window.texts = [];
+    user.js(
+        """window.texts = [];
         new MutationObserver(() => texts.push(document.getElementById('progressText').textContent))
-            .observe(document.getElementById('progressText'), {childList: true});""")
+            .observe(document.getElementById('progressText'), {childList: true});"""
+    )
     user.js("document.getElementById('new').click()")
     began = time.time()
     user.js(FILL, "fen", FEN)

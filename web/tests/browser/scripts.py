@@ -1,9 +1,10 @@
-"""Scripts through `studyboard.run`: those of the gallery give the expected replies, and random ones those of the native program.
+"""Scripts through `studyboard.run`: those of the gallery give the expected replies, and random ones those of the native
+program.
 
     scripts.py TABLES N
 
-Of the gallery those are tried whose tables are all in TABLES: each where N is more than 50, else every second. STUDYBENCH names the native
-program; without it the gallery alone is tried.
+Of the gallery those are tried whose tables are all in TABLES: each where N is more than 50, else every second.
+STUDYBENCH names the native program; without it the gallery alone is tried.
 """
 import os
 import random
@@ -15,20 +16,55 @@ from user import TOP, User
 
 EXAMPLES = os.path.join(TOP, "examples")
 NATIVE = os.environ.get("STUDYBENCH", os.path.join(TOP, "crates", "studybench", "out", "studybench"))
-FENS = ["8/8/8/6k1/8/8/1P5K/8 w - - 0 1", "8/k1P5/2K5/8/8/8/8/8 w - - 0 1", "k7/8/1K6/8/8/8/8/7R w - - 0 1", "7k/8/5K2/8/8/8/8/6Q1 w - - 0 1",
-        "8/3k4/8/3KP3/8/8/8/8 b - - 0 1", "8/8/8/8/8/2k5/8/K1R5 b - - 0 1", "8/8/8/8/8/k7/8/8 w - - 0 1", "nonsense", "8/8/8/8/8/k7/8/K6P w - - 0 1"]
-SANS = ["Kg3", "Kf5", "Kf3", "b4", "c8=Q", "c8=R", "Rh8", "Qg7", "Ke7", "Kd8", "e6", "Kh1", "Kb1", "Rb1", "O-O", "zzz", "Kb8", "Ka6"]
+FENS = [
+    "8/8/8/6k1/8/8/1P5K/8 w - - 0 1",
+    "8/k1P5/2K5/8/8/8/8/8 w - - 0 1",
+    "k7/8/1K6/8/8/8/8/7R w - - 0 1",
+    "7k/8/5K2/8/8/8/8/6Q1 w - - 0 1",
+    "8/3k4/8/3KP3/8/8/8/8 b - - 0 1",
+    "8/8/8/8/8/2k5/8/K1R5 b - - 0 1",
+    "8/8/8/8/8/k7/8/8 w - - 0 1",
+    "nonsense",
+    "8/8/8/8/8/k7/8/K6P w - - 0 1",
+]
+SANS = [
+    "Kg3",
+    "Kf5",
+    "Kf3",
+    "b4",
+    "c8=Q",
+    "c8=R",
+    "Rh8",
+    "Qg7",
+    "Ke7",
+    "Kd8",
+    "e6",
+    "Kh1",
+    "Kb1",
+    "Rb1",
+    "O-O",
+    "zzz",
+    "Kb8",
+    "Ka6",
+]
 
 
 def random_script(dice, tables):
-    lines = [f"load {name}" for name in ("KK", "KQK", "KRK", "KBK", "KNK", "KPK") if dice.random() < 0.97] if tables else []
+    lines = (
+        [f"load {name}" for name in ("KK", "KQK", "KRK", "KBK", "KNK", "KPK") if dice.random() < 0.97] if tables else []
+    )
     paths = ["root", "0", "1", "0.0", "0.0.0", "1.0", "9"]
     for _ in range(dice.randrange(3, 40)):
         kind = dice.random()
         if kind < 0.15:
             lines.append("position " + dice.choice(FENS))
         elif kind < 0.27:
-            lines.append("stipulate " + dice.choice(["white win", "white draw", "black draw", "black win", "white mate 2", "white mate 0", "red win"]))
+            lines.append(
+                "stipulate "
+                + dice.choice(
+                    ["white win", "white draw", "black draw", "black win", "white mate 2", "white mate 0", "red win"]
+                )
+            )
         elif kind < 0.62:
             lines.append(f"insert {dice.choice(paths)} {dice.choice(SANS)}")
         elif kind < 0.72:
@@ -55,7 +91,11 @@ def gallery(classes):
     """The names of the gallery's scripts with expected replies whose tables are all of these classes."""
     names = [name[:-7] for name in sorted(os.listdir(EXAMPLES)) if name.endswith(".script")]
     names = [name for name in names if os.path.exists(os.path.join(EXAMPLES, name + ".expected"))]
-    return [name for name in names if set(re.findall(r"^(?:build|load) (\w+)$", text_of(name + ".script"), flags=re.M)) <= set(classes)]
+    return [
+        name
+        for name in names
+        if set(re.findall(r"^(?:build|load) (\w+)$", text_of(name + ".script"), flags=re.M)) <= set(classes)
+    ]
 
 
 def main():
@@ -69,7 +109,9 @@ def main():
     user.open_tables(folder, classes)
     for name in names:
         script = re.sub(r"^build (\w+)$", r"load \1", text_of(name + ".script"), flags=re.M)
-        expected = re.sub(r"^built (\w+) cells (\d+) win \S+$", r"loaded \1 cells \2", text_of(name + ".expected"), flags=re.M)
+        expected = re.sub(
+            r"^built (\w+) cells (\d+) win \S+$", r"loaded \1 cells \2", text_of(name + ".expected"), flags=re.M
+        )
         for pages in (64, 1000):
             if user.promise("studyboard.run(a[0], a[1])", script, pages) != expected:
                 bad += 1

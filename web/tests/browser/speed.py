@@ -17,10 +17,14 @@ const drawn = () => new Promise(ok => requestAnimationFrame(() => setTimeout(ok)
 window.timed = async (act, done) => {
     const began = performance.now();
     act();
-    while (!done()) await new Promise(ok => { const c = new MessageChannel(); c.port1.onmessage = ok; c.port2.postMessage(0); });
-    const told = performance.now() - began;
+    while (!done()) await new Promise(ok => {
+        const c = new MessageChannel();
+        c.port1.onmessage = ok;
+        c.port2.postMessage(0);
+    });
+    const shown = performance.now() - began;
     await drawn();
-    return [told, performance.now() - began];
+    return [shown, performance.now() - began];
 };
 """
 COUNT = "document.querySelectorAll('.tree [data-path]').length"
@@ -41,8 +45,12 @@ def move(user, san):
 def drop(user, here, there, rest=0.25):
     """A man is dragged: from its drop until the move is in the tree, and drawn."""
     before = user.js("return " + COUNT)
-    user.js("""const told = timed.bind(null, () => {}, () => document.querySelectorAll('.tree [data-path]').length > arguments[0]);
-        window.dropped = new Promise(ok => document.addEventListener('pointerup', () => ok(told()), {once: true, capture: true}))""", before)
+    user.js(
+        """const isDone = () => document.querySelectorAll('.tree [data-path]').length > arguments[0];
+        const time = timed.bind(null, () => {}, isDone), options = {once: true, capture: true};
+        window.dropped = new Promise(ok => document.addEventListener('pointerup', () => ok(time()), options))""",
+        before,
+    )
     (x, y), (u, v) = user.point(here), user.point(there)
     mouse = ActionChains(user.d, duration=20)
     at = mouse.w3c_actions.pointer_action
@@ -57,12 +65,13 @@ def drop(user, here, there, rest=0.25):
 
 
 def large(user, moves, dice):
-    """A script with so many moves: of White one at each node by chance, of which most have duals, and up to five answers of Black."""
+    """A script with so many moves: of White one at each node by chance, of which most have duals, and up to five
+    answers of Black."""
     start, lines, level = "position 8/8/8/4k3/8/8/8/R3K3 w - - 0 1\nstipulate white win\n", [], ["root"]
     loads = "".join(f"load {name}\n" for name in SAAVEDRA)
     while len(lines) < moves:
         asked = start + "".join(lines) + "".join(f"moves {path}\n" for path in level)
-        told = user.promise("studyboard.run(a[0], 1000)", loads + asked).split("\n")[-len(level) - 1:-1]
+        told = user.promise("studyboard.run(a[0], 1000)", loads + asked).split("\n")[-len(level) - 1 : -1]
         below = []
         for path, sans in zip(level, told):
             white = path == "root" or path.count(".") % 2 == 1
@@ -76,8 +85,14 @@ def large(user, moves, dice):
 
 def reloads(user):
     """Until the verdict stands, as the page counts, and as the user waits."""
-    user.d.execute_cdp_cmd("Page.addScriptToEvaluateOnNewDocument", {"source": """new MutationObserver(() => {
-        if (!window.stamped && document.getElementById('stamp')) window.stamped = performance.now(); }).observe(document, {childList: true, subtree: true})"""})
+    user.d.execute_cdp_cmd(
+        "Page.addScriptToEvaluateOnNewDocument",
+        {
+            "source": """new MutationObserver(() => {
+                if (!window.stamped && document.getElementById('stamp')) window.stamped = performance.now();
+            }).observe(document, {childList: true, subtree: true})"""
+        },
+    )
     ready = []
     for _ in range(5):
         began = time.time()
@@ -90,8 +105,10 @@ def reloads(user):
 def in_large_tree(user):
     user.js(WATCH)
     user.promise("studyboard.open(a[0])", large(user, 504, random.Random(504)))
-    trees = {"a move in a tree of 504 moves with many faults": "root 0.0 0.1 0.2 0.3",
-             "the same, one after the other": "0.0.0.0 0.0.0.1 0.1.0.0 0.1.0.1 0.2.0.0"}
+    trees = {
+        "a move in a tree of 504 moves with many faults": "root 0.0 0.1 0.2 0.3",
+        "the same, one after the other": "0.0.0.0 0.0.0.1 0.1.0.0 0.1.0.1 0.2.0.0",
+    }
     rows = {}
     for name, paths in trees.items():
         rows[name] = []
@@ -99,7 +116,12 @@ def in_large_tree(user):
             user.go(path)
             if "after" not in name:
                 user.until("document.getElementById('ends')", 60)
-            rows[name].append(move(user, user.js("return document.querySelector('.moves [data-san]:not(.in)').getAttribute('data-san')")))
+            rows[name].append(
+                move(
+                    user,
+                    user.js("return document.querySelector('.moves [data-san]:not(.in)').getAttribute('data-san')"),
+                )
+            )
     return rows
 
 
@@ -111,7 +133,9 @@ def main():
     user.js(WATCH)
     rows = {}
     current = "document.querySelector('.m.now')?.getAttribute('data-path')"
-    walk = f"timed(() => document.querySelector('.tree [data-path=\"' + a[0] + '\"]').click(), () => {current} === a[0])"
+    walk = (
+        f"timed(() => document.querySelector('.tree [data-path=\"' + a[0] + '\"]').click(), () => {current} === a[0])"
+    )
     rows["a walk"] = [user.promise(walk, path) for path in ("0", "0.0", "0.0.0", "0.0.0.0", "0.0.1", "1", "1.0")]
     rows["a move"] = []
     for san in ("Ka6", "Ka7", "Kc7"):
@@ -124,16 +148,24 @@ def main():
     user.until("document.getElementById('ends')", 60)
     user.go("0")
     before = user.js("return " + COUNT)
-    found = f"{COUNT} > a[1] && !document.getElementById('review').textContent.includes('being found') && document.getElementById('ends')"
+    found = (
+        f"{COUNT} > a[1] && !document.getElementById('review').textContent.includes('being found') &&"
+        " document.getElementById('ends')"
+    )
     rows["a move with its facts"] = [user.promise(f"timed({PRESS}, () => {found})", "Rd8", before)]
     user.click("setUp")
     user.until("document.getElementById('survey')", 60)
-    rows["a survey"] = [user.promise("timed(() => document.getElementById('survey').click(), () => document.getElementById('stands'))")]
+    rows["a survey"] = [
+        user.promise("timed(() => document.getElementById('survey').click(), () => document.getElementById('stands'))")
+    ]
     user.click("cancel")
     rows["ready after a reload"] = reloads(user)
     rows.update(in_large_tree(user))
     for name, list_ in rows.items():
-        print(f"{name}: median {statistics.median(t for t, _ in list_):.0f} ms, drawn {statistics.median(d for _, d in list_):.0f} ms, of {len(list_)}")
+        print(
+            f"{name}: median {statistics.median(t for t, _ in list_):.0f} ms, drawn"
+            f" {statistics.median(d for _, d in list_):.0f} ms, of {len(list_)}"
+        )
     user.end()
 
 

@@ -15,7 +15,10 @@ from selenium.webdriver.common.keys import Keys
 HERE = os.path.dirname(os.path.abspath(__file__))
 TOP = os.path.join(HERE, "..", "..", "..")
 PAGE = os.environ.get("STUDYBOARD", os.path.join(TOP, "web", "out", "studyboard.html"))
-FILL = "const e = document.getElementById(arguments[0]); e.value = arguments[1]; e.dispatchEvent(new Event('change', {bubbles: true}))"
+FILL = (
+    "const e = document.getElementById(arguments[0]); e.value = arguments[1]; e.dispatchEvent(new Event('change',"
+    " {bubbles: true}))"
+)
 PIECES = {"K": "king", "Q": "queen", "R": "rook", "B": "bishop", "N": "knight", "P": "pawn"}
 
 
@@ -46,7 +49,10 @@ class User:
         self.d = webdriver.Chrome(options=options, service=Service("/usr/bin/chromedriver"))
         self.d.set_script_timeout(1200)
         if phone:
-            self.d.execute_cdp_cmd("Emulation.setDeviceMetricsOverride", {"width": 390, "height": 844, "deviceScaleFactor": 2, "mobile": True})
+            self.d.execute_cdp_cmd(
+                "Emulation.setDeviceMetricsOverride",
+                {"width": 390, "height": 844, "deviceScaleFactor": 2, "mobile": True},
+            )
             self.d.execute_cdp_cmd("Emulation.setTouchEmulationEnabled", {"enabled": True})
         self.phone = phone
         self.open()
@@ -96,8 +102,11 @@ class User:
 
     def promise(self, code, *args):
         """The value of an async expression; a rejection raises."""
-        script = ("const done = arguments[arguments.length - 1], a = arguments; "
-                  "(async () => { try { done([true, await (" + code + ")]); } catch (e) { done([false, String(e)]); } })()")
+        script = (
+            "const done = arguments[arguments.length - 1], a = arguments; (async () => { try { done([true, await ("
+            + code
+            + ")]); } catch (e) { done([false, String(e)]); } })()"
+        )
         done = self.d.execute_async_script(script, *args)
         if not done[0]:
             raise AssertionError(done[1])
@@ -129,10 +138,15 @@ class User:
         return self.js("return document.getElementById(arguments[0]).innerText", name).strip()
 
     def point(self, square):
-        board = "const b = document.querySelector('#board svg'); b.scrollIntoView({block: 'nearest'}); const r = b.getBoundingClientRect();"
+        board = (
+            "const b = document.querySelector('#board svg'); b.scrollIntoView({block: 'nearest'}); const r ="
+            " b.getBoundingClientRect();"
+        )
         left, top, width = self.js(board + "return [r.left, r.top, r.width]")
         unit = width / 377
-        return int(left + (14 + 45 * "abcdefgh".index(square[0]) + 22) * unit), int(top + (3 + 45 * (8 - int(square[1])) + 22) * unit)
+        return int(left + (14 + 45 * "abcdefgh".index(square[0]) + 22) * unit), int(
+            top + (3 + 45 * (8 - int(square[1])) + 22) * unit
+        )
 
     def drag(self, here, there):
         (x, y), (u, v) = self.point(here), self.point(there)
@@ -160,7 +174,9 @@ class User:
         ActionChains(self.d).key_down(Keys.CONTROL).send_keys(key).key_up(Keys.CONTROL).perform()
 
     def open_tables(self, folder, names):
-        self.by("tableFiles").send_keys("\n".join(os.path.join(os.path.abspath(folder), name + ".dtm") for name in names))
+        self.by("tableFiles").send_keys(
+            "\n".join(os.path.join(os.path.abspath(folder), name + ".dtm") for name in names)
+        )
         self.until("document.getElementById('sayBoard').textContent.includes('table')", 120)
         self.idle()
 
@@ -240,6 +256,7 @@ class User:
     def requests(self):
         """What the page asked of any network since the last time."""
         import json
+
         urls = []
         for entry in self.d.get_log("performance"):
             message = json.loads(entry["message"])["message"]
@@ -249,11 +266,14 @@ class User:
 
     def seen(self, name):
         """Whether an element stands whole in the window, without scrolling, and nothing lies over it."""
-        return self.js("""const e = document.getElementById(arguments[0]), r = e && e.getBoundingClientRect();
+        return self.js(
+            """const e = document.getElementById(arguments[0]), r = e && e.getBoundingClientRect();
             if (!r || !r.width || r.top < -1 || r.left < 0 || r.bottom > innerHeight + 1 || r.right > innerWidth)
                 return false;
             const over = document.elementFromPoint(r.left + r.width / 2, r.top + r.height / 2);
-            return e.contains(over) || (over && over.contains(e));""", name)
+            return e.contains(over) || (over && over.contains(e));""",
+            name,
+        )
 
     def end(self):
         self.d.quit()
