@@ -109,7 +109,7 @@ async function changeOnce(make, where) {
   try {
     const lacking = first.lines === doc().lines ? [] : await services.tables.lacking(fensOf(first.lines));
     if (lacking.length && (first.lenient || !doc().judged)) {
-      await work(() => unmarked(make), where);
+      await work(() => showUnmarked(make), where);
       return app.history !== before;
     }
     if (lacking.length) await tablesFor(first.lines, lacking, where);
@@ -117,7 +117,7 @@ async function changeOnce(make, where) {
     showFault(fault, where);
     return false;
   }
-  await work(() => changed(make, where), where);
+  await work(() => applyChange(make, where), where);
   return app.history !== before;
 }
 /**
@@ -135,7 +135,7 @@ async function tablesFor(lines, lacking, where) {
  * Lines whose tables lack stand there at once, unmarked; they are judged when the tables are there.
  * @param {(doc: Doc) => Change | null} make
  */
-async function unmarked(make) {
+async function showUnmarked(make) {
   const now = doc(), wanted = make(now);
   if (!wanted) return;
   readable(wanted.lines);
@@ -161,7 +161,7 @@ function docAfter(now, wanted, script, judged) {
  * @param {(doc: Doc) => Change | null} make
  * @param {string} where
  */
-async function changed(make, where) {
+async function applyChange(make, where) {
   const now = doc(), wanted = make(now);
   if (!wanted) return;
   if (wanted.lines === now.lines) return look(wanted.at, wanted.path === 'made' ? undefined : wanted.path);

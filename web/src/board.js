@@ -59,7 +59,7 @@ const markedSquares = marks =>
  * @param {string} fen
  * @param {Marks} marks
  */
-function standing(fen, marks) {
+function menView(fen, marks) {
   const men = menOf(fen);
   const dots = marks.targets.map(({to, sign, row}) => {
     const [x, y] = corner(to), r = men[to] ? 20 : row ? 11 : 7.5;
@@ -86,9 +86,9 @@ function newBoard() {
  * @param {string} fen
  * @param {Marks} marks
  */
-function drawing(fen, marks) {
+function draw(fen, marks) {
   const now = shown = shown && shown.flip === app.flip ? shown : newBoard(),
-        fresh = {marked: markedSquares(marks), standing: standing(fen, marks)};
+        fresh = {marked: markedSquares(marks), standing: menView(fen, marks)};
   now.board.setAttribute('aria-label', 'Board. ' + spokenPosition(fen));
   now.marked.replaceWith(fresh.marked);
   now.standing.replaceWith(fresh.standing);
@@ -122,7 +122,7 @@ export const shownFen = () => {
 export function showBoard() {
   const n = node(), before = $('board').firstChild, last = !app.setup && n && n.parent ? [n.from, n.to] : [];
   const board =
-    drawing(shownFen(), {last, chosen: app.chosen, cursor: app.setup ? app.setup.cursor : null, targets: targets()});
+    draw(shownFen(), {last, chosen: app.chosen, cursor: app.setup ? app.setup.cursor : null, targets: targets()});
   if (board === before) return;
   const focused = document.activeElement === before;
   $('board').replaceChildren(board);

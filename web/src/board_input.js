@@ -28,7 +28,7 @@ let hold = null;  // the man under the finger
  */
 export function takeUp(letter) { hold = {from: null, letter}; }
 /** @param {PointerEvent} e */
-function pressed(e) {
+function onPress(e) {
   const s = squareOf(e);
   if (s === null || e.button > 0) return;
   e.preventDefault();
@@ -67,7 +67,7 @@ function notMovable(letter, s) {
   services.show();
 }
 /** @param {PointerEvent} e */
-function dragged(e) {
+function onDrag(e) {
   if (!hold) return;
   if (!hold.use && hold.at && Math.hypot(e.clientX - hold.at[0], e.clientY - hold.at[1]) < 5) return;
   const b = box(), unit = WIDTH / b.width, board = $('board').firstChild;
@@ -83,7 +83,7 @@ function dragged(e) {
   use.setAttribute('y', (e.clientY - b.top) * unit - 24);
 }
 /** @param {PointerEvent} e */
-function released(e) {
+function onRelease(e) {
   if (!hold) return;
   const {from, letter, use} = hold, s = squareOf(e);
   hold = null;
@@ -95,9 +95,9 @@ function released(e) {
   services.show();
 }
 export function listen() {
-  $('board').addEventListener('pointerdown', pressed);
-  document.addEventListener('pointermove', dragged);
-  document.addEventListener('pointerup', released);
+  $('board').addEventListener('pointerdown', onPress);
+  document.addEventListener('pointermove', onDrag);
+  document.addEventListener('pointerup', onRelease);
   document.addEventListener('pointercancel', () => {
     hold = null;
     services.show();

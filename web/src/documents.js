@@ -72,7 +72,7 @@ function pointer() {
  * A document of an earlier version of this page, which had one place for all.
  * @param {string} old
  */
-function moved(old) {
+function adoptOld(old) {
   const kept = local.getItem(old);
   if (!kept) return;
   let found = {script: kept, at: 0, path: 'root', name: ''};
@@ -93,7 +93,7 @@ function moved(old) {
  * @returns {Promise<{kept: ReturnType<typeof keeper.open>, draft: import('./types.js').KeptDraft | null}>}
  */
 export async function firstDocument() {
-  moved(SESSION);
+  adoptOld(SESSION);
   const before = pointer(), [last] = before ? [before.id && headAt(before.id)] : list();
   if (last) services.tables.fetchAhead(last.tables);
   const others = before ? null : await otherPages();

@@ -14,13 +14,13 @@ import {nodeAt, written} from './parse_answers.js';
  * @param {number} gone
  * @param {string[]} more
  */
-const spliced = (lines, at, gone, ...more) => [...lines.slice(0, at), ...more, ...lines.slice(at + gone)];
+const splice = (lines, at, gone, ...more) => [...lines.slice(0, at), ...more, ...lines.slice(at + gone)];
 /**
  * @param {string[]} lines
  * @param {Study} study
  * @param {string[]} more
  */
-const appended = (lines, study, ...more) => spliced(lines, study.last + 1, 0, ...more);
+const append = (lines, study, ...more) => splice(lines, study.last + 1, 0, ...more);
 
 /** @param {string} san */
 const plain = san => san.replace(/[+#!?=x]/g, '');
@@ -69,7 +69,7 @@ export function insertLines(lines, study, root, path, lists) {
     }
     end = at;
   }
-  return {lines: more.length ? appended(lines, study, ...more) : lines, path: end};
+  return {lines: more.length ? append(lines, study, ...more) : lines, path: end};
 }
 /**
  * Moves one below the other.
@@ -91,7 +91,7 @@ export function removeNode(lines, study, node) {
   const newest = study.made && study.made.line === study.last && study.made.path === node.path &&
     wordsOf(lines[study.last])[0] === 'insert';
   return {
-    lines: newest ? spliced(lines, study.last, 1) : appended(lines, study, 'delete ' + node.path),
+    lines: newest ? splice(lines, study.last, 1) : append(lines, study, 'delete ' + node.path),
     path: node.parent ? node.parent.path : 'root'
   };
 }
@@ -107,7 +107,7 @@ export function promoteNode(lines, study, node, toFront = false) {
   const parts = node.path.split('.'), place = Number(parts.pop()), base = parts.map(p => p + '.').join('');
   const times = toFront ? place : 1;
   return {
-    lines: appended(lines, study, ...[...Array(times).keys()].map(i => `promote ${base}${place - i}`)),
+    lines: append(lines, study, ...[...Array(times).keys()].map(i => `promote ${base}${place - i}`)),
     path: 'made'
   };
 }
@@ -120,9 +120,9 @@ export function promoteNode(lines, study, node, toFront = false) {
  */
 function setLine(lines, study, place, line) {
   const at = study.place[place];
-  if (at !== undefined && at > study.from) return spliced(lines, at, 1, ...(line ? [line] : []));
+  if (at !== undefined && at > study.from) return splice(lines, at, 1, ...(line ? [line] : []));
   const aim = wordsOf(lines[study.from + 1] || '')[0] === 'stipulate' ? 1 : 0;
-  return line ? spliced(lines, study.from + 1 + (place === 'aim' ? 0 : aim), 0, line) : lines;
+  return line ? splice(lines, study.from + 1 + (place === 'aim' ? 0 : aim), 0, line) : lines;
 }
 /**
  * @param {string[]} lines
@@ -177,8 +177,8 @@ export const isDate = text => /^([\d?]{4})\.(0[1-9]|1[0-2]|\?\?)\.(0[1-9]|[12]\d
  */
 function withOriginal(lines, study, name, original) {
   const at = lines.slice(study.head, study.from).findIndex(line => line.startsWith(`# ${name} was: `));
-  const rest = at < 0 ? lines : spliced(lines, study.head + at, 1), remark = `# ${name} was: ${original}`;
-  return original ? spliced(rest, at < 0 ? study.from : study.head + at, 0, remark) : rest;
+  const rest = at < 0 ? lines : splice(lines, study.head + at, 1), remark = `# ${name} was: ${original}`;
+  return original ? splice(rest, at < 0 ? study.from : study.head + at, 0, remark) : rest;
 }
 /**
  * @param {string[]} lines
@@ -247,7 +247,7 @@ export function addStudy(lines, fen, aim, before) {
  * @returns {Change}
  */
 export const dropStudy = (lines, study, at) =>
-  ({lines: spliced(lines, study.from, study.end - study.from), at: Math.max(at - 1, 0), path: 'root'});
+  ({lines: splice(lines, study.from, study.end - study.from), at: Math.max(at - 1, 0), path: 'root'});
 
 /**
  * A study written again in its shortest form, in written order.
@@ -263,7 +263,7 @@ export function tidy(lines, study, root) {
   const aim = study.aim ? ['stipulate ' + aimWords(study.aim)] : [];
   const gap = study.end < lines.length && lines[study.end - 1] === '' ? [''] : [];
   return {
-    lines: spliced(
+    lines: splice(
       lines, study.from, study.end - study.from, 'position ' + root.fen, ...aim, ...tags, ...moves, ...notes, ...gap)
   };
 }

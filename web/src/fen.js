@@ -58,7 +58,7 @@ export function placement(men) {
  * @param {Men} men
  * @param {boolean} white
  */
-function listed(men, white) {
+function menList(men, white) {
   const order = (/** @type {string} */ c) => 'KQRBNP'.indexOf(c.toUpperCase());
   return Object.entries(men)
     .filter(([, c]) => isWhite(c) === white)
@@ -71,7 +71,7 @@ function listed(men, white) {
  */
 export function control(fen) {
   const men = menOf(fen);
-  return `${listed(men, true).join(' ')} / ${listed(men, false).join(' ')}`;
+  return `${menList(men, true).join(' ')} / ${menList(men, false).join(' ')}`;
 }
 /**
  * What a screen reader hears of a position.

@@ -74,7 +74,7 @@ export async function search({name, theme, filters, most}, spawn, tell) {
             request = ['find', name, theme, filters, now.at, now.at + piece].filter(word => word !== '').join(' ');
       const answer = await core.answer(request, '', PAGES);
       if (answer.ended !== 'done') throw new Error(reason(refusalIn(answer)));
-      taken(now, answer.text.split('\n').filter(Boolean));
+      addFound(now, answer.text.split('\n').filter(Boolean));
       if (now.at >= now.of || now.found.length >= most) now.ended = now.at >= now.of ? 'all' : 'enough';
       if (!tell(now)) now.ended = now.ended || 'stopped';
       piece = Math.round(piece * Math.max(0.25, Math.min(4, ALIKE / (performance.now() - began + 1))));
@@ -86,7 +86,7 @@ export async function search({name, theme, filters, most}, spawn, tell) {
  * @param {Search} now
  * @param {string[]} lines      the positions, and at the end how far it came
  */
-function taken(now, lines) {
+function addFound(now, lines) {
   const [, at, of] = /^to (\d+) of (\d+)$/.exec(lines.pop() || '') || [];
   if (!of) throw new Error('the answer has no end');
   now.found.push(...lines.map(readFound));

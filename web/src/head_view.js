@@ -38,7 +38,7 @@ export function headView(s) {
           class: 'chip act',
           id: 'clearOld',
           title: 'not known for this study',
-          onclick: () => cleared(old)
+          onclick: () => clearTags(old)
         },
           'Clear')),
     h('div', {class: 'row'},
@@ -62,7 +62,7 @@ export function headView(s) {
  * Tags that an earlier study left are not known for this one.
  * @param {string[]} names
  */
-const cleared = names => change(now => {
+const clearTags = names => change(now => {
   const s = now.studies[now.at];
   return s ? {lines: names.reduce((lines, name) => setTag(lines, s, name, '').lines, now.lines)} : null;
 }, 'head');
@@ -76,14 +76,14 @@ const tagView = (name, text) => [h('label', { for: 'tag' + name
   value: typedOr('tag' + name, isKnown(text) ? text : ''),
   autocomplete: 'off',
   placeholder: name === 'Date' ? '2026.11.24' : '',
-  onchange: (/** @type {any} */ e) => tagged(name, e.target.value.trim())
+  onchange: (/** @type {any} */ e) => changeTag(name, e.target.value.trim())
 })];
 /**
  * A text is kept in its own letters beside the plain ones that the script has; a note says how these are.
  * @param {string} name
  * @param {string} typed
  */
-async function tagged(name, typed) {
+async function changeTag(name, typed) {
   const before = app.history, plain = await plainText(typed), text = name === 'Date' ? wholeDate(plain) : plain;
   if (name === 'Date' && text && !isDate(text)) {
     say('head', `${typed}: a date is a year, or a year, a month and a day, as 1921 or 1921.05.12.`);

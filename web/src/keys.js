@@ -55,14 +55,14 @@ function start(e) {
   if (button && !button.disabled) button.click();
 }
 /** Escape closes what is open, or lets go of a man. */
-function escaped() {
+function onEscape() {
   if (closeChoice() || hideSurvey()) return;
   app.chosen = null;
   showBoard();
 }
 
 /** @param {KeyboardEvent} e */
-function pressed(e) {
+function onKey(e) {
   const target = /** @type {Element} */ (e.target), ctrl = e.ctrlKey || e.metaKey, n = node();
   if (e.key === 'Escape' && (close() || closeFinding() || closeEarlier())) return;
   // The field for moves is empty after its moves were taken: Ctrl-Z there means them.
@@ -73,7 +73,7 @@ function pressed(e) {
     return void (e.key.toLowerCase() === 'y' || e.shiftKey ? forth() : back());
   }
   if (setupKey(e)) return e.preventDefault();
-  if (e.key === 'Escape') return escaped();
+  if (e.key === 'Escape') return onEscape();
   if (ctrl || e.altKey || target.closest('.choose, .panel')) return;
   if (e.key === 'f') {
     e.preventDefault();
@@ -84,4 +84,4 @@ function pressed(e) {
   e.preventDefault();
   KEYS[e.key](n);
 }
-export const listenToKeys = () => document.addEventListener('keydown', pressed);
+export const listenToKeys = () => document.addEventListener('keydown', onKey);

@@ -11,7 +11,7 @@ import {verdictsBefore} from './script.js';
 
 let filter = '';
 /** @param {string} kind */
-function filtered(kind) {
+function toggleFilter(kind) {
   filter = filter === kind ? '' : kind;
   services.show();
 }
@@ -37,7 +37,7 @@ export function listView() {
     return entry.at < 0 ? text : button(text, 'show it', () => goStudy(entry.at), props);
   };
   const count = (/** @type {[string, number]} */[kind, n]) =>
-    button(`${n} ${KIND_WORDS[kind] || kind}`, 'show these alone', () => filtered(kind),
+    button(`${n} ${KIND_WORDS[kind] || kind}`, 'show these alone', () => toggleFilter(kind),
       {class: `chip act${filter === kind ? ' on' : ''}`, 'data-kind': kind, 'aria-pressed': `${filter === kind}`});
   return [
     h('h2', {id: 'studiesTitle'}, 'Entries and verdicts'),

@@ -31,7 +31,7 @@ const whole = new Promise(on => document.addEventListener('DOMContentLoaded', on
  * @param {string} id
  * @returns {Promise<Uint8Array>}
  */
-async function unpacked(id) {
+async function unpack(id) {
   const gunzip = new (/** @type {any} */ (window).DecompressionStream)('gzip');
   const bytes = new Blob([bytesOf($(id).textContent)]).stream().pipeThrough(gunzip);
   return new Uint8Array(await new Response(bytes).arrayBuffer());
@@ -41,7 +41,7 @@ const MEMORY64 = new Uint8Array([0, 97, 115, 109, 1, 0, 0, 0, 5, 3, 1, 4, 0]);
 let module = /** @type {Promise<WebAssembly.Module> | null} */ (null);
 async function compile() {
   await whole;
-  return WebAssembly.compile(await unpacked(WebAssembly.validate(MEMORY64) && $('module64') ? 'module64' : 'module32'));
+  return WebAssembly.compile(await unpack(WebAssembly.validate(MEMORY64) && $('module64') ? 'module64' : 'module32'));
 }
 const compiled = () => module = module || compile();
 const source = URL.createObjectURL(new Blob([$('workerSource').textContent], {type: 'text/javascript'}));

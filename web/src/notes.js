@@ -162,13 +162,13 @@ export function withNotes(game, remarks) {
                  .sort(([x], [y]) => y - x)
                  .reduce((done, [at, list]) => `${done.slice(0, at)} ${list.join(' ')}${done.slice(at)}`, movetext);
   const lines = tags.map(m => `[${/** @type {any} */ (m)[1]} "${/** @type {any} */ (m)[2]}"]\n`).join('');
-  return head + lines + '\n' + wrapped(text) + '\n\n';
+  return head + lines + '\n' + wrap(text) + '\n\n';
 }
 /**
  * Words in lines of at most 79 letters.
  * @param {string} text
  */
-function wrapped(text) {
+function wrap(text) {
   const lines = [''];
   for (const word of text.trim().split(/\s+/)) {
     const last = lines[lines.length - 1];

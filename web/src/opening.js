@@ -26,7 +26,7 @@ export function checkWhole() {
  * @param {Uint8Array} bytes
  * @param {string} aim      words of a stipulation for games that say none, or nothing
  */
-async function imported(bytes, aim) {
+async function importPgn(bytes, aim) {
   const answer = await services.core.ask(aim ? 'import ' + aim : 'import', bytes, 0),
         lines = /** @type {string[]} */ ([]);
   if (answer.ended !== 'done') throw new Error(endedReason(answer.ended));
@@ -65,7 +65,7 @@ const KINGS = '4k3/8/8/8/8/8/8/4K3 w - - 0 1';
 export async function plainText(typed) {
   if (/^[ -~]*$/.test(typed)) return typed;
   const pgn = `[FEN "${KINGS}"]\n[White "${typed.replace(/["\\]/g, '\\$&')}"]\n\n*\n`;
-  const lines = await imported(new TextEncoder().encode(pgn), 'white win');
+  const lines = await importPgn(new TextEncoder().encode(pgn), 'white win');
   return (lines.find(line => line.startsWith('tag White ')) || 'tag White ?').slice('tag White '.length);
 }
 /**
@@ -81,7 +81,7 @@ const checkedName = name => (name ? name.replace(/\.\w+$/, '').replace(/\.checke
 async function openPgn(bytes, where, name, aim = '') {
   let lines = /** @type {string[]} */ ([]);
   await work(async () => {
-    lines = await imported(bytes, aim);
+    lines = await importPgn(bytes, aim);
   }, where);
   if (!lines.length) return;
   source = {bytes, name, id: '', waiting: withoutAim(lines)};

@@ -99,7 +99,7 @@ export function readScript(lines, sent, replies) {
   const script = /** @type {Script} */ ({lines, studies: [], refused: []});
   const carried = /** @type {Carried} */ ({aim: null, tags: {}});
   sent.forEach((s, i) => {
-    if (!isSilent(s.text) && !isTableLine(s.text)) take(script, carried, s, replies[i] || 'error NoReply');
+    if (!isSilent(s.text) && !isTableLine(s.text)) applyReply(script, carried, s, replies[i] || 'error NoReply');
   });
   for (const study of script.studies) withRemarks(lines, study);
   script.studies.forEach((study, i) => {
@@ -137,19 +137,19 @@ export function assumeAccepted(lines) {
  * @param {Sent} sent
  * @param {string} reply
  */
-function take(script, carried, {text, line}, reply) {
+function applyReply(script, carried, {text, line}, reply) {
   const [command, name] = wordsOf(text), study = script.studies[script.studies.length - 1];
   if (reply.startsWith('error ')) {
     if (line >= 0) script.refused.push({line, text, reply});
   } else if (command === 'position') {
-    script.studies.push(begun(line, reply.slice(9), carried));
+    script.studies.push(newStudy(line, reply.slice(9), carried));
   } else if (study && command === 'pgn') {
     if (line >= 0 || !study.ended) study.games.push(reply);
     Object.assign(study, {pgn: reply, verdict: openingOf(reply).verdict, ended: true});
   } else if (isEdit(text)) {
     if (study) Object.assign(study, {ended: false, last: Math.max(line, study.last)});
     if (command === 'tag') carry(carried, study, name, text.trim().replace(/^tag +\w+ +/, ''), line);
-    else if (command === 'stipulate') stipulated(carried, study, reply, line);
+    else if (command === 'stipulate') setAim(carried, study, reply, line);
     else if (study && command === 'shift') study.fen = reply.slice(6);
     else if (study && (command === 'insert' || command === 'promote')) study.made = {line, path: wordsOf(reply)[1]};
   }
@@ -160,7 +160,7 @@ function take(script, carried, {text, line}, reply) {
  * @param {Carried} carried
  * @returns {Study}
  */
-function begun(line, fen, carried) {
+function newStudy(line, fen, carried) {
   const old = [
     ...(carried.aim ? ['stipulate ' + aimWords(carried.aim)] : []),
     ...Object.entries(carried.tags).map(([k, v]) => `tag ${k} ${v}`)
@@ -202,7 +202,7 @@ function carry(carried, study, name, text, line) {
  * @param {string} reply
  * @param {number} line
  */
-function stipulated(carried, study, reply, line) {
+function setAim(carried, study, reply, line) {
   const [, hero, , goal, , k] = reply.split(' ');
   carried.aim = /** @type {Aim} */ ({hero, goal, k: Number(k) || 0});
   if (!study) return;

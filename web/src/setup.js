@@ -108,9 +108,9 @@ export function changeDraft(changes) {
   if (changes.men && changes.tail === undefined) d.tail = noPassed(d.tail);
   if (changes.men && d.man !== null && !d.men[d.man]) d.man = null;
   if (placedOf(d) !== before) Object.assign(d, {past: [...d.past, before], future: []});
-  redrafted();
+  redrawDraft();
 }
-function redrafted() {
+function redrawDraft() {
   if (app.say && app.say.where === 'fen') clearMessage();
   services.keep();
   services.show();
@@ -128,7 +128,7 @@ export function stepDraft(back) {
         moved = back ? {past: d.past.slice(0, -1), future: [now, ...d.future]}
                      : {past: [...d.past, now], future: d.future.slice(1)};
   Object.assign(d, stateOf(back ? list[list.length - 1] : list[0]), moved, {man: null, judged: null, survey: null});
-  redrafted();
+  redrawDraft();
 }
 /**
  * One king a side: the old one is removed.

@@ -11,7 +11,7 @@ import {aimWords} from './words.js';
  * @param {Study} study
  * @param {string[]} names      the tags that some study has
  */
-function standing(lines, study, names) {
+function selfContained(lines, study, names) {
   const own = lines.slice(study.head, study.end), at = study.from - study.head + 1;
   while (own.length && !own[own.length - 1].trim()) own.pop();
   const aim = study.aim && study.place.aim === undefined ? ['stipulate ' + aimWords(study.aim)] : [];
@@ -26,7 +26,7 @@ function standing(lines, study, names) {
  */
 function inOrder(lines, studies, order) {
   const names = TAGS.filter(name => studies.some(s => isKnown(s.tags[name])));
-  const blocks = order.map(study => standing(lines, study, names));
+  const blocks = order.map(study => selfContained(lines, study, names));
   return [...lines.slice(0, studies[0].head), ...blocks.flatMap((block, i) => (i ? ['', ...block] : block))];
 }
 /**

@@ -49,13 +49,13 @@ export function makeTables({core, spawn, readers, store, tell}) {
     const fresh = [...new Set(fens)].filter(fen => !known.has(fen)), together = toText(fresh);
     if (fresh.length > MANY) {
       if (!known.has(together)) known.set(together, await request(fresh));
-      return merged([...fens, together]);
+      return union([...fens, together]);
     }
     await Promise.all(fresh.map(async fen => known.set(fen, await request([fen]))));
-    return merged(fens);
+    return union(fens);
   }
   /** @param {string[]} keys */
-  function merged(keys) {
+  function union(keys) {
     const all = new Set(keys.flatMap(key => known.get(key) || []));
     return CLASSES.filter(name => all.has(name));
   }
@@ -63,7 +63,7 @@ export function makeTables({core, spawn, readers, store, tell}) {
    * The classes that positions need, as far as they were requested before.
    * @param {string[]} fens
    */
-  const named = fens => merged([...fens, toText([...new Set(fens)])]);
+  const named = fens => union([...fens, toText([...new Set(fens)])]);
   const fetched = /** @type {Map<string, Promise<Uint8Array | null>>} */ (new Map());
   /**
    * Tables that will be wanted are read, and compared with the list, while the program starts.
@@ -78,7 +78,7 @@ export function makeTables({core, spawn, readers, store, tell}) {
    * What was fetched ahead is given once, since its bytes go to a core.
    * @param {string} name
    */
-  function taken(name) {
+  function fetchOnce(name) {
     const bytes = fetched.get(name);
     fetched.delete(name);
     return bytes || bytesOf(name);
@@ -112,7 +112,7 @@ export function makeTables({core, spawn, readers, store, tell}) {
     const now = loading.get(into) || new Map(), before = now.get(name);
     loading.set(into, now);
     const done = before ||
-      taken(name)
+      fetchOnce(name)
         .then(async bytes => {
           if (bytes && !into.has(name)) await into.load(name, bytes);
           return bytes !== null;

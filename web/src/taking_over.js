@@ -48,9 +48,9 @@ function anew(d, now, fen) {
   };
 }
 /** @param {'anew' | 'keep'} how */
-export const takeOver = how => counting(taken(how));
+export const takeOver = how => counting(takeOverOnce(how));
 /** @param {'anew' | 'keep'} how */
-async function taken(how) {
+async function takeOverOnce(how) {
   const d = /** @type {Draft} */ (app.setup), fen = draftFen(), before = doc();
   const failed = (/** @type {Error} */ fault) => {
     say('fen', `${fault.message}.`);

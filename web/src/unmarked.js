@@ -24,19 +24,19 @@ export function bareTree(lines) {
     const [command, path = '', san = ''] = wordsOf(line), places = path === 'root' ? [] : path.split('.').map(Number);
     const last = places[places.length - 1];
     if (command === 'position') root = {path: 'root', san: '', children: []};
-    if (command === 'insert') inserted(at(root, places), san);
+    if (command === 'insert') insertBelow(at(root, places), san);
     const parent = at(root, places.slice(0, -1));
     if (!parent || !places.length || !parent.children[last]) continue;
     if (command === 'delete') parent.children.splice(last, 1);
     if (command === 'promote' && last > 0) parent.children.splice(last - 1, 0, ...parent.children.splice(last, 1));
   }
-  return named(root, 'root');
+  return withPaths(root, 'root');
 }
 /**
  * @param {Bare | undefined} node
  * @param {string} san
  */
-function inserted(node, san) {
+function insertBelow(node, san) {
   if (node && san && !node.children.some(child => child.san === san)) node.children.push({path: '', san, children: []});
 }
 /**
@@ -51,7 +51,7 @@ const at = (root, places) =>
  * @param {string} path
  * @returns {Bare}
  */
-function named(node, path) {
+function withPaths(node, path) {
   const base = path === 'root' ? '' : path + '.';
-  return {...node, path, children: node.children.map((child, i) => named(child, base + i))};
+  return {...node, path, children: node.children.map((child, i) => withPaths(child, base + i))};
 }
