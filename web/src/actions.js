@@ -18,7 +18,7 @@ import {counted, endedReason, moveName, reason} from './words.js';
  * A script has taken the place of another: what was refused, and that the other is not lost.
  * @param {Doc} before
  */
-export function opened(before) {
+export function sayOpened(before) {
   const refused = doc().refused.length,
         place =
           before.studies.length ? 'The document before is kept: Undo brings it back, and Documents lists it.' : '';
@@ -88,13 +88,13 @@ export async function idle() {
  * @param {string} where
  * @returns {Promise<boolean>} whether it was done
  */
-export const change = (make, where = 'board') => counting(changeOnce(make, where));
+export const change = (make, where = 'board') => track(changeOnce(make, where));
 /**
  * What is under way, until it is done.
  * @template T
  * @param {Promise<T>} done
  */
-export function counting(done) {
+export function track(done) {
   changing.add(done);
   return done.finally(() => changing.delete(done));
 }
@@ -249,9 +249,9 @@ function judgeLater({lines, id}) {
     await arrive(app.history, app.say);
     if (!doc().refused.length) return;
     app.say = null;
-    opened(blank);
+    sayOpened(blank);
   };
-  counting(services.tables.ready(fensOf(lines)).then(() => work(() => built().catch(failed)), failed));
+  track(services.tables.ready(fensOf(lines)).then(() => work(() => built().catch(failed)), failed));
 }
 /** A document that was not judged, since its tables lacked, is tried again. */
 export function judgeAgain() {

@@ -179,18 +179,18 @@ export function setupKey(e) {
     d.cursor = d.cursor === null ? at : to;
     showBoard();
     const letter = menOf(draftFen())[d.cursor];
-    tell(`${squareName(d.cursor)} ${letter ? manName(letter) : 'empty'}`);
+    announce(`${squareName(d.cursor)} ${letter ? manName(letter) : 'empty'}`);
     return true;
   }
   if (/^[kqrbnpKQRBNP]$/.test(e.key) && d.cursor !== null) {
     placeAt(d.cursor, e.key);
-    tell(`${manName(e.key)} ${squareName(d.cursor)}`);
+    announce(`${manName(e.key)} ${squareName(d.cursor)}`);
     return true;
   }
   if (/^(Delete|Backspace| )$/.test(e.key) && d.cursor !== null) {
     if (e.key === 'Delete' || e.key === 'Backspace') {
       removeAt(d.cursor);
-      tell(`${squareName(d.cursor)} empty`);
+      announce(`${squareName(d.cursor)} empty`);
     } else placeAt(d.cursor);
     return true;
   }
@@ -200,4 +200,4 @@ export function setupKey(e) {
  * What a screen reader hears.
  * @param {string} text
  */
-export function tell(text) { $('spoken').textContent = text; }
+export function announce(text) { $('spoken').textContent = text; }

@@ -51,7 +51,7 @@ export async function otherPages() {
 export function keep() {
   const draft = draftKept(), own = ownDraft() === doc().id ? '' : ownDraft();
   let kept = true;
-  if (doc().id) kept = keeper.keep(app.history, own ? null : draft, services.tables.named(fensOf(doc().lines)));
+  if (doc().id) kept = keeper.keep(app.history, own ? null : draft, services.tables.knownClasses(fensOf(doc().lines)));
   if (own && draft) kept = keeper.keep(firstOf({...blank, id: own}), draft, []) && kept;
   else if (own && headAt(keeper.placeOf(own))) keeper.remove(keeper.placeOf(own));
   $('unkept').hidden = kept;

@@ -1,7 +1,7 @@
 // @ts-check
 // The panel 'Begin earlier': first the move of the opponent that led to the start, then the hero's before it.
 import {$, button, h, put} from './dom.js';
-import {change, counting} from './actions.js';
+import {change, track} from './actions.js';
 import {app, doc, services, say, study} from './state.js';
 import {movesBefore} from './earlier.js';
 import {withMoves} from './edits.js';
@@ -36,7 +36,7 @@ function look(fen) {
     fault = why.message;
   };
   const done = movesBefore(fen, s.aim ? aimWords(s.aim) : 'white win').then(found, failed);
-  return counting(done.finally(() => (doc().lines === mine ? draw() : close())));
+  return track(done.finally(() => (doc().lines === mine ? draw() : close())));
 }
 /** @param {Before} move */
 function choose(move) {

@@ -4,7 +4,7 @@
 import {aimWords} from './words.js';
 import {TAGS, isEdit, isGame, oneGame, wordsOf} from './script.js';
 import {squareName} from './fen.js';
-import {nodeAt, written} from './parse_answers.js';
+import {nodeAt, allNodes} from './parse_answers.js';
 /** @typedef {import('./types.js').Study} Study @typedef {import('./types.js').Change} Change */
 /** @typedef {import('./types.js').TreeNode} TreeNode */
 
@@ -259,7 +259,7 @@ export const dropStudy = (lines, study, at) =>
 export function tidy(lines, study, root) {
   const notes = oneGame(lines.slice(study.from + 1, study.end).filter(line => !isEdit(line) && line.trim()));
   const tags = TAGS.filter(name => study.place[name] !== undefined).map(name => `tag ${name} ${study.tags[name]}`);
-  const moves = written(root).filter(n => n.parent).map(n => `insert ${n.parent ? n.parent.path : 'root'} ${n.san}`);
+  const moves = allNodes(root).filter(n => n.parent).map(n => `insert ${n.parent ? n.parent.path : 'root'} ${n.san}`);
   const aim = study.aim ? ['stipulate ' + aimWords(study.aim)] : [];
   const gap = study.end < lines.length && lines[study.end - 1] === '' ? [''] : [];
   return {

@@ -28,7 +28,7 @@ export const other = side => (side === 'White' ? 'Black' : 'White');
  * The number before a move from this position, as `3.` or `3...`
  * @param {string} fen
  */
-export const numbered = fen => (fen.split(' ')[5] || '1') + (sideOf(fen) === 'White' ? '. ' : '... ');
+export const moveNumber = fen => (fen.split(' ')[5] || '1') + (sideOf(fen) === 'White' ? '. ' : '... ');
 /** @param {string} letter */
 export const manName = letter => `${isWhite(letter) ? 'white' : 'black'} ${NAMES[letter.toUpperCase()]}`;
 

@@ -62,9 +62,9 @@ const PIECE = 1 << 14, ALIKE = 300;
  * Searches until it is stopped, all is looked at, or enough was found. Each piece takes about as long as another.
  * @param {{name: string, theme: string, filters: string, most: number}} wanted
  * @param {() => import('./engine.js').Core} spawn
- * @param {(search: Search) => boolean} tell      whether to go on
+ * @param {(search: Search) => boolean} report      whether to go on
  */
-export async function search({name, theme, filters, most}, spawn, tell) {
+export async function search({name, theme, filters, most}, spawn, report) {
   const fens = placements(name), core = spawn(), now = /** @type {Search} */ ({at: 0, of: 0, found: [], ended: ''});
   try {
     await services.tables.ready(fens);
@@ -76,7 +76,7 @@ export async function search({name, theme, filters, most}, spawn, tell) {
       if (answer.ended !== 'done') throw new Error(reason(refusalIn(answer)));
       addFound(now, answer.text.split('\n').filter(Boolean));
       if (now.at >= now.of || now.found.length >= most) now.ended = now.at >= now.of ? 'all' : 'enough';
-      if (!tell(now)) now.ended = now.ended || 'stopped';
+      if (!report(now)) now.ended = now.ended || 'stopped';
       piece = Math.round(piece * Math.max(0.25, Math.min(4, ALIKE / (performance.now() - began + 1))));
     }
     return now;

@@ -1,7 +1,7 @@
 // @ts-check
 // The panel 'Find': a class, a theme and squares; what is found while it searches; a press opens one.
 import {$, button, h, put} from './dom.js';
-import {counting} from './actions.js';
+import {track} from './actions.js';
 import {app, services} from './state.js';
 import {CLASSES} from './core_host.js';
 import {control, sideOf} from './fen.js';
@@ -145,7 +145,7 @@ function find() {
     state.going = false;
     showFinding();
   };
-  return counting(search(wanted, state.spawn, found).catch(failed).finally(ended));
+  return track(search(wanted, state.spawn, found).catch(failed).finally(ended));
 }
 function stop() { state.going = false; }
 function soFar() {

@@ -107,16 +107,16 @@ async function changeTag(name, typed) {
 export function aimView(aim, done, id) {
   const option = (/** @type {string} */ value, /** @type {string} */ text, /** @type {boolean} */ selected) =>
     h('option', {value, selected}, text);
-  const tell = () => {
+  const choose = () => {
     if (goal.value) done(`${hero.value} ${goal.value}${goal.value === 'mate' ? ' ' + (k.value || guess()) : ''}`);
   };
-  const hero = h('select', {id: id + 'Hero', 'aria-label': 'Side', onchange: tell},
+  const hero = h('select', {id: id + 'Hero', 'aria-label': 'Side', onchange: choose},
     option('white', 'White', !aim || aim.hero === 'White'),
     option('black', 'Black', Boolean(aim && aim.hero === 'Black')));
   const goals = [['win', 'to win'], ['draw', 'to draw'], ['mate', 'to mate in']].map(
     ([value, text]) => option(value, text, Boolean(aim && aim.goal === value)));
   const goal =
-    h('select', {id: id + 'Goal', 'aria-label': 'Aim', onchange: tell}, !aim && option('', 'to …', true), goals);
+    h('select', {id: id + 'Goal', 'aria-label': 'Aim', onchange: choose}, !aim && option('', 'to …', true), goals);
   const k = h('input', {
     id: id + 'K',
     class: 'num',
@@ -126,7 +126,7 @@ export function aimView(aim, done, id) {
     value: aim && aim.k ? aim.k : '',
     'aria-label': 'Moves to mate',
     hidden: !aim || aim.goal !== 'mate',
-    onchange: tell
+    onchange: choose
   });
   return [hero, goal, k];
 }

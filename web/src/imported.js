@@ -16,7 +16,7 @@ export const looksLikePgn = text => /^[\s\ufeff]*\[\w+ "/.test(text) || /^\[FEN 
  * The text of a file: UTF-8 if all of it is, else Latin 1.
  * @param {Uint8Array} bytes
  */
-export function decoded(bytes) {
+export function decode(bytes) {
   try {
     return new TextDecoder('utf-8', {fatal: true}).decode(bytes);
   } catch { return new TextDecoder('latin1').decode(bytes); }

@@ -65,7 +65,7 @@ function changeTo(old, next) {
  * @param {Doc[]} list
  * @returns {Step[]}
  */
-export function packed(now, list) {
+export function toSteps(now, list) {
   const steps = /** @type {Step[]} */ ([]);
   let letters = 0, old = now.lines;
   for (const {id, lines, at, path} of list) {
@@ -82,7 +82,7 @@ export function packed(now, list) {
  * @param {any} steps
  * @returns {Doc[]}
  */
-export function unpacked(now, steps) {
+export function fromSteps(now, steps) {
   let lines = now.lines;
   return (Array.isArray(steps) ? steps : []).map(step => {
     const from = Number(step.from) || 0, more = Array.isArray(step.lines) ? step.lines.map(String) : [];
@@ -225,8 +225,8 @@ export function makeKeeper({local, page, now = Date.now}) {
       const same = before && before[0] === doc.lines && before[1] === history.past && before[2] === history.future;
       const body = same ? '' : JSON.stringify({
         script: doc.lines.join('\n'),
-        past: packed(doc, [...history.past].reverse()),
-        future: packed(doc, history.future)
+        past: toSteps(doc, [...history.past].reverse()),
+        future: toSteps(doc, history.future)
       });
       const changed = !same && local.getItem(BODY + place) !== body,
             drawn = JSON.stringify(draft) !== JSON.stringify(old && old.draft);
@@ -266,7 +266,7 @@ export function makeKeeper({local, page, now = Date.now}) {
       return {
         head,
         history:
-          {now: doc, past: unpacked(doc, body && body.past).reverse(), future: unpacked(doc, body && body.future)}
+          {now: doc, past: fromSteps(doc, body && body.past).reverse(), future: fromSteps(doc, body && body.future)}
       };
     },
     /** @param {string} id */

@@ -1,6 +1,6 @@
 // @ts-check
 // The facts of all studies of a script, found one after the other while the user rests, and kept by their lines.
-import {counting} from './actions.js';
+import {track} from './actions.js';
 import {app, doc, services, PAGES} from './state.js';
 import {readReview} from './parse_answers.js';
 import {editsTo, fensOf, toText} from './script.js';
@@ -18,7 +18,7 @@ let last = /** @type {{studies: any[] | null, known: number, reviews: (Review | 
  * The facts of each study, as far as they are known: the same list as long as nothing was added.
  * @param {Doc} d
  */
-export function listed(d) {
+export function knownReviews(d) {
   if (last.studies !== d.studies || last.known !== found.size)
     last = {studies: d.studies, known: found.size, reviews: textsOf(d).map(text => found.get(text) || null)};
   return last.reviews;
@@ -58,5 +58,5 @@ let timer = 0;
  */
 export function later(d) {
   clearTimeout(timer);
-  if (d.studies.length > 1 && d.judged) timer = setTimeout(() => counting(reviewAll(d, false)), 600);
+  if (d.studies.length > 1 && d.judged) timer = setTimeout(() => track(reviewAll(d, false)), 600);
 }

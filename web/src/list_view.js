@@ -4,7 +4,7 @@ import {button, download, h} from './dom.js';
 import {goStudy} from './actions.js';
 import {doc, services} from './state.js';
 import {KIND_WORDS, countsOf, csvOf, entriesOf} from './entries.js';
-import {listed, reviewAll} from './list_facts.js';
+import {knownReviews, reviewAll} from './list_facts.js';
 import {table} from './review_view.js';
 import {verdictsBefore} from './script.js';
 /** @typedef {import('./entries.js').Entry} Entry */
@@ -16,7 +16,7 @@ function toggleFilter(kind) {
   services.show();
 }
 /** All that the list is drawn from. */
-export const listFrom = () => [doc().studies, doc().refused, doc().at, listed(doc()), filter];
+export const listFrom = () => [doc().studies, doc().refused, doc().at, knownReviews(doc()), filter];
 /** @param {Entry} entry */
 function stampView(entry) {
   const s = doc().studies[entry.at], before = s ? verdictsBefore(s) : [];
@@ -27,7 +27,7 @@ function stampView(entry) {
 }
 /** The entries in a table, below the numbers of each kind. */
 export function listView() {
-  const entries = entriesOf(doc(), listed(doc())), counts = countsOf(entries);
+  const entries = entriesOf(doc(), knownReviews(doc())), counts = countsOf(entries);
   if (entries.length < 2) return null;
   if (!counts.some(([kind]) => kind === filter)) filter = '';
   const numbers = new Map(entries.map((entry, i) => [entry, i + 1])),
@@ -51,5 +51,5 @@ export function listView() {
 /** The facts of all studies are found first. */
 async function saveList() {
   await reviewAll(doc(), true);
-  download(`${doc().name || 'studies'}.csv`, csvOf(entriesOf(doc(), listed(doc()))));
+  download(`${doc().name || 'studies'}.csv`, csvOf(entriesOf(doc(), knownReviews(doc()))));
 }

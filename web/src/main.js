@@ -2,7 +2,7 @@
 // The beginning: workers, what was kept, the bar, files and keys.
 import {$, download} from './dom.js';
 import {makeApi} from './api.js';
-import {arrive, counting, goStudy, judgeAgain, work} from './actions.js';
+import {arrive, track, goStudy, judgeAgain, work} from './actions.js';
 import {PAGES, app, doc, services, say, study} from './state.js';
 import {showBoard} from './board.js';
 import {listen} from './board_input.js';
@@ -55,7 +55,7 @@ services.tables = makeTables({
   spawn,
   readers,
   store,
-  tell: p => {
+  report: p => {
     app.progress = p;
     showProgress();
   }
@@ -221,4 +221,4 @@ async function start() {
 }
 window.addEventListener('hashchange', openHash);
 /** @type {any} */ (window).studyboard = makeApi(spawn);
-counting(start());
+track(start());

@@ -18,9 +18,9 @@ const RESULT = /^(1-0|0-1|1\/2-1\/2|1\/2|\*)$/,
 /**
  * The moves of a game, one after the other: for each token the moves from the start that lead to it.
  * @param {string} movetext
- * @param {(kind: 'comment' | 'nag' | 'move', text: string, path: string[], end: number) => void} tell
+ * @param {(kind: 'comment' | 'nag' | 'move', text: string, path: string[], end: number) => void} visit
  */
-function walk(movetext, tell) {
+function walk(movetext, visit) {
   const outer = /** @type {[string[], string[]][]} */ ([]);
   let at = /** @type {string[]} */ ([]), before = at;
   for (const m of movetext.matchAll(TOKEN)) {
@@ -29,14 +29,14 @@ function walk(movetext, tell) {
       outer.push([at, before]);
       at = before;
     } else if (bracket === ')') [at, before] = outer.pop() || [at, before];
-    else if (nag || sign) tell('nag', nag || SIGNS[sign] || '', at, end);
-    else if (brace !== undefined || line !== undefined) tell('comment', oneLine(brace ?? line), at, end);
-    else if (symbol && SIGNS[symbol]) tell('nag', SIGNS[symbol], at, end);
+    else if (nag || sign) visit('nag', nag || SIGNS[sign] || '', at, end);
+    else if (brace !== undefined || line !== undefined) visit('comment', oneLine(brace ?? line), at, end);
+    else if (symbol && SIGNS[symbol]) visit('nag', SIGNS[symbol], at, end);
     else if (symbol && RESULT.test(symbol)) {
       if (!outer.length) return;
     } else if (symbol && /[a-hO0]/.test(plain(symbol))) {
       [before, at] = [at, [...at, plain(symbol)]];
-      tell('move', symbol, at, end);
+      visit('move', symbol, at, end);
     }
   }
 }

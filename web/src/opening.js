@@ -1,9 +1,9 @@
 // @ts-check
 // A file or a text becomes the document: a script as it stands, a PGN by way of the program.
 import {$, button, h} from './dom.js';
-import {change, counting, opened, work} from './actions.js';
+import {change, track, sayOpened, work} from './actions.js';
 import {app, doc, services, say} from './state.js';
-import {decoded, documentOf, importNote, leftOutBy, looksLikePgn, notKept, withoutAim} from './imported.js';
+import {decode, documentOf, importNote, leftOutBy, looksLikePgn, notKept, withoutAim} from './imported.js';
 import {freshId} from './keep.js';
 import {gamesIn, namesOf, remarksOf} from './notes.js';
 import {replace} from './history.js';
@@ -16,7 +16,7 @@ let source = /** @type {{bytes: Uint8Array, name: string, id: string, waiting: n
 export function checkWhole() {
   const d = doc();
   if (!source || source.id !== d.id || !d.note || !d.judged) return;
-  if (decoded(source.bytes).replace(/\r\n/g, '\n') !== gamesOf(d)) return;
+  if (decode(source.bytes).replace(/\r\n/g, '\n') !== gamesOf(d)) return;
   app.history = replace(app.history, {...d, note: '', name: source.name.replace(/\.\w+$/, '')});
   services.keep();
   services.show();
@@ -32,7 +32,7 @@ async function importPgn(bytes, aim) {
   if (answer.ended !== 'done') throw new Error(endedReason(answer.ended));
   for (let at = 0; at < answer.bytes.length;) {
     const end = answer.bytes.indexOf(10, at), next = end < 0 ? answer.bytes.length : end;
-    lines.push(decoded(answer.bytes.subarray(at, next)));
+    lines.push(decode(answer.bytes.subarray(at, next)));
     at = next + 1;
   }
   return lines;
@@ -89,7 +89,7 @@ async function openPgn(bytes, where, name, aim = '') {
     say(where, `No study was found in this PGN. ${importNote(lines)} Nothing was changed.`);
     return services.show();
   }
-  await take(withRemarks(documentOf(lines), decoded(bytes)), where, checkedName(name),
+  await take(withRemarks(documentOf(lines), decode(bytes)), where, checkedName(name),
     [importNote(lines), notKept(lines)].filter(Boolean).join(' '));
   source.id = doc().id;
   services.show();
@@ -102,13 +102,13 @@ async function openPgn(bytes, where, name, aim = '') {
  * @param {string} name      of its file
  */
 export const openText = (text, where = 'script', name = '') =>
-  counting(looksLikePgn(text) ? openPgn(new TextEncoder().encode(text), where, name) : openScript(text, where, name));
+  track(looksLikePgn(text) ? openPgn(new TextEncoder().encode(text), where, name) : openScript(text, where, name));
 /**
  * A file, in whatever letters it is written.
  * @param {File} file
  */
-export const openFile = file => counting(file.arrayBuffer().then(buffer => {
-  const bytes = new Uint8Array(buffer), text = decoded(bytes);
+export const openFile = file => track(file.arrayBuffer().then(buffer => {
+  const bytes = new Uint8Array(buffer), text = decode(bytes);
   return looksLikePgn(text) ? openPgn(bytes, 'board', file.name) : openScript(text, 'board', file.name);
 }));
 /**
@@ -148,7 +148,7 @@ async function take(lines, where, name, note) {
     lenient: true
   }),
     where);
-  if (where !== 'script' && doc() !== before) opened(before);
+  if (where !== 'script' && doc() !== before) sayOpened(before);
 }
 const AIMS = ['white win', 'white draw', 'black win', 'black draw'];
 /** What of a PGN was left out and is not kept; and where games only lack a stipulation, the four that they can have. */
@@ -159,10 +159,9 @@ export function importView() {
   const file = doc().name ? `${doc().name}.pgn` : 'a file of another name';
   const without = / Left out: /.test(note) ? ', without the games that were left out' : '';
   const [doNot, them] = waiting === 1 ? ['does not', 'it'] : ['do not', 'them'];
-  const aimButton = (/** @type {string} */ words) =>
-    button(aimText(readAim(words)), 'read the PGN again, with this stipulation where none is said',
-      () => again && counting(openPgn(again.bytes, 'board', again.name, words)),
-      {class: 'chip act', 'data-import': words});
+  const aimButton = (/** @type {string} */ words) => button(aimText(readAim(words)),
+    'read the PGN again, with this stipulation where none is said',
+    () => again && track(openPgn(again.bytes, 'board', again.name, words)), {class: 'chip act', 'data-import': words});
   return [
     note && (!again || mine) && h('p', {class: 'note', id: 'notKept'}, `${note} Save PGN writes ${file}${without}.`),
     again && waiting > 0 &&

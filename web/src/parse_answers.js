@@ -141,9 +141,9 @@ export function nodeAt(root, path) {
  * @param {TreeNode[]} list
  * @returns {TreeNode[]}
  */
-export function written(node, list = []) {
+export function allNodes(node, list = []) {
   list.push(node);
-  for (const child of node.children) written(child, list);
+  for (const child of node.children) allNodes(child, list);
   return list;
 }
 /** @param {TreeNode} node */

@@ -41,7 +41,8 @@ function studyAfter(now, {lines, at}) {
  * @param {Change} wanted
  */
 export async function prefetchView(now, wanted) {
-  const names = services.tables.named(fensOf(wanted.lines)), path = wanted.path === undefined ? now.path : wanted.path;
+  const names = services.tables.knownClasses(fensOf(wanted.lines)),
+        path = wanted.path === undefined ? now.path : wanted.path;
   const free = services.facts.waiting() <= viewing && names.every(services.facts.has);
   const core = free ? services.facts : services.core;
   const s = path !== 'made' && names.length && names.every(core.has) ? studyAfter(now, wanted) : undefined;

@@ -5,7 +5,7 @@ import {other, sideOf} from './fen.js';
 import {change} from './actions.js';
 import {app} from './state.js';
 import {insertLines} from './edits.js';
-import {depth, nodeAt, written} from './parse_answers.js';
+import {depth, nodeAt, allNodes} from './parse_answers.js';
 import {add, alsoView, nodeLink} from './verdict_view.js';
 import {counted, numberedLine, valueSign, valueText, winner, zugzwangText} from './words.js';
 /** @typedef {import('./types.js').Study} Study @typedef {import('./types.js').TreeNode} TreeNode */
@@ -115,7 +115,7 @@ function tryView(n, list) {
 }
 /** @param {TreeNode} root */
 function zugzwangView(root) {
-  const rows = written(root).filter(n => n.zugzwang);
+  const rows = allNodes(root).filter(n => n.zugzwang);
   return rows.length > 0 &&
     section('zugzwangs', 'Mutual zugzwangs', 'Whoever is to move there would rather not be.',
       table(

@@ -6,9 +6,9 @@
 /**
  * @param {number} most      how many at a time
  * @param {(name: string) => Promise<boolean>} make      false where a table that it needs is not there yet
- * @param {(running: string[], waiting: string[], made: number) => void} tell      both lists are empty once all is made
+ * @param {(running: string[], waiting: string[], made: number) => void} report      both are empty once all is made
  */
-export function makeBuilds(most, make, tell) {
+export function makeBuilds(most, make, report) {
   const running = /** @type {Set<string>} */ (new Set()), tried = /** @type {Map<string, number>} */ (new Map());
   let waiting = /** @type {string[]} */ ([]), wants = /** @type {Want[]} */ ([]), made = 0, failed = false;
   /** @param {string} name */
@@ -55,7 +55,7 @@ export function makeBuilds(most, make, tell) {
       for (const name of [...waiting])
         if (running.size < most && tried.get(name) !== made) start(name);
     if (!failed && !running.size && waiting.length) fail(new Error(`the table ${waiting[0]} could not be built`));
-    tell([...running], [...waiting], made);
+    report([...running], [...waiting], made);
     if (!running.size) begin();
   }
   return {

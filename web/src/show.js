@@ -5,7 +5,7 @@ import {spokenMove} from './fen.js';
 import {prefetch} from './prefetch.js';
 import {app, doc, node, study} from './state.js';
 import {showBoard} from './board.js';
-import {tell} from './board_input.js';
+import {announce} from './board_input.js';
 import {listView, showDocuments} from './documents_view.js';
 import {reviewView} from './review_view.js';
 import {headView} from './head_view.js';
@@ -16,7 +16,7 @@ import {toText} from './script.js';
 import {redrawJudged, setupView} from './setup_view.js';
 import {checkWhole, importView, openText} from './opening.js';
 import {listFrom, listView as entriesView} from './list_view.js';
-import {later, listed} from './list_facts.js';
+import {later, knownReviews} from './list_facts.js';
 import {numbersOf, stampOf, studyName} from './entries.js';
 import {textsView} from './texts_view.js';
 import {faultsView, verdictView} from './verdict_view.js';
@@ -170,7 +170,7 @@ let spoken = '';
 /** A screen reader announces the move that was gone to. */
 function speak() {
   const n = node(), key = n && !app.setup ? n.path + n.fen : '';
-  if (n && n.parent && key !== spoken) tell(spokenMove(n.parent.fen, n));
+  if (n && n.parent && key !== spoken) announce(spokenMove(n.parent.fen, n));
   spoken = key;
 }
 function showBar() {
@@ -180,7 +180,7 @@ function showBar() {
   $('studies').hidden = $('walk').hidden = !many;
   $('before').disabled = !d.at;
   $('after').disabled = d.at + 1 >= d.studies.length;
-  const reviews = listed(d);
+  const reviews = knownReviews(d);
   if (many)
     part('studies', [d.studies, d.refused, reviews], () => {
       const numbers = numbersOf(d);

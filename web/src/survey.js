@@ -1,7 +1,7 @@
 // @ts-check
 // Where else a man could stand: the squares on which the stipulation holds. What more is known of them comes one square
 // after the other, so that nothing waits for it.
-import {counting, work} from './actions.js';
+import {track, work} from './actions.js';
 import {PAGES, app, services, say} from './state.js';
 import {fenWith, rowAt, treeAt} from './elsewhere.js';
 import {sideOf, squareName} from './fen.js';
@@ -26,7 +26,7 @@ export const survey = man => work(async () => {
   if (!stands.length) say('fen', `No survey: ${reason(refusalIn(answer))}.`);
   else d.survey = stands.filter(s => s.kind === 'holds' || s.kind === 'only').map(spotOf);
   services.showJudged();
-  if (stands.length) counting(rows(d, man)).catch(() => {});
+  if (stands.length) track(rows(d, man)).catch(() => {});
 }, 'fen');
 /**
  * @param {Stand} stand
@@ -103,7 +103,7 @@ export const treesRequested = spots => requested.has(spots);
  */
 export const hasTree = d => !d.anew && app.view !== null && app.view.root.children.length > 0;
 /** What the tree of the study would be on each square of the survey, the dots first. */
-export const lookAtTrees = () => counting(trees()).catch(fault => {
+export const lookAtTrees = () => track(trees()).catch(fault => {
   say('fen', `Not looked at: ${fault.message}.`);
   services.showJudged();
 });

@@ -26,9 +26,9 @@ const sizeOf = name => (DIGESTS[name] ? DIGESTS[name][0] : 5000000);
 
 /**
  * @param {{core: Core, spawn: () => Core, readers: ReturnType<typeof import('./file_readers.js').makeReaders>,
- *   store: ReturnType<typeof import('./store.js').makeStore>, tell: (p: Progress | null) => void}} parts
+ *   store: ReturnType<typeof import('./store.js').makeStore>, report: (p: Progress | null) => void}} parts
  */
-export function makeTables({core, spawn, readers, store, tell}) {
+export function makeTables({core, spawn, readers, store, report}) {
   const known = /** @type {Map<string, string[]>} */ (new Map());
   const right =
     /** @type {Map<string, Blob>} */ (new Map());  // compared with the list in this visit: a blob never changes
@@ -63,7 +63,7 @@ export function makeTables({core, spawn, readers, store, tell}) {
    * The classes that positions need, as far as they were requested before.
    * @param {string[]} fens
    */
-  const named = fens => union([...fens, toText([...new Set(fens)])]);
+  const knownClasses = fens => union([...fens, toText([...new Set(fens)])]);
   const fetched = /** @type {Map<string, Promise<Uint8Array | null>>} */ (new Map());
   /**
    * Tables that will be wanted are read, and compared with the list, while the program starts.
@@ -186,7 +186,7 @@ export function makeTables({core, spawn, readers, store, tell}) {
     if (!running.length) {
       clearInterval(ticking);
       [first, least, ticking] = [0, Infinity, 0];
-      return tell(null);
+      return report(null);
     }
     first = first || now;
     if (all > before) least = Infinity;
@@ -194,7 +194,7 @@ export function makeTables({core, spawn, readers, store, tell}) {
     const left =
       running.map(name => Math.max(weight(name) / 20, weight(name) - (now - (began.get(name) || now)) / 1000));
     least = Math.min(least, secondsLeft(left, waiting.map(weight), most));
-    tell({text: progressText(running, made, all, (now - first) / 1000, least), done: made, of: all});
+    report({text: progressText(running, made, all, (now - first) / 1000, least), done: made, of: all});
   }
   /**
    * Builds one table; false where one that it needs is not there yet.
@@ -271,7 +271,7 @@ export function makeTables({core, spawn, readers, store, tell}) {
   }
   return {
     classesOf,
-    named,
+    knownClasses,
     fetchAhead,
     load,
     lacking,

@@ -2,7 +2,7 @@
 // A set-up becomes lines: a new study, another position for this one with an empty tree, or with as much of its tree as
 // is legal.
 import {$} from './dom.js';
-import {change, counting, evaluate, opened} from './actions.js';
+import {change, track, evaluate, sayOpened} from './actions.js';
 import {app, doc, services, say} from './state.js';
 import {addStudy, replacePosition, withMoves} from './edits.js';
 import {fensOf} from './script.js';
@@ -48,7 +48,7 @@ function anew(d, now, fen) {
   };
 }
 /** @param {'anew' | 'keep'} how */
-export const takeOver = how => counting(takeOverOnce(how));
+export const takeOver = how => track(takeOverOnce(how));
 /** @param {'anew' | 'keep'} how */
 async function takeOverOnce(how) {
   const d = /** @type {Draft} */ (app.setup), fen = draftFen(), before = doc();
@@ -68,5 +68,5 @@ async function takeOverOnce(how) {
   $('board').firstChild.focus({preventScroll: true});
   if (kept.fallen.length) say('board', `${counted(kept.lines.length, 'move')} kept. ${fallenText(kept.fallen)}`, true);
   services.show();
-  if (d.anew && !d.more) opened(before);
+  if (d.anew && !d.more) sayOpened(before);
 }

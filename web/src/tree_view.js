@@ -1,10 +1,10 @@
 // @ts-check
 // The solution, as it is printed: first children in a line, variations below the move that they replace.
 import {$, h, patch} from './dom.js';
-import {numbered, sideOf} from './fen.js';
+import {moveNumber, sideOf} from './fen.js';
 import {go} from './actions.js';
 import {app, doc} from './state.js';
-import {written} from './parse_answers.js';
+import {allNodes} from './parse_answers.js';
 import {editsTo} from './script.js';
 import {bareTree} from './unmarked.js';
 import {counted, markMeaning, markSign, moveName, valueSign, valueText, zugzwangText} from './words.js';
@@ -17,7 +17,7 @@ import {counted, markMeaning, markSign, moveName, valueSign, valueText, zugzwang
  */
 function moveView(s, n, first) {
   const before = n.parent ? n.parent.fen : n.fen,
-        num = first || sideOf(before) === 'White' ? numbered(before).replace(' ', '\u00a0') : '';
+        num = first || sideOf(before) === 'White' ? moveNumber(before).replace(' ', '\u00a0') : '';
   const sign = markSign(n);
   const title =
     [valueText(sideOf(n.fen), n.value), markMeaning(n, s.aim ? s.aim.hero : undefined)].filter(Boolean).join('; ');
@@ -112,7 +112,7 @@ function bareView(s) {
  * @param {Study | undefined} s
  */
 export function showTree(s) {
-  const view = app.view, nodes = s && view ? written(view.root).length - 1 : 0;
+  const view = app.view, nodes = s && view ? allNodes(view.root).length - 1 : 0;
   if (!s || !view) return patch($('tree'), s ? bareView(s) : []);
   const title = () => h('h2', {id: 'solution'}, 'Solution ', nodes > 0 && h('small', {}, counted(nodes, 'move')));
   const none = () => h('p', {class: 'note'}, 'Play a move on the board, choose one below it, or type it.');

@@ -1,13 +1,13 @@
 // @ts-check
 // The verdict of a study and its faults, each with its remedies.
 import {h} from './dom.js';
-import {numbered, other, sideOf} from './fen.js';
+import {moveNumber, other, sideOf} from './fen.js';
 import {change, go, judgeAgain} from './actions.js';
 import {app, doc} from './state.js';
 import {insert} from './board_input.js';
 import {stipulate} from './edits.js';
 import {stampOf} from './entries.js';
-import {nodeAt, written} from './parse_answers.js';
+import {nodeAt, allNodes} from './parse_answers.js';
 import {promote, remove} from './node_view.js';
 import {verdictsBefore} from './script.js';
 import {
@@ -80,7 +80,7 @@ const shared = new WeakMap();
 function sharedNames(root) {
   const known = shared.get(root), first = new Set();
   if (known) return known;
-  const twice = new Set(written(root).map(moveName).filter(name => first.has(name) || !first.add(name)));
+  const twice = new Set(allNodes(root).map(moveName).filter(name => first.has(name) || !first.add(name)));
   shared.set(root, twice);
   return twice;
 }
@@ -176,7 +176,7 @@ function mistakeView(s, n) {
  * @param {string} text
  */
 function cut(n, text) {
-  const below = written(n).length - 1, row = n.parent ? n.parent.children : [];
+  const below = allNodes(n).length - 1, row = n.parent ? n.parent.children : [];
   const next = row[0] === n && row[1] ? `${moveName(row[1])} comes to its place` : '';
   const gone = below ? `delete ${counted(below + 1, 'move')}: ${lineFrom(n)}` : `delete ${moveName(n)}`;
   const words = [below && counted(below + 1, 'move'), next].filter(Boolean).join('; ');
@@ -210,7 +210,7 @@ function timeView(s, root) {
   if (!idle || !s.aim || !app.review) return null;
   const also = app.review.also, rest = duals.flatMap(f => also.filter(a => a.path === f.path && a.time < 0).map(a => {
     const n = nodeAt(root, f.path);
-    return (n && n.parent ? numbered(n.parent.fen) : '') + a.san;
+    return (n && n.parent ? moveNumber(n.parent.fen) : '') + a.san;
   }));
   return h('p', {},
     h('b', {}, all === 1 ? 'This one loses time' : `${idle} of these ${all} ${idle === 1 ? 'loses' : 'lose'} time`),

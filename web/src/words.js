@@ -1,6 +1,6 @@
 // @ts-check
 // Values, verdicts and refusals in the words of the printed page.
-import {numbered, other, sideOf} from './fen.js';
+import {moveNumber, other, sideOf} from './fen.js';
 /** @typedef {import('./types.js').Value} Value @typedef {import('./types.js').Side} Side */
 /** @typedef {import('./types.js').Aim} Aim */
 /** @typedef {import('./types.js').TreeNode} TreeNode */
@@ -63,7 +63,7 @@ export const moveName = node => (node.parent ? numberedName(node.parent.fen, nod
  * @param {string} before
  * @param {string} san
  */
-export const numberedName = (before, san) => numbered(before) + san;
+export const numberedName = (before, san) => moveNumber(before) + san;
 /**
  * A line of moves with its numbers.
  * @param {string} fen

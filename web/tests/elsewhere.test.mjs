@@ -1,4 +1,4 @@
-// What is known of a man's other squares: asked of a made-up program, and put in order.
+// What is known of a man's other squares: answered by a made-up program, and put in order.
 import test from 'node:test';
 import assert from 'node:assert/strict';
 import {byRow, byTree, fenWith, rowAt, thereText, treeAt} from '../src/elsewhere.js';
@@ -24,18 +24,18 @@ test('the longest rows come first, and squares without one are left out', () => 
 
 /** Refuses the lines that put in one of these moves; the tree has so many faults. */
 const made = (refused, faults, waste = '') => ({
-  asked: [],
+  requests: [],
   async answer(request, script) {
-    this.asked.push(request);
+    this.requests.push(request);
     const lines = script.trim().split('\n'), at = lines.findIndex(line => refused.includes(line.split(' ')[2]));
     const nodes = lines.slice(2).map(line => line.split(' ')).filter(([command]) => command === 'insert');
-    const told = nodes.map(
+    const rows = nodes.map(
       ([, path, san], i) => `node ${path === 'root' ? i : path + '.0'} ${san} - draw reply faults 0 ${FEN}\n`);
     if (request === 'review') return {text: `study 1 ${FEN}\n${waste}`, ended: 'done'};
     return {
       ended: 'done',
       text: `study ${FEN}\nstipulation White to win: ${faults ? `unsound ${faults}` : 'sound'}, White mates in 9\n` +
-        `node root - - win 17 - faults ${faults} ${FEN}\n${told.join('')}at root 0\n${
+        `node root - - win 17 - faults ${faults} ${FEN}\n${rows.join('')}at root 0\n${
           at < 0 ? '' : `refused ${at + 1} NoSuchMove\n`}`
     };
   }
@@ -48,7 +48,7 @@ test('a tree on another square: what is legal of it, its faults and its stamp', 
   assert.deepEqual(await treeAt(made([], 2), FEN, 'white win', tree), {kept: 5, of: 5, faults: 2, stamp: 'unsound 2'});
   const core = made([], 2, 'waste sound but for loss of time\n');
   assert.equal((await treeAt(core, FEN, 'white win', tree)).stamp, 'sound but for loss of time');
-  assert.deepEqual(core.asked, ['view root', 'review']);
+  assert.deepEqual(core.requests, ['view root', 'review']);
   assert.deepEqual(
     await treeAt(made(['Kg3', 'b4'], 0), FEN, 'white win', tree), {kept: 0, of: 5, faults: 0, stamp: 'holds'});
   assert.equal(tree.children.length, 2);
@@ -58,7 +58,7 @@ test('a tree on another square: what is legal of it, its faults and its stamp', 
 test('a tree that loses many moves is given up', async () => {
   const sans = [...Array(30).keys()].map(i => `m${i}`), core = made(sans, 0);
   assert.equal((await treeAt(core, FEN, 'white win', leaf('', ...sans.map(san => leaf(san))))).kept, 0);
-  assert.equal(core.asked.length, 13);
+  assert.equal(core.requests.length, 13);
 });
 test('squares by what they leave of the tree', () => {
   const there = (kept, faults) => ({kept, of: 9, faults, stamp: faults ? `unsound ${faults}` : 'sound'});

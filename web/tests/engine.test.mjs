@@ -34,7 +34,7 @@ function begun() {
   }, async () => ({}));
   return {workers, core};
 }
-test('answers come to those who asked', async () => {
+test('answers come to those who wait for them', async () => {
   const {core, workers} = begun();
   const texts = await Promise.all(['a', 'b', 'c'].map(text => core.answer(text, '', 1)));
   assert.deepEqual(texts.map(t => t.text), ['a', 'b', 'c']);
@@ -52,15 +52,15 @@ test('a trap ends the worker, with the tables in it; the next question begins an
   assert.equal((await core.answer('again', '', 1)).text, 'again');
   assert.equal(workers.length, 2);
 });
-test('a stop is told as a stop', async () => {
+test('a stop is reported as a stop', async () => {
   const {core} = begun();
   await core.answer('a', '', 1);
-  const waiting = core.answer('sleep', '', 1), told = assert.rejects(waiting, fault => fault instanceof Stopped);
+  const waiting = core.answer('sleep', '', 1), stopped = assert.rejects(waiting, fault => fault instanceof Stopped);
   await new Promise(on => setTimeout(on, 5));
   core.end();
-  await told;
+  await stopped;
 });
-test('a module that is not compiled is told', async () => {
+test('a module that is not compiled is reported', async () => {
   const core = makeCore(() => new Made(), async () => {
     throw new Error('no module');
   });

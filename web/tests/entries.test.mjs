@@ -88,11 +88,11 @@ test('a diagram is turned, and its moves with it', async () => {
   };
   const turned = turnedTree(tree, ['mirror', 'up']);
   assert.deepEqual(insertions(turned).map(({line}) => line), ['insert root Kh3', 'insert 0 Ka4', 'insert root Kg2']);
-  const asked = [];
+  const lengths = [];
   const kept = await legalPart(turned, async lines => {
-    asked.push(lines.length);
+    lengths.push(lines.length);
     return lines.indexOf('insert root Kh3');
   });
   assert.deepEqual(kept, {lines: ['insert root Kg2'], fallen: [{san: 'Kh3', below: 1}]});
-  assert.deepEqual(asked, [3, 1]);
+  assert.deepEqual(lengths, [3, 1]);
 });

@@ -3,9 +3,9 @@ import assert from 'node:assert/strict';
 import {test} from 'node:test';
 import {makeReaders} from '../src/file_readers.js';
 
-/** Workers that answer when they are told to, a file named `bad` by a fault and one named `dead` by none at all. */
+/** Workers that answer on demand, a file named `bad` by a fault and one named `dead` by none at all. */
 function fakes() {
-  const asked = [];
+  const requests = [];
   let spawned = 0, ended = 0;
   const spawn = () => {
     spawned++;
@@ -13,7 +13,7 @@ function fakes() {
       terminate() { ended++; },
       postMessage({kind, blob}) {
         assert.equal(kind, 'read');
-        asked.push(() => {
+        requests.push(() => {
           if (blob === 'dead') worker.onerror({message: 'gone'});
           else
             worker.onmessage(
@@ -23,35 +23,35 @@ function fakes() {
     };
     return worker;
   };
-  return {spawn, asked, counts: () => [spawned, ended]};
+  return {spawn, requests, counts: () => [spawned, ended]};
 }
 
 test('three files are read at a time, by workers that are used again', async () => {
-  const {spawn, asked, counts} = fakes(), readers = makeReaders(spawn);
+  const {spawn, requests, counts} = fakes(), readers = makeReaders(spawn);
   const answers = ['a', 'b', 'c', 'd', 'e'].map(blob => readers.read(blob));
-  assert.equal(asked.length, 3);
-  asked[1]();
-  assert.equal(asked.length, 4);
-  asked[0]();
-  asked[3]();
-  asked[2]();
-  asked[4]();
+  assert.equal(requests.length, 3);
+  requests[1]();
+  assert.equal(requests.length, 4);
+  requests[0]();
+  requests[3]();
+  requests[2]();
+  requests[4]();
   assert.deepEqual((await Promise.all(answers)).map(file => file.digest), ['of a', 'of b', 'of c', 'of d', 'of e']);
   assert.deepEqual(counts(), [3, 0]);
 });
 
-test('a file that cannot be read, and a worker that ends, are told and hold nothing up', async () => {
-  const {spawn, asked, counts} = fakes(), readers = makeReaders(spawn);
+test('a file that cannot be read, and a worker that ends, are reported and block nothing', async () => {
+  const {spawn, requests, counts} = fakes(), readers = makeReaders(spawn);
   const answers = ['bad', 'dead', 'a', 'b', 'c'].map(blob => readers.read(blob));
-  const told = Promise.allSettled(answers);
-  for (let i = 0; i < 5; i++) asked[i]();
-  assert.deepEqual((await told).map(a => a.status === 'fulfilled' ? a.value.digest : a.reason.message),
+  const settled = Promise.allSettled(answers);
+  for (let i = 0; i < 5; i++) requests[i]();
+  assert.deepEqual((await settled).map(a => a.status === 'fulfilled' ? a.value.digest : a.reason.message),
     ['NotReadableError: bad', 'gone', 'of a', 'of b', 'of c']);
   assert.equal(counts()[1], 1);
 });
 
 test('workers are started ahead, once, and one that does not start is not used', async () => {
-  const {spawn, asked, counts} = fakes(), made = [], readers = makeReaders(() => {
+  const {spawn, requests, counts} = fakes(), made = [], readers = makeReaders(() => {
     made.push(spawn());
     return made[made.length - 1];
   });
@@ -61,6 +61,6 @@ test('workers are started ahead, once, and one that does not start is not used',
   made[2].onerror({message: 'gone'});
   const answers = ['a', 'b', 'c'].map(blob => readers.read(blob));
   assert.deepEqual(counts(), [4, 1]);
-  for (let i = 0; i < 3; i++) asked[i]();
+  for (let i = 0; i < 3; i++) requests[i]();
   assert.deepEqual((await Promise.all(answers)).map(file => file.digest), ['of a', 'of b', 'of c']);
 });

@@ -2,7 +2,7 @@
 import test from 'node:test';
 import assert from 'node:assert/strict';
 import {
-  decoded,
+  decode,
   documentOf,
   importNote,
   leftOut,
@@ -30,8 +30,8 @@ test('a PGN is told from a script', () => {
   for (const text of ['', 'position x', '# [FEN "x"]', '{"FEN": 1}', '[1, 2]']) assert.ok(!looksLikePgn(text), text);
 });
 test('a file is UTF-8, else Latin 1', () => {
-  assert.equal(decoded(new TextEncoder().encode('Réti')), 'Réti');
-  assert.equal(decoded(Uint8Array.from([82, 0xe9, 116, 105])), 'Réti');
+  assert.equal(decode(new TextEncoder().encode('Réti')), 'Réti');
+  assert.equal(decode(Uint8Array.from([82, 0xe9, 116, 105])), 'Réti');
 });
 test('games that were left out, and why', () => {
   assert.deepEqual(

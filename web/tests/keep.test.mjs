@@ -2,7 +2,7 @@
 // into one.
 import test from 'node:test';
 import assert from 'node:assert/strict';
-import {difference, makeKeeper, packed, summary, unpacked} from '../src/keep.js';
+import {difference, makeKeeper, toSteps, summary, fromSteps} from '../src/keep.js';
 import {advance, begin, undo} from '../src/history.js';
 
 /** Storage for so many letters. */
@@ -27,7 +27,7 @@ const history = (id, ...states) =>
   states.slice(1).reduce((h, lines) => advance(h, doc(id, ...lines)), begin(doc(id, ...states[0])));
 const texts = list => list.map(d => d.lines.join(' '));
 
-test('a change of lines is told by what replaces what', () => {
+test('a change of lines is what replaces what', () => {
   for (const [old, next] of [['', 'a'], ['a b c', 'a c'], ['a b c', 'a b b c'], ['a', ''], ['a b', 'c d e'],
          ['a b c', 'a b c'], ['a a a', 'a a']]) {
     const [from, to] = [old, next].map(t => t.split(' ').filter(Boolean)),
@@ -37,10 +37,10 @@ test('a change of lines is told by what replaces what', () => {
 });
 test('states are kept as changes and come back, those of other documents left out', () => {
   const states = [['p'], ['p', 'q'], ['p', 'x', 'q'], ['p', 'q'], []], now = doc('A', 'p', 'q', 'r');
-  const steps = packed(now, [...states.map(s => doc('A', ...s)), doc('B', 'z')]);
-  assert.deepEqual(unpacked(now, JSON.parse(JSON.stringify(steps))).map(d => d.lines), states);
-  assert.ok(unpacked(now, steps).every(d => !d.judged && d.id === 'A'));
-  assert.deepEqual([unpacked(now, 'nonsense'), unpacked(now, [{}])[0].lines], [[], ['p', 'q', 'r']]);
+  const steps = toSteps(now, [...states.map(s => doc('A', ...s)), doc('B', 'z')]);
+  assert.deepEqual(fromSteps(now, JSON.parse(JSON.stringify(steps))).map(d => d.lines), states);
+  assert.ok(fromSteps(now, steps).every(d => !d.judged && d.id === 'A'));
+  assert.deepEqual([fromSteps(now, 'nonsense'), fromSteps(now, [{}])[0].lines], [[], ['p', 'q', 'r']]);
 });
 test('a document is kept with its undo and its redo', () => {
   const local = made(), h = undo(history('A', ['p'], ['p', 'q'], ['p', 'q', 'r']));

@@ -3,7 +3,7 @@ import test from 'node:test';
 import assert from 'node:assert/strict';
 import {readFileSync, readdirSync} from 'node:fs';
 import {menOf, sideOf, squareName, isWhite} from '../src/fen.js';
-import {nodeAt, readReview, readSurvey, readView, refusalIn, written} from '../src/parse_answers.js';
+import {nodeAt, readReview, readSurvey, readView, refusalIn, allNodes} from '../src/parse_answers.js';
 import {aimText, valueSign, valueText, verdictSentence} from '../src/words.js';
 
 const folder = new URL('./data/', import.meta.url), text = name => readFileSync(new URL(name, folder), 'utf8');
@@ -18,9 +18,9 @@ const views =
 const valueWords = v => (v.kind === 'draw' ? 'draw' : `${v.kind} ${v.n}`),
       markWords = m => (m.mark === 'dual' ? `dual ${m.duals}` : m.mark);
 const squares = m => (m.from < 0 ? '-' : squareName(m.from) + squareName(m.to) + m.promoted.toLowerCase());
-function told(view) {
+function viewText(view) {
   const rows = [`study ${view.fen}`, `stipulation ${aimText(view.aim)}: ${view.verdict}, ${view.start}`];
-  for (const n of written(view.root))
+  for (const n of allNodes(view.root))
     rows.push(
       `node ${n.path} ${n.san} ${squares(n)} ${valueWords(n.value)} ${markWords(n)} faults ${n.faults} ${n.fen}`);
   rows.push(`at ${view.path} ${view.over || view.moves.length}`);
@@ -32,7 +32,7 @@ test('views are read whole', () => {
   for (const [name, path, body] of views) {
     const view = readView(body);
     assert.ok(view && view.path === path, `${name} ${path}`);
-    assert.equal(told(view), body, `${name} ${path}`);
+    assert.equal(viewText(view), body, `${name} ${path}`);
   }
 });
 test('squares of a move are those of a man of the side to move', () => {

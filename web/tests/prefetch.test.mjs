@@ -1,5 +1,5 @@
-// What is asked of the program ahead, over made-up workers: nobody waits for it, it is not asked twice, and what the
-// user does goes first.
+// What is requested ahead, over made-up workers: nobody waits for it, it is not requested twice, and what the user does
+// goes first.
 import test from 'node:test';
 import assert from 'node:assert/strict';
 import {repliesTo, viewOf} from '../src/answer_cache.js';
@@ -10,27 +10,27 @@ import {app, services} from '../src/state.js';
 
 const FEN = '8/8/8/6k1/8/8/1P5K/8 w - - 0 1',
       VIEW = `study ${FEN}\nnode root - - win 51 reply faults 0 ${FEN}\nat root 0\n`;
-/** A worker that answers when it is told to, or at once. */
-function made(asked, name) {
-  const held = [];
+/** A worker that answers on demand, or at once. */
+function made(requests, name) {
+  const pending = [];
   return {
-    held,
+    pending,
     has: () => true,
-    waiting: () => held.length,
+    waiting: () => pending.length,
     answer: (request, text) => {
-      asked.push(`${name} ${request} ${text.split('\n').length - 1}`);
-      const told = {text: request === 'run' ? 'replies' : VIEW, ended: 'done'};
-      return made.slow === name ? new Promise(ok => held.push(() => ok(told))) : Promise.resolve(told);
+      requests.push(`${name} ${request} ${text.split('\n').length - 1}`);
+      const answer = {text: request === 'run' ? 'replies' : VIEW, ended: 'done'};
+      return made.slow === name ? new Promise(ok => pending.push(() => ok(answer))) : Promise.resolve(answer);
     }
   };
 }
 function begin() {
-  const asked = [], lines = ['position ' + FEN, 'stipulate white win'];
+  const requests = [], lines = ['position ' + FEN, 'stipulate white win'];
   made.slow = '';
   Object.assign(services, {
-    core: made(asked, 'core'),
-    facts: made(asked, 'facts'),
-    tables: {named: () => ['KPK'], classesOf: async () => ['KPK'], load: async () => []}
+    core: made(requests, 'core'),
+    facts: made(requests, 'facts'),
+    tables: {knownClasses: () => ['KPK'], classesOf: async () => ['KPK'], load: async () => []}
   });
   Object.assign(app, {
     history: {now: {...assumeAccepted(lines), at: 0, path: 'root', name: ''}, past: [], future: []},
@@ -38,47 +38,47 @@ function begin() {
     setup: null
   });
   dropPrefetched();
-  return {asked, lines};
+  return {requests, lines};
 }
 const text = lines => lines.map(line => line + '\n').join('');
 
-test('what follows from moves is asked one after the other, and then nobody asks again', async () => {
-  const {asked, lines} = begin();
+test('what follows from moves is requested one after the other, and then not again', async () => {
+  const {requests, lines} = begin();
   await prefetch('root', [['Kg3'], ['b4']]);
-  assert.equal(asked.filter(a => a.startsWith('core run')).length, 2);
-  assert.equal(asked.filter(a => a.startsWith('facts view')).length, 2);
+  assert.equal(requests.filter(a => a.startsWith('core run')).length, 2);
+  assert.equal(requests.filter(a => a.startsWith('facts view')).length, 2);
   const sent = ['load KPK', ...lines, 'insert root Kg3', 'pgn'];
   assert.equal((await repliesTo(text(sent))).text, 'replies');
   assert.equal(typeof await viewOf(text([...lines, 'insert root Kg3']), '0'), 'object');
-  assert.equal(asked.length, 4);
+  assert.equal(requests.length, 4);
 });
 test('what the user does ends it, and at another node it is not used', async () => {
-  const {asked, lines} = begin(), going = prefetch('root', [['Kh3'], ['b3'], ['Kg1']]);
+  const {requests, lines} = begin(), going = prefetch('root', [['Kh3'], ['b3'], ['Kg1']]);
   cancelPrefetch();
   await going;
-  assert.deepEqual(asked, []);
+  assert.deepEqual(requests, []);
   await prefetch('root', [['Kh3']]);
   dropPrefetched();
   await repliesTo(text(['load KPK', ...lines, 'insert root Kh3', 'pgn']));
-  assert.equal(asked.filter(a => a.startsWith('core run')).length, 2);
+  assert.equal(requests.filter(a => a.startsWith('core run')).length, 2);
 });
 test('a view does not wait behind facts', async () => {
-  const {asked, lines} = begin(), now = app.history.now;
+  const {requests, lines} = begin(), now = app.history.now;
   made.slow = 'facts';
   services.facts.answer('review', '');
   await prefetchView(now, {lines: [...lines, 'insert root Kh1'], path: '0'});
-  assert.deepEqual(asked, ['facts review 0', 'core view 0 3']);
+  assert.deepEqual(requests, ['facts review 0', 'core view 0 3']);
 });
-test('a view that is coming is waited for, and asked again where it fails', async () => {
-  const {asked, lines} = begin(), now = app.history.now, wanted = [...lines, 'insert root Kg2'];
+test('a view that is coming is waited for, and requested again where it fails', async () => {
+  const {requests, lines} = begin(), now = app.history.now, wanted = [...lines, 'insert root Kg2'];
   made.slow = 'facts';
   prefetchView(now, {lines: wanted, path: '0'});
   const view = viewOf(text(wanted), '0');
-  services.facts.held.pop()();
+  services.facts.pending.pop()();
   assert.equal((await view).fen, FEN);
-  assert.deepEqual(asked, ['facts view 0 3']);
+  assert.deepEqual(requests, ['facts view 0 3']);
   services.facts.answer = () => Promise.reject(new Error('stopped'));
   prefetchView(now, {lines: [...lines, 'insert root b3'], path: '0'});
   assert.equal(typeof await viewOf(text([...lines, 'insert root b3']), '0'), 'object');
-  assert.deepEqual(asked.slice(1), ['core view 0 3']);
+  assert.deepEqual(requests.slice(1), ['core view 0 3']);
 });

@@ -40,7 +40,7 @@ for (const most of [1, 2, 3, 9]) {
     assert.ok(!builds.isBusy());
   });
 }
-/** Builds that end when they are told to. */
+/** Builds that end on demand. */
 function held(most = 1) {
   const begun = [], ends = new Map();
   const builds = makeBuilds(most, name => new Promise((ok, no) => {
@@ -61,15 +61,15 @@ function held(most = 1) {
     }
   };
 }
-test('a small wish does not wait for the end of a large one, and what is asked last begins next', async () => {
-  const {builds, begun, done} = held(), told = [];
-  builds.want(['A', 'B', 'C', 'D']).then(() => told.push('large'));
-  builds.want(['A', 'X']).then(() => told.push('small'));
+test('a small wish does not wait for the end of a large one, and what is wanted last begins next', async () => {
+  const {builds, begun, done} = held(), settled = [];
+  builds.want(['A', 'B', 'C', 'D']).then(() => settled.push('large'));
+  builds.want(['A', 'X']).then(() => settled.push('small'));
   await done('A');
   await done('X');
-  assert.deepEqual([begun, told], [['A', 'X', 'B'], ['small']]);
+  assert.deepEqual([begun, settled], [['A', 'X', 'B'], ['small']]);
   for (const name of ['B', 'C', 'D']) await done(name);
-  assert.deepEqual([begun, told], [['A', 'X', 'B', 'C', 'D'], ['small', 'large']]);
+  assert.deepEqual([begun, settled], [['A', 'X', 'B', 'C', 'D'], ['small', 'large']]);
 });
 test('a fault ends all wishes; a later one begins anew once the other builds have ended', async () => {
   const {builds, begun, done, fail} = held(2), first = assert.rejects(builds.want(['A', 'B', 'C']), /A/);
@@ -82,7 +82,7 @@ test('a fault ends all wishes; a later one begins anew once the other builds hav
   await done('D');
   await second;
 });
-test('what cannot be built is told', async () => {
+test('what cannot be built is reported', async () => {
   await assert.rejects(makeBuilds(2, async name => name === 'A', () => {}).want(['A', 'B']), /B could not be built/);
   await assert.rejects(makeBuilds(2, async () => {
     throw new Error('a trap');

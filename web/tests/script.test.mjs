@@ -46,7 +46,7 @@ const games = name =>
       [])
     .length;
 
-test('replies are told line by line', () => {
+test('replies come line by line', () => {
   for (const name of ['saavedra_1895', 'reti_1921', 'knnk_no_forced_mate']) {
     const {lines, replies} = gallery(name);
     lines.forEach((line, i) => {
@@ -112,7 +112,7 @@ test('a script whose lines are all accepted is as it was assumed to be', () => {
     assert.deepEqual(before.studies.map(s => s.aim), script.studies.map(s => s.aim));
   }
 });
-test('a study that is told more than once', () => {
+test('a study with more than one game', () => {
   const lines = [
     'position A', 'stipulate white win', 'pgn', 'stipulate white mate 26', 'position B', 'stipulate white draw',
     'insert root Kb2', 'pgn', 'mark root'
