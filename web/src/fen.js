@@ -1,5 +1,5 @@
 // @ts-check
-// A FEN as a drawing: which man is where. There is no rule of chess here.
+// A FEN as a drawing: which man is where. No rule of chess is here.
 
 /** @typedef {Record<number, string>} Men      square -> letter, capitals are White */
 

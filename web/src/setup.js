@@ -97,6 +97,7 @@ export function draftKept() {
     id: d.id
   };
 }
+/** The other fields of a FEN after a change of the men or of the side to move. */
 const noPassed = (/** @type {string} */ tail) => '- - ' + tail.split(' ').slice(2).join(' ');
 
 /** @param {Partial<Draft>} changes */
@@ -105,7 +106,7 @@ export function changeDraft(changes) {
   if (!d) return;
   const before = placedOf(d);
   Object.assign(d, changes, {judged: null, survey: null});
-  if (changes.men && changes.tail === undefined) d.tail = noPassed(d.tail);
+  if ((changes.men || changes.mover) && changes.tail === undefined) d.tail = noPassed(d.tail);
   if (changes.men && d.man !== null && !d.men[d.man]) d.man = null;
   if (placedOf(d) !== before) Object.assign(d, {past: [...d.past, before], future: []});
   redrawDraft();

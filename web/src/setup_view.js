@@ -17,9 +17,8 @@ const HELP = 'FEN, or men as Kb6 Pc6 / Ka1 Rd5';
 export function setupView() {
   const d = app.setup;
   if (!d) return null;
-  const mover = (/** @type {string} */ m, /** @type {string} */ text) =>
-    button(text, '', () => changeDraft({mover: m, tail: '- - ' + d.tail.split(' ').slice(2).join(' ')}),
-      {id: 'mover' + m, class: d.mover === m ? 'on' : '', 'aria-pressed': `${d.mover === m}`, 'data-mover': m});
+  const mover = (/** @type {string} */ m, /** @type {string} */ text) => button(text, '', () => changeDraft({mover: m}),
+    {id: 'mover' + m, class: d.mover === m ? 'on' : '', 'aria-pressed': `${d.mover === m}`, 'data-mover': m});
   return [
     h('h2', {id: 'setupFor'}, study() ? purpose(d) : 'Set up the men'),
     h('div', {class: 'palette', role: 'group', 'aria-label': 'Men'},
