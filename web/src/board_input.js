@@ -1,6 +1,6 @@
 // @ts-check
 // The way from fingers and keys to squares and moves.
-import {$, h} from './dom.js';
+import {$, button, h} from './dom.js';
 import {corner, man, manIcon, movesFrom, showBoard, shownFen, WIDTH, X, Y} from './board.js';
 import {isWhite, manName, menOf, sideOf, squareName, NAMES} from './fen.js';
 import {prefetchMoves} from './prefetch.js';
@@ -142,18 +142,15 @@ export function closeChoice() {
 function choose(found, to) {
   const [x, y] = corner(to), b = box(), unit = b.width / WIDTH, path = doc().path,
             white = sideOf(shownFen()) === 'White';
-  const list = h('div', {class: 'choose', role: 'group', 'aria-label': 'Promote to'},
-    found.map(m => h('button', {
-      type: 'button',
-      title: m.san,
-      'aria-label': NAMES[m.promoted],
-      'data-san': m.san,
-      onclick: () => {
-        list.remove();
-        insert(path, [m.san]);
-      }
-    },
-                manIcon(white ? m.promoted : m.promoted.toLowerCase()))));
+  const take = (/** @type {string} */ san) => {
+    list.remove();
+    insert(path, [san]);
+  };
+  const choice = (/** @type {Move} */ m) => {
+    const icon = manIcon(white ? m.promoted : m.promoted.toLowerCase());
+    return button(icon, m.san, () => take(m.san), {'aria-label': NAMES[m.promoted], 'data-san': m.san});
+  };
+  const list = h('div', {class: 'choose', role: 'group', 'aria-label': 'Promote to'}, found.map(choice));
   closeChoice();
   document.body.append(list);
   list.style.left = `${Math.max(4, Math.min(b.left + x * unit - 80, innerWidth - 240))}px`;

@@ -125,8 +125,7 @@ on('saveScript', () => work(async () => {
 }));
 on('savePgn', () => download(fileName('.pgn'), savedGames(doc())));
 addEventListener('beforeprint', () => {
-  for (const more of document.querySelectorAll('button.more')) /** @type {HTMLElement} */
-    (more).click();
+  for (const more of /** @type {NodeListOf<HTMLElement>} */ (document.querySelectorAll('button.more'))) more.click();
 });
 on('print', () => {
   if (app.setup) closeSetup();

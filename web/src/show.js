@@ -136,10 +136,8 @@ export function show() {
  */
 function refocus([id, path, san]) {
   if (document.activeElement !== document.body) return;
-  const again = id ? $(id)
-    : path         ? document.querySelector(`[data-path="${path}"]`)
-            : san ? document.querySelector(`[data-san="${san}"]`)
-                  : null;
+  const place = path ? `[data-path="${path}"]` : san ? `[data-san="${san}"]` : '';
+  const again = id ? $(id) : place && /** @type {any} */ (document.querySelector(place));
   if (again) again.focus({preventScroll: true});
 }
 /** A refusal that is off the screen is shown below the bar too, until the page is scrolled. */

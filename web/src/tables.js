@@ -89,9 +89,11 @@ export function makeTables({core, spawn, readers, store, report}) {
    */
   async function bytesOf(name) {
     const known = right.get(name);
-    if (known) try {
-        return (await readers.read(known, false)).bytes;
-      } catch { right.delete(name); }
+    if (known) {
+      const file = await readers.read(known, false).catch(() => null);
+      if (file) return file.bytes;
+      right.delete(name);
+    }
     const blob = await store.get(name), file = blob ? await readers.read(blob).catch(() => null) : null;
     if (!blob || !file) return null;
     if (!isListed(name, file.digest)) {
@@ -111,15 +113,18 @@ export function makeTables({core, spawn, readers, store, report}) {
   function loadOne(name, into) {
     const now = loading.get(into) || new Map(), before = now.get(name);
     loading.set(into, now);
-    const done = before ||
-      fetchOnce(name)
-        .then(async bytes => {
-          if (bytes && !into.has(name)) await into.load(name, bytes);
-          return bytes !== null;
-        })
-        .finally(() => now.delete(name));
+    const done = before || loadFetched(name, into).finally(() => now.delete(name));
     now.set(name, done);
     return done;
+  }
+  /**
+   * @param {string} name
+   * @param {Core} into
+   */
+  async function loadFetched(name, into) {
+    const bytes = await fetchOnce(name);
+    if (bytes && !into.has(name)) await into.load(name, bytes);
+    return bytes !== null;
   }
   /**
    * Puts into a core the tables that are kept, and returns those that are missing.
