@@ -100,7 +100,7 @@ function leftOutAt(lines, line) {
   const end = lines.findIndex((text, at) => at > line && !text.startsWith('#'));
   const {Event = '', White = ''} = originalsIn(lines.slice(line, end < 0 ? undefined : end));
   const place = `game ${game.game} of the PGN, line ${game.line}`;
-  return [missing(line, Event ? `${Event} (${place})` : place, White, whyLeftOut(game))];
+  return [missing(line, Event ? `${Event} (${place})` : place, White || game.author, whyLeftOut(game))];
 }
 /**
  * @param {number} line

@@ -57,6 +57,27 @@ export function placements(name, many = 80) {
     return `${ranks.join('/')} ${dice(2) ? 'w' : 'b'} - - 0 1`;
   });
 }
+/**
+ * Why a search for squares finds nothing, if a man is sought that the class does not have.
+ * @param {string} name
+ * @param {string} filters
+ */
+export function manMissing(name, filters) {
+  const [, white, black] = /^(K[A-Z]*)(K[A-Z]*)$/.exec(name) || ['', '', ''], men = white + black.toLowerCase();
+  const strange = filters.split(' ').find(word => /^[KQRBNPkqrbnp][a-h][1-8]/.test(word) && !men.includes(word[0]));
+  if (!strange) return '';
+  const side = strange[0] === strange[0].toUpperCase() ? 'White' : 'Black';
+  return `${name} has no ${strange[0].toUpperCase()} of ${side}, so ${strange} fits no position`;
+}
+/**
+ * The position that a press on a find opens, and its value. A mutual zugzwang is listed with White to move; where that
+ * is a draw it opens with Black to move, if somebody wins then.
+ * @param {Found} found
+ */
+export function opened({fen, values: [white, black]}) {
+  if (!black || white.kind !== 'draw' || black.kind === 'draw') return {fen, value: white};
+  return {fen: fen.replace(' w ', ' b '), value: black};
+}
 const PIECE = 1 << 14, ALIKE = 300;
 /**
  * Searches until it is stopped, all is looked at, or enough was found. Each piece takes about as long as another.

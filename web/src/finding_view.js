@@ -5,7 +5,7 @@ import {track} from './actions.js';
 import {app, services} from './state.js';
 import {CLASSES} from './core_host.js';
 import {control, sideOf} from './fen.js';
-import {THEMES, search} from './finding.js';
+import {THEMES, manMissing, opened, search} from './finding.js';
 import {openText} from './opening.js';
 import {toText} from './script.js';
 import {draftFen} from './setup.js';
@@ -23,7 +23,7 @@ const form = {
 };
 /**
  * @type {{spawn: () => import('./engine.js').Core, search: Search | null, going: boolean, fault: string,
- *   shown: string, here: string, chosen: boolean}}
+ *   shown: string, lacking: string, here: string, chosen: boolean}}
  */
 const state = {
   spawn: () => services.core,
@@ -31,6 +31,7 @@ const state = {
   going: false,
   fault: '',
   shown: '',
+  lacking: '',
   here: '',
   chosen: false
 };
@@ -131,7 +132,8 @@ function find() {
     filters: [form.side, quiet, form.squares.trim()].filter(Boolean).join(' '),
     most: MOST
   };
-  Object.assign(state, {search: null, going: true, fault: '', shown: `${wanted.name} ${wanted.theme}`});
+  const shown = `${wanted.name} ${wanted.theme}`, lacking = manMissing(wanted.name, wanted.filters);
+  Object.assign(state, {search: null, going: true, fault: '', shown, lacking});
   showFinding();
   const found = (/** @type {Search} */ now) => {
     state.search = now;
@@ -158,14 +160,16 @@ function soFar() {
     stopped: 'stopped'
   }[now.ended] ||
     'searching …';
-  const part = now.ended === 'all' || !now.of ? '' : `; ${Math.floor(100 * now.at / now.of)} % looked at`;
-  return `${state.shown}: ${counted(now.found.length, 'position')} found${part}: ${end}.`;
+  const part = now.ended === 'all' || !now.of ? '' : `; ${Math.floor(100 * now.at / now.of)} % looked at`,
+        why = now.found.length ? '' : state.lacking;
+  return `${state.shown}: ${counted(now.found.length, 'position')} found${part}: ${why || end}.`;
 }
 /** @param {Found} found */
-function linesOf({fen, values, key}) {
-  const mover = sideOf(fen), won = winner(mover, values[0]), hero = (won || 'White').toLowerCase();
-  return toText(
-    [`position ${fen}`, `stipulate ${hero} ${won ? 'win' : 'draw'}`, ...(key ? [`insert root ${key}`] : [])]);
+function linesOf(found) {
+  const {fen, value} = opened(found), won = winner(sideOf(fen), value), hero = (won || 'White').toLowerCase();
+  return toText([
+    `position ${fen}`, `stipulate ${hero} ${won ? 'win' : 'draw'}`, ...(found.key ? [`insert root ${found.key}`] : [])
+  ]);
 }
 /** @param {Found} found */
 function rowView(found) {

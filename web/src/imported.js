@@ -3,8 +3,8 @@
 // that says why.
 import {counted, reason} from './words.js';
 /**
- * A game that was left out: where in the PGN, why, and at which text.
- * @typedef {{game: number, line: number, column: number, why: string, text: string}} LeftOut
+ * A game that was left out: where in the PGN, its author as far as one is named, why, and at which text.
+ * @typedef {{game: number, line: number, column: number, author: string, why: string, text: string}} LeftOut
  */
 
 /**
@@ -21,7 +21,8 @@ export function decode(bytes) {
     return new TextDecoder('utf-8', {fatal: true}).decode(bytes);
   } catch { return new TextDecoder('latin1').decode(bytes); }
 }
-const GAME = /^# game (\d+), line (\d+)(?:, column (\d+))?: (.*)$/, COUNTS = /^# games (\d+), studies (\d+)$/;
+const GAME = /^# game (\d+), line (\d+)(?:, column (\d+))?(?: \(([^:]*)\))?: (.*)$/,
+      COUNTS = /^# games (\d+), studies (\d+)$/;
 /**
  * The game that a remark says was left out.
  * @param {string} line
@@ -29,9 +30,9 @@ const GAME = /^# game (\d+), line (\d+)(?:, column (\d+))?: (.*)$/, COUNTS = /^#
  */
 export function leftOutBy(line) {
   const m = GAME.exec(line);
-  if (!m || m[4].startsWith('stipulated by ')) return null;
-  const [why, text = ''] = m[4].replace(/^left out: /, '').split(' at ');
-  return {game: Number(m[1]), line: Number(m[2]), column: Number(m[3]) || 0, why, text};
+  if (!m || m[5].startsWith('stipulated by ')) return null;
+  const [why, text = ''] = m[5].replace(/^left out: /, '').split(' at ');
+  return {game: Number(m[1]), line: Number(m[2]), column: Number(m[3]) || 0, author: m[4] || '', why, text};
 }
 const FAULTS = /** @type {Record<string, string>} */ ({
   GameTooLarge: 'longer than a million bytes',
@@ -58,7 +59,8 @@ export function whyLeftOut({why, text}) {
   return text ? `${text}: ${words}` : words;
 }
 /** @param {LeftOut} game */
-const placeOf = ({game, line, column}) => `game ${game}, line ${line}${column ? `, column ${column}` : ''}`;
+const placeOf = ({game, line, column, author}) =>
+  `game ${game}${author && ` (${author})`}, line ${line}${column ? `, column ${column}` : ''}`;
 const GONE = /** @type {Record<string, [string, string]>} */ ({
   repeated: ['repeated move', 'repeated moves'],
   'null moves': ['null move', 'null moves'],

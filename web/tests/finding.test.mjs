@@ -3,13 +3,27 @@ import test from 'node:test';
 import assert from 'node:assert/strict';
 import {placesBefore} from '../src/earlier.js';
 import {menOf} from '../src/fen.js';
-import {placements, readFound} from '../src/finding.js';
+import {manMissing, opened, placements, readFound} from '../src/finding.js';
 
 test('a line of a list is read', () => {
   assert.deepEqual(readFound('1B6/3K4/8/1k6/8/P7/8/8 w - - 0 1 draw loss 38'),
     {fen: '1B6/3K4/8/1k6/8/P7/8/8 w - - 0 1', values: [{kind: 'draw', n: 0}, {kind: 'loss', n: 38}], key: ''});
   assert.deepEqual(readFound('8/8/8/5n2/8/1RK5/8/2k5 w - - 0 1 win 69 Kd3'),
     {fen: '8/8/8/5n2/8/1RK5/8/2k5 w - - 0 1', values: [{kind: 'win', n: 69}], key: 'Kd3'});
+});
+test('a zugzwang opens with the side to move with which somebody wins', () => {
+  const {fen, value} = opened(readFound('1B6/3K4/8/1k6/8/P7/8/8 w - - 0 1 draw loss 38'));
+  assert.equal(fen, '1B6/3K4/8/1k6/8/P7/8/8 b - - 0 1');
+  assert.deepEqual(value, {kind: 'loss', n: 38});
+  assert.equal(
+    opened(readFound('8/8/8/5n2/8/1RK5/8/2k5 w - - 0 1 win 69 Kd3')).fen, '8/8/8/5n2/8/1RK5/8/2k5 w - - 0 1');
+  assert.equal(
+    opened(readFound('8/8/8/8/1pK5/kP6/8/8 w - - 0 1 loss 20 loss 22')).fen, '8/8/8/8/1pK5/kP6/8/8 w - - 0 1');
+});
+test('a man that a class does not have', () => {
+  assert.equal(manMissing('KPK', 'pa7'), 'KPK has no P of Black, so pa7 fits no position');
+  assert.equal(manMissing('KPK', 'white Pa2-h4 ka8'), '');
+  assert.equal(manMissing('KRKN', 'no-check Nb1'), 'KRKN has no N of White, so Nb1 fits no position');
 });
 test('placements have the men of their class', () => {
   for (const name of ['KK', 'KPKP', 'KRKN', 'KQQK']) {

@@ -36,8 +36,14 @@ test('a file is UTF-8, else Latin 1', () => {
 test('games that were left out, and why', () => {
   assert.deepEqual(
     leftOut(LINES).map(whyLeftOut), ['7 men', 'Kb6: not legal here', 'it does not say what is to be done']);
-  assert.deepEqual(leftOut(LINES)[1], {game: 3, line: 31, column: 17, why: 'NoSuchMove', text: 'Kb6'});
-  assert.deepEqual(leftOut(['# game 6, line 60, column 8: NullMove']).map(whyLeftOut), ['a null move in the main line']);
+  assert.deepEqual(leftOut(LINES)[1], {game: 3, line: 31, column: 17, author: '', why: 'NoSuchMove', text: 'Kb6'});
+  const named = '# game 5, line 40, column 4 (Kasparyan, G.): NoSuchMove at Kb6';
+  assert.deepEqual(
+    leftOut([named]), [{game: 5, line: 40, column: 4, author: 'Kasparyan, G.', why: 'NoSuchMove', text: 'Kb6'}]);
+  assert.match(
+    importNote([named, '# games 5, studies 4']), /Left out: game 5 \(Kasparyan, G\.\), line 40, column 4: Kb6/);
+  assert.deepEqual(
+    leftOut(['# game 6, line 60, column 8: NullMove']).map(whyLeftOut), ['a null move in the main line']);
   assert.equal(withoutAim(LINES), 1);
   assert.equal(importNote(LINES),
     '5 games, 2 studies. Left out: game 2, line 14: 7 men; game 3, line 31, column 17: Kb6: not legal here; ' +
