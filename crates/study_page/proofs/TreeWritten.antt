@@ -1,6 +1,6 @@
 -- The tree of the solution, child by child.
-use Rattle.std.proofs.Common.{◌≡◌, ℕ, zero, suc, ◌+◌, ◌≤◌, Bool, true, false, not, List, [], ◌++◌, Option, Some, None, Result, OnOk}
-use Rattle.std.proofs.Common.{refl, sym, ap, ◌∙◌, arith, append_assoc, add-one, nat_lt}
+use Rattle.std.proofs.Common.{◌≡◌, ℕ, zero, suc, ◌+◌, ◌≤◌, Bool, true, false, not, List, [], ◌++◌, Option, Some, None, Result, Ok, Err, OnOk, IsOk}
+use Rattle.std.proofs.Common.{refl, sym, ap, subst, ◌∙◌, arith, append_assoc, add-one, nat_lt, true≢false}
 use Rattle.std.proofs.lemmas.Bool.{lt-ltb}
 use Rattle.std.proofs.lemmas.List.{append-nil}
 use Rattle.std.proofs.lemmas.Result.{on_ok_weaker}
@@ -15,6 +15,15 @@ use Rattle.study_facts.specs.Nodes.{has_none}
 use Rattle.study_html.specs.declared.element.Element.TheVariants.{Item}
 use Rattle.study_html.specs.Elements.{inside}
 use Rattle.study_page.specs.Tree.{made_words, list_where, others_of, tree_words, item_words}
+
+-- what holds of a result that is `Ok` holds
+pub ok_holds : {T E P : Type 0} (r : Result T E) → IsOk r → OnOk r P → P
+ok_holds (Ok x) e h = h
+ok_holds (Err y) e h = absurd (true≢false (sym e))
+
+abbrev twig_or : Twig Mark → Option (Twig Mark) → Twig Mark
+twig_or x None = x
+twig_or x (Some t) = t
 
 skip_zero : (f : Forest Mark) → skip 0 f ≡ f
 skip_zero none = refl
@@ -56,8 +65,16 @@ module _ (hero : Side) (s : Start) where
   tree_first first f t e = tree_is first f ∙ ap (first_text first f) e
 
   -- nothing follows
-  pub no_tree : (first : Bool) (f : Forest Mark) (html : List ℕ) → node_in f 0 [] ≡ None → html ≡ html ++ tree_words hero first s f
-  no_tree first f html e = sym (append-nil html) ∙ ap (λ (x : List ℕ). html ++ x) (sym (tree_is first f ∙ ap (first_text first f) e))
+  pub no_tree : (first : Bool) (f : Forest Mark) (html : List ℕ) → width f ≡ 0 → html ≡ html ++ tree_words hero first s f
+  no_tree first none html e = sym (append-nil html)
+  no_tree first (more m l b r) html e = absurd (omega (arith, e))
+
+  -- the first move is written
+  pub first_written : {T E : Type 0} (first : Bool) (f : Forest Mark) (x : Twig Mark) (old new : List ℕ) (r : Result T E) → node_in f 0 [] ≡ Some x
+      → OnOk r (new ≡ old ++ made_words hero first s x.played x.label)
+      → (t : Twig Mark) → node_in f 0 [] ≡ Some t → OnOk r (new ≡ old ++ made_words hero first s t.played t.label)
+  first_written first f x old new r ex put t e =
+      subst (λ (y : Twig Mark). OnOk r (new ≡ old ++ made_words hero first s y.played y.label)) (ap (twig_or x) (sym ex ∙ e)) put
 
   -- ---- the others
 
