@@ -23,7 +23,7 @@ use crate::verdict::{judge, put_verdict};
 use crate::walk::add_each;
 use std::alloc::{AllocError, Allocator};
 use std::io::Write;
-use study_facts::{NotMade, ReviewFault};
+use study_facts::{Made, NotMade, ReviewFault};
 use study_head::{put_figure, put_head};
 use study_html::{Element, Html, put_words};
 use study_marks::Bench;
@@ -47,7 +47,8 @@ pub fn parts_of<'a, 'b, A: Allocator, B: Allocator, V: Values>(
     let _size = bench.size();
     let mut parts = Parts::new(alloc);
     let mut steps = Vec::new(alloc);
-    add_each(alloc, &mut parts, bench, &mut steps, values)?;
+    let mut room = Made::new();
+    add_each(alloc, &mut parts, bench, &mut steps, &mut room, values)?;
     Ok(parts)
 }
 

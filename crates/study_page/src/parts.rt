@@ -179,6 +179,7 @@ pub fn add_move<'a, 'b, A: Allocator, B: Allocator, V: Values>(
     parts: &mut Parts<'_, A>,
     bench: &Bench<'b, B>,
     steps: &[u16],
+    made: &mut Made,
     values: &mut V,
 ) -> Result<(), NotMade>
     ensures faults { V.is_honest values.old → OnOk result (Grew (FaultItems (marked bench.now) steps.now) parts.old.faults parts.new.faults) }
@@ -194,7 +195,7 @@ pub fn add_move<'a, 'b, A: Allocator, B: Allocator, V: Values>(
     let first = bench.start();
     let value = value_at(bench, steps);
     let listed = is_solution_move(bench, steps);
-    let made = &mut Made::new();
+    made.before.line.clear();
     if !fill_made(bench, steps, made) {
         return Ok(());
     }

@@ -13,7 +13,7 @@ ghost use Rattle.study_page.specs.Rows.{FaultItems, Cards, TryRows, ZugzwangRows
 use crate::draft::Parts;
 use crate::parts::{add_move, add_position};
 use std::alloc::Allocator;
-use study_facts::{NotMade, Place, count_at, fill_place};
+use study_facts::{Made, NotMade, Place, count_at, fill_place};
 use study_marks::Bench;
 use study_values::Values;
 
@@ -25,6 +25,7 @@ fn add_there<'a, 'b, A: Allocator, B: Allocator, V: Values>(
     parts: &mut Parts<'_, A>,
     bench: &Bench<'b, B>,
     steps: &[u16],
+    room: &mut Place,
     values: &mut V,
 ) -> Result<(), NotMade>
     requires { IsTrue (has_spot (marked bench.now).tree steps.now) }
@@ -40,11 +41,11 @@ fn add_there<'a, 'b, A: Allocator, B: Allocator, V: Values>(
         V.may_fail V.asked_of V.failed_of V.is_honest values.old result values.new }
 {
     let first = bench.start();
-    let place = &mut Place::new();
-    if !fill_place(bench, steps, place) {
+    room.line.clear();
+    if !fill_place(bench, steps, room) {
         unreachable!()
     }
-    add_position(alloc, parts, bench, steps, place, values)
+    add_position(alloc, parts, bench, steps, room, values)
 }
 
 /// What the parts have of the node at the path. It is a call of its own, so that a ply of `add_each` takes little of the stack.
@@ -54,6 +55,7 @@ fn add_own<'a, 'b, A: Allocator, B: Allocator, V: Values>(
     parts: &mut Parts<'_, A>,
     bench: &Bench<'b, B>,
     steps: &[u16],
+    room: &mut Made,
     values: &mut V,
 ) -> Result<(), NotMade>
     requires { IsTrue (has_spot (marked bench.now).tree steps.now) }
@@ -68,16 +70,17 @@ fn add_own<'a, 'b, A: Allocator, B: Allocator, V: Values>(
     ensures asked { HasAsked V.held (within (marked bench.now).start.position V.gives)
         V.may_fail V.asked_of V.failed_of V.is_honest values.old result values.new }
 {
-    add_move(alloc, parts, bench, steps, values)?;
-    add_there(alloc, parts, bench, steps, values)
+    add_move(alloc, parts, bench, steps, room, values)?;
+    add_there(alloc, parts, bench, steps, &mut room.before, values)
 }
 
-/// What the parts have of the node at the path and of all below it.
+/// What the parts have of the node at the path and of all below it. `room` is for the line of one node after the other.
 pub fn add_each<'a, 'b, A: Allocator, B: Allocator, V: Values>(
     alloc: &'a A,
     parts: &mut Parts<'_, A>,
     bench: &Bench<'b, B>,
     steps: &mut Vec<u16, &A>,
+    room: &mut Made,
     values: &mut V,
 ) -> Result<(), NotMade>
     requires { IsTrue (has_spot (marked bench.now).tree steps.old.items) }
@@ -102,11 +105,11 @@ pub fn add_each<'a, 'b, A: Allocator, B: Allocator, V: Values>(
     ensures asked { HasAsked V.held (within (marked bench.now).start.position V.gives)
         V.may_fail V.asked_of V.failed_of V.is_honest values.old result values.new }
 {
-    add_own(alloc, parts, bench, steps.as_slice(), values)?;
+    add_own(alloc, parts, bench, steps.as_slice(), room, values)?;
     let count = count_at(bench, steps.as_slice());
     for place in 0..count {
         steps.push(place)?;
-        add_each(alloc, parts, bench, steps, values)?;
+        add_each(alloc, parts, bench, steps, room, values)?;
         steps.pop();
     }
     Ok(())
