@@ -48,6 +48,7 @@ pub struct Options<'a> {
 /// 0.
 ///
 /// No contract: clap has none on the words that it takes. The type proves that the folder has a name, and the range of pages; tests check the rest.
+#[inline(never)]
 pub fn read_words<'a>(alloc: Global, words: &'a [String]) -> Result<Options<'a>, Error> {
     let command = command(alloc)?;
     let matches = command.try_get_matches_from(words)?;

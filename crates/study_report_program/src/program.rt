@@ -65,6 +65,8 @@ fn answered(rt: &HostRuntime, error: &Error) -> u8
     status
 }
 
+/// Reports the script of standard input. It is a call of its own, so that nothing of the command line is on the stack while the studies are read.
+#[inline(never)]
 fn report_streams(rt: &HostRuntime, options: &Options<'_>) -> u8 {
     let alloc = rt.alloc();
     let mut errors = rt.stderr();
