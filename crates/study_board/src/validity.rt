@@ -69,9 +69,10 @@ pub fn in_check(men: &[Man], side: Side) -> bool
     men.iter().any(|k| k.is(side, Kind::King) && is_attacked(men, side.other(), k.at))
 }
 
+/// Whether a pawn of the side not to move may have passed the square in a double step just before.
 #[inline]
 #[tactic(auto, unfolding(crate::specs::Position::could_be_passed))]
-fn could_be_passed(men: &[Man], to_move: Side, x: Square) -> bool
+pub fn could_be_passed(men: &[Man], to_move: Side, x: Square) -> bool
     ensures { result ≡ could_be_passed men.now to_move x }
 {
     let n = x.number();

@@ -19,6 +19,6 @@ pub use command::{
 };
 pub use laws::lines_are_read_again;
 pub use line::{Line, LineFault, read_byte};
-pub use parser::{read_command, read_side};
+pub use parser::{read_command, read_mate_moves, read_side};
 pub use path::read_path;
 pub use path_text::{is_path_word, read_path_word, read_place};

@@ -255,7 +255,7 @@ fn read_goal(rest: &[u8]) -> Option<Goal>
 }
 
 /// One to three digits, with a value from 1 to 127.
-fn read_mate_moves(word: &[u8]) -> Option<MateMoves>
+pub fn read_mate_moves(word: &[u8]) -> Option<MateMoves>
     ensures { result ≡ mate_moves_of word.now }
 {
     let number = read_place(word)?;

@@ -5,7 +5,7 @@ use Rattle.study_moves.specs.EnPassant.{has_legal_en_passant}
 use Rattle.std.proofs.Common.{◌≡◌, ℕ, ◌==◌, ◌≤◌, Bool, true, false, cond, List, [], ◌∷◌, map, Option, Some, refl, sym, ◌∙◌, subst, ap}
 use Rattle.study_board.specs.declared.men.Side.{Side}
 use Rattle.study_board.specs.declared.men.Man.{Man}
-use Rattle.study_board.specs.Men.{other_side}
+use Rattle.study_board.specs.Men.{other_side, moved_if}
 use Rattle.study_board.specs.Position.{Position}
 use Rattle.study_board.specs.Symmetry.{turned_side}
 use Rattle.study_material.specs.declared.class.Class.{Class}
@@ -15,7 +15,7 @@ use Rattle.study_values.specs.Number.{has_pawn, with_bit, without_bit, IsLeastNu
 use Rattle.study_index.specs.Decoded.{slot_filled, slots_of, slots_have_pawn, told_men, told_side}
 use Rattle.study_values.specs.Canonical.{least_of}
 use Rattle.study_values.specs.Index.{index_of}
-use Rattle.study_index.specs.Moved.{from_to, IsMoved}
+use Rattle.study_index.specs.Moved.{IsMoved}
 use Rattle.study_index.proofs.NumbersReadOff.{filled-men_of, has_pawn-slots, IsInSlots-men_of}
 use Rattle.study_index.proofs.ClassSlots.{AreSlots-class, class_in_order}
 use Rattle.study_index.proofs.ListOrder.{lists-filled}
@@ -23,19 +23,19 @@ use Rattle.study_index.proofs.TurnedNumbers.{least_is}
 use Rattle.study_index.proofs.ComputedIndex.{index_of-only}
 
 -- a man that moves fills the same slot
-slot_kept : (x a : ℕ) (m : Man) → slot_filled (from_to x a m) ≡ slot_filled m
+slot_kept : (x a : ℕ) (m : Man) → slot_filled (moved_if x a m) ≡ slot_filled m
 slot_kept x a m = by_test (m.at == x)
   where
     by_test : (b : Bool) → slot_filled (cond b (let r : Man = record { side = m.side; kind = m.kind; at = a } in r) m) ≡ slot_filled m
     by_test true = refl
     by_test false = refl
 
-slots_kept : (x a : ℕ) (ms : List Man) → map slot_filled (map (from_to x a) ms) ≡ map slot_filled ms
+slots_kept : (x a : ℕ) (ms : List Man) → map slot_filled (map (moved_if x a) ms) ≡ map slot_filled ms
 slots_kept x a [] = refl
 slots_kept x a (m ∷ ms) =
-    ap (λ s. s ∷ map slot_filled (map (from_to x a) ms)) (slot_kept x a m) ∙ ap (λ ss. slot_filled m ∷ ss) (slots_kept x a ms)
+    ap (λ s. s ∷ map slot_filled (map (moved_if x a) ms)) (slot_kept x a m) ∙ ap (λ ss. slot_filled m ∷ ss) (slots_kept x a ms)
 
-number_kept : (x a : ℕ) (m : Man) → man_slot_number false (from_to x a m) ≡ man_slot_number false m
+number_kept : (x a : ℕ) (m : Man) → man_slot_number false (moved_if x a m) ≡ man_slot_number false m
 unfolding man_slot_number
 number_kept x a m = by_test (m.at == x)
   where
@@ -43,14 +43,14 @@ number_kept x a m = by_test (m.at == x)
     by_test true = refl
     by_test false = refl
 
-NoneBefore-kept : (n x a : ℕ) (ms : List Man) → NoneBefore false n ms → NoneBefore false n (map (from_to x a) ms)
+NoneBefore-kept : (n x a : ℕ) (ms : List Man) → NoneBefore false n ms → NoneBefore false n (map (moved_if x a) ms)
 NoneBefore-kept n x a [] h = h
 NoneBefore-kept n x a (m ∷ ms) h = (subst (λ (k : ℕ). n ≤ k) (sym (number_kept x a m)) h.0, NoneBefore-kept n x a ms h.1)
 
-IsInSlots-kept : (x a : ℕ) (ms : List Man) → IsInSlots false ms → IsInSlots false (map (from_to x a) ms)
+IsInSlots-kept : (x a : ℕ) (ms : List Man) → IsInSlots false ms → IsInSlots false (map (moved_if x a) ms)
 IsInSlots-kept x a [] h = h
 IsInSlots-kept x a (m ∷ ms) h = (
-  subst (λ (k : ℕ). NoneBefore false k (map (from_to x a) ms)) (sym (number_kept x a m)) (NoneBefore-kept (man_slot_number false m) x a ms h.0),
+  subst (λ (k : ℕ). NoneBefore false k (map (moved_if x a) ms)) (sym (number_kept x a m)) (NoneBefore-kept (man_slot_number false m) x a ms h.0),
   IsInSlots-kept x a ms h.1,
 )
 
@@ -83,12 +83,12 @@ least_index c p men side r valid same filled in_slots to_move dead e =
 -- the least number of the men that a number encodes, one of them on another square, is the index of their position
 pub moved_number : (c : Class) (n x a : ℕ) (p : Position) (r : Option ℕ) → IsMoved c n x a p
     → r ≡ least_of (slots_have_pawn (slots_of c)) (other_side (told_side (slots_of c) (without_bit n))) false
-    (map (from_to x a) (told_men (slots_of c) (without_bit n))) → r ≡ Some (index_of p)
+    (map (moved_if x a) (told_men (slots_of c) (without_bit n))) → r ≡ Some (index_of p)
 moved_number c n x a p r t e =
     let slots = slots_of c in
     let b = without_bit n in
     let told = told_men slots b in
-    let men = map (from_to x a) told in
+    let men = map (moved_if x a) told in
     let s = AreSlots-class c in
     let pawns = slots_have_pawn slots in
     least_index c p men (other_side (told_side slots b)) r t.valid t.men (slots_kept x a told ∙ filled-men_of pawns slots b s)

@@ -1,14 +1,14 @@
 //! The number of the position after, or before, a move that captures no man and promotes none.
 ghost use Rattle.std.specs.Prelude.{◌≡◌, ◌<◌, ◌↔◌, false, map, length, slice_index_or, Some, IsTrue, IfSome, if◌then◌else◌};
 ghost use Rattle.study_board.specs.declared.men.Man.{Man as AMan};
-ghost use Rattle.study_board.specs.Men.{other_side};
+ghost use Rattle.study_board.specs.Men.{other_side, moved_if};
 ghost use Rattle.study_board.specs.Position.{Position as Seen};
 ghost use Rattle.study_values.specs.Canonical.{least_of};
 ghost use Rattle.study_index.specs.Decoded.{AreSlots, slots_of, slots_have_pawn, man, told_men, told_side};
 ghost use Rattle.study_values.specs.Index.{index_of};
 ghost use Rattle.study_values.specs.Number.{cells_of};
 ghost use Rattle.study_index.specs.Stepped.{moved_to, IsStepped};
-ghost use Rattle.study_index.specs.Moved.{IsMoved, from_to};
+ghost use Rattle.study_index.specs.Moved.{IsMoved};
 ghost use Rattle.study_index.specs.LeastImage.{king_symmetry, squares, with_head};
 ghost use Rattle.study_index.specs.Squares.{number_at};
 ghost use Rattle.study_board.specs.Symmetry.{turned_square};
@@ -22,22 +22,6 @@ use crate::stepped::stepped;
 use study_board::{Man, Side, Square, Symmetry};
 use study_material::Class;
 use study_values::EN_PASSANT_BIT;
-
-/// The man, on `to` if it stands on `from`.
-#[inline]
-fn put(man: Man, from: Square, to: Square) -> Man
-    ensures { result ≡ from_to from to man }
-{
-    if man.at == from {
-        Man {
-            side: man.side,
-            kind: man.kind,
-            at: to,
-        }
-    } else {
-        man
-    }
-}
 
 /// The frame of a number of a class, without a swap of colours.
 #[inline]
@@ -55,26 +39,26 @@ fn straight_frame(has_pawns: bool, to_move: Side) -> Frame
 fn least_moved(slots: &[Slot], pawns: bool, n: u32, from: Square, to: Square) -> Option<u32>
     requires slots { AreSlots slots.now }
     requires pawns { pawns ≡ slots_have_pawn slots.now }
-    ensures { result ≡ least_of pawns (other_side (told_side slots.now n)) false (map (from_to from to) (told_men slots.now n)) }
+    ensures { result ≡ least_of pawns (other_side (told_side slots.now n)) false (map (moved_if from to) (told_men slots.now n)) }
 {
     let frame = straight_frame(pawns, side_told(pawns, head(slots, n)).other());
     match slots {
         [k, b] => {
-            let white = put(king_told(pawns, k, n / 64), from, to);
-            let men = [white, put(man(b, n % 64), from, to)];
+            let white = king_told(pawns, k, n / 64).moved(from, to);
+            let men = [white, man(b, n % 64).moved(from, to)];
             least_of(frame, &men)
         }
         [k, b, x] => {
-            let white = put(king_told(pawns, k, n / 64 / 64), from, to);
-            let black = put(man(b, n / 64 % 64), from, to);
-            let men = [white, black, put(man(x, n % 64), from, to)];
+            let white = king_told(pawns, k, n / 64 / 64).moved(from, to);
+            let black = man(b, n / 64 % 64).moved(from, to);
+            let men = [white, black, man(x, n % 64).moved(from, to)];
             least_of(frame, &men)
         }
         [k, b, x, y] => {
-            let white = put(king_told(pawns, k, n / 64 / 64 / 64), from, to);
-            let black = put(man(b, n / 64 / 64 % 64), from, to);
-            let further = put(man(x, n / 64 % 64), from, to);
-            let men = [white, black, further, put(man(y, n % 64), from, to)];
+            let white = king_told(pawns, k, n / 64 / 64 / 64).moved(from, to);
+            let black = man(b, n / 64 / 64 % 64).moved(from, to);
+            let further = man(x, n / 64 % 64).moved(from, to);
+            let men = [white, black, further, man(y, n % 64).moved(from, to)];
             least_of(frame, &men)
         }
         _ => unreachable!(),

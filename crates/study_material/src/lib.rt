@@ -14,4 +14,4 @@ pub use class::{CLASS_COUNT, Class};
 pub use fault::ClassFault;
 pub use laws::{moves_lead_into_needs, needs_come_first, positions_have_one_class};
 pub use material::class_of;
-pub use reached::{needs, order};
+pub use reached::{classes_by_size, needs, order};

@@ -1,7 +1,7 @@
 //! Which classes a class needs: those that one move can lead to.
 ghost use Rattle.std.specs.Prelude.{◌≡◌, ◌≤◌, length};
 ghost use Rattle.study_material.specs.Class.{lists_of};
-ghost use Rattle.study_material.specs.Needs.{needs_of, IsOrder};
+ghost use Rattle.study_material.specs.Needs.{needs_of, by_size, IsOrder};
 
 use crate::{CLASS_COUNT, Class};
 use arrayvec::ArrayVec;
@@ -155,4 +155,52 @@ fn ordered_of_both(class: Class) -> &'static [Class]
         ],
         _ => unreachable!(),
     }
+}
+
+const BY_SIZE: [Class; CLASS_COUNT] = [
+    Class::KK,
+    Class::KQK,
+    Class::KRK,
+    Class::KBK,
+    Class::KNK,
+    Class::KPK,
+    Class::KQQK,
+    Class::KQRK,
+    Class::KQBK,
+    Class::KQNK,
+    Class::KRRK,
+    Class::KRBK,
+    Class::KRNK,
+    Class::KBBK,
+    Class::KBNK,
+    Class::KNNK,
+    Class::KQKQ,
+    Class::KQKR,
+    Class::KQKB,
+    Class::KQKN,
+    Class::KRKR,
+    Class::KRKB,
+    Class::KRKN,
+    Class::KBKB,
+    Class::KBKN,
+    Class::KNKN,
+    Class::KQPK,
+    Class::KRPK,
+    Class::KBPK,
+    Class::KNPK,
+    Class::KQKP,
+    Class::KRKP,
+    Class::KBKP,
+    Class::KNKP,
+    Class::KPPK,
+    Class::KPKP,
+];
+
+/// All classes, by number of men, number of pawns, and index in the class list: each after those that it needs.
+#[tactic(auto, using(crate::proofs::NeedsTables::by_size_is))]
+pub fn classes_by_size() -> &'static [Class]
+    ensures value { result.now ≡ by_size }
+    ensures few { length result.now ≤ 36 }
+{
+    &BY_SIZE
 }

@@ -2,16 +2,15 @@
 ghost use Rattle.std.specs.Prelude.{◌≡◌, ◌++◌, ◌∷◌, [], IfSome, OnOk, OnErr};
 ghost use Rattle.study_material.specs.Class.{class_list};
 ghost use Rattle.study_reply.specs.Names.{words_of};
-ghost use Rattle.study_script.specs.StoreRefusals.{refusal_of_paged};
 ghost use Rattle.study_report_program.specs.Errors.{file_fault_text, IsFaultOrNone, AreFaultsOf};
 
 use std::alloc::{AllocError, Allocator};
 use std::io::Write;
 use study_material::Class;
-use study_prober::{PagedFault, PagedTables};
+use study_prober::PagedTables;
 use study_reply::{Refusal, refuse};
 use study_report::without_error;
-use study_script::{StoreFault, TableStore};
+use study_script::{StoreFault, TableStore, refusal_of_paged};
 use study_text::{MemoryWriter, Text, write_text};
 
 /// Why the file of a class is not a table.
@@ -19,19 +18,6 @@ use study_text::{MemoryWriter, Text, write_text};
 enum NoTable {
     NoFile,
     Fault(Refusal),
-}
-
-/// A fault of a source of pages, in the words of a script's reply.
-fn refusal_of(fault: PagedFault) -> Refusal
-    ensures { result ≡ refusal_of_paged fault }
-{
-    match fault {
-        PagedFault::AlreadyHeld(class) => Refusal::AlreadyHeld(class),
-        PagedFault::TableRead(fault) => Refusal::TableRead(fault),
-        PagedFault::Header(fault) => Refusal::File(fault),
-        PagedFault::OtherClass(class) => Refusal::OtherClass(class),
-        PagedFault::OutOfMemory => Refusal::OutOfMemory,
-    }
 }
 
 /// Opens the file of a class by pages.
@@ -47,7 +33,7 @@ fn open_table<'a, S: TableStore, A: Allocator>(
         Err(StoreFault::Device) => Err(NoTable::Fault(Refusal::Device)),
         Ok(source) => match tables.add(class, source) {
             Ok(()) => Ok(()),
-            Err(fault) => Err(NoTable::Fault(refusal_of(fault))),
+            Err(fault) => Err(NoTable::Fault(refusal_of_paged(fault))),
         },
     }
 }

@@ -10,14 +10,13 @@ use Rattle.study_board.specs.declared.men.Side.{Side}
 use Rattle.study_board.specs.declared.men.Kind.TheVariants.{King}
 use Rattle.study_board.specs.declared.men.Man.{Man}
 use Rattle.study_board.specs.Geometry.{strictly_between}
-use Rattle.study_board.specs.Men.{bears_on, is_blocked, is_man, other_side, reaches, same_kind, same_side}
+use Rattle.study_board.specs.Men.{bears_on, is_blocked, is_man, other_side, reaches, same_kind, same_side, moved_if}
 use Rattle.study_board.specs.Position.{in_check, is_occupied}
 use Rattle.study_board.specs.Sets.{has, is_slider, reaches_if}
 use Rattle.study_board.proofs.Faults.{list_any_same}
 use Rattle.study_board.proofs.Lists.{count_by-cons}
 use Rattle.study_moves.proofs.KingSafety.{not_at_end}
 use Rattle.study_moves.proofs.MenOfList.{IsAmong, none_among}
-use Rattle.study_index.specs.Moved.{from_to}
 use Rattle.study_retro.specs.RowMoves.{AreApart, AreBearers, AreRest, IsOnlyKing, attacked_with_last, bears_past, bears_with, gone_to}
 use Rattle.study_retro.specs.RowMoves.{king_attacked_with, stands_aside}
 use Rattle.study_retro.specs.declared.row_checks.Bearer.{Bearer}
@@ -176,11 +175,11 @@ module _ (man : Man) (to : ℕ) where
   one_moved p false x = sym (or_none (p x))
 
   -- a man that stays, or one that has gone
-  each_moved : (p : Man → Bool) (xs : List Man) → list_any p (map (from_to man.at to) xs)
+  each_moved : (p : Man → Bool) (xs : List Man) → list_any p (map (moved_if man.at to) xs)
       ≡ (list_any (λ m. not (m.at == man.at) && p m) xs || list_any (λ m. (m.at == man.at) && p (on_square m to)) xs)
   each_moved p [] = refl
   each_moved p (x ∷ xs) =
-      ap (λ (b : Bool). b || list_any p (map (from_to man.at to) xs)) (one_moved p (x.at == man.at) x)
+      ap (λ (b : Bool). b || list_any p (map (moved_if man.at to) xs)) (one_moved p (x.at == man.at) x)
       ∙ ap (λ (b : Bool). ((not (x.at == man.at) && p x) || ((x.at == man.at) && p (on_square x to))) || b) (each_moved p xs)
       ∙ crosswise (not (x.at == man.at) && p x) ((x.at == man.at) && p (on_square x to))
       (list_any (λ m. not (m.at == man.at) && p m) xs) (list_any (λ m. (m.at == man.at) && p (on_square m to)) xs)
@@ -219,7 +218,7 @@ module _ (man : Man) (to : ℕ) where
 module _ (others staying : List Man) (last man : Man) (to y : ℕ) (among : Contains others man) (rest : AreRest others man.at staying)
     (apart : AreApart (others ++ on_square last y ∷ [])) where
   abbrev pub moved : List Man
-  moved = map (from_to man.at to) others
+  moved = map (moved_if man.at to) others
 
   abbrev z : Man
   z = on_square man to
@@ -330,13 +329,13 @@ module _ (others : List Man) (last : Man) (from to y : ℕ) (side : Side) where
   one_king men false m = refl
 
   pub check_by_king : (k : ℕ) → IsOnlyKing others side k → same_kind last.kind King ≡ false
-      → attacked_with_last (map (from_to from to) others) last (other_side side) (gone_to from to k) y
-      ≡ in_check (map (from_to from to) others ++ on_square last y ∷ []) side
+      → attacked_with_last (map (moved_if from to) others) last (other_side side) (gone_to from to k) y
+      ≡ in_check (map (moved_if from to) others ++ on_square last y ∷ []) side
   check_by_king k only none =
-      let men = map (from_to from to) others in
+      let men = map (moved_if from to) others in
       let f : ℕ → Bool = λ a. attacked_with_last men last (other_side side) (gone_to from to a) y in
       sym (sym (row_check men last y side none)
-      ∙ any_map (king_attacked_with men last side y) (from_to from to) others
-      ∙ list_any_same (λ m. king_attacked_with men last side y (from_to from to m)) (λ m. is_man side King m && f m.at)
+      ∙ any_map (king_attacked_with men last side y) (moved_if from to) others
+      ∙ list_any_same (λ m. king_attacked_with men last side y (moved_if from to m)) (λ m. is_man side King m && f m.at)
       (λ m. one_king men (m.at == from) m) others
       ∙ only f)

@@ -9,7 +9,7 @@ use Rattle.std.proofs.lemmas.List.Sorted.{IsPermutation-trans, IsPermutation-sym
 use Rattle.study_board.specs.declared.men.Side.{Side}
 use Rattle.study_board.specs.declared.men.Side.TheVariants.{White, Black}
 use Rattle.study_board.specs.declared.men.Man.{Man}
-use Rattle.study_board.specs.Men.{other_side}
+use Rattle.study_board.specs.Men.{other_side, moved_if}
 use Rattle.study_board.specs.Position.{Position, IsValid, is_occupied}
 use Rattle.study_moves.specs.declared.moves.Move.{Move}
 use Rattle.study_moves.specs.Rules.{is_legal, after, is_en_passant}
@@ -24,7 +24,7 @@ use Rattle.study_values.specs.Number.{with_bit, without_bit, has_both_pawns, cel
 use Rattle.study_index.specs.Decoded.{slots_of, told_men, told_side}
 use Rattle.study_index.specs.Computed.{position_numbered}
 use Rattle.study_values.specs.Index.{index_of, least_number}
-use Rattle.study_index.specs.Moved.{from_to, IsMoved}
+use Rattle.study_index.specs.Moved.{IsMoved}
 use Rattle.study_index.proofs.ClassLaws.{entry}
 use Rattle.study_index.proofs.ComputedIndex.{told_decoded}
 use Rattle.study_index.proofs.DecodedNumbers.{told_of}
@@ -42,27 +42,27 @@ use Rattle.study_retro.proofs.EarlierChess.{lands_home, numbered_index, valid_wi
 use Rattle.study_retro.proofs.Twins.{dead_twinless}
 
 -- a man that moves to an empty square and back
-man_back : (x a : ℕ) (m : Man) → (m.at == a) ≡ false → from_to a x (from_to x a m) ≡ m
+man_back : (x a : ℕ) (m : Man) → (m.at == a) ≡ false → moved_if a x (moved_if x a m) ≡ m
 man_back x a m e = by_test (m.at == x) refl
   where
-    by_test : (b : Bool) → (m.at == x) ≡ b → from_to a x (cond b (let r : Man = record { side = m.side; kind = m.kind; at = a } in r) m) ≡ m
+    by_test : (b : Bool) → (m.at == x) ≡ b → moved_if a x (cond b (let r : Man = record { side = m.side; kind = m.kind; at = a } in r) m) ≡ m
     by_test true t =
         let same : eqb a a ≡ true = grind (arith, nat_tests) in
         let at : x ≡ m.at = sym (eqb-true m.at x t) in
         rw same (ap (λ (y : ℕ). let r : Man = record { side = m.side; kind = m.kind; at = y } in r) at)
     by_test false t = rw e refl
 
-men_back : (x a : ℕ) (ms : List Man) → is_occupied ms a ≡ false → map (from_to a x) (map (from_to x a) ms) ≡ ms
+men_back : (x a : ℕ) (ms : List Man) → is_occupied ms a ≡ false → map (moved_if a x) (map (moved_if x a) ms) ≡ ms
 unfolding is_occupied
 men_back x a [] e = refl
 men_back x a (m ∷ ms) e = by_test (m.at == a) refl e (men_back x a ms)
   where
     by_test : (b : Bool) → (m.at == a) ≡ b → (b || list_any (λ y. y.at == a) ms) ≡ false
-        → (list_any (λ y. y.at == a) ms ≡ false → map (from_to a x) (map (from_to x a) ms) ≡ ms)
-        → from_to a x (from_to x a m) ∷ map (from_to a x) (map (from_to x a) ms) ≡ m ∷ ms
+        → (list_any (λ y. y.at == a) ms ≡ false → map (moved_if a x) (map (moved_if x a) ms) ≡ ms)
+        → moved_if a x (moved_if x a m) ∷ map (moved_if a x) (map (moved_if x a) ms) ≡ m ∷ ms
     by_test true t o f = absurd (let no : true ≡ false = o in cc)
     by_test false t o f =
-        ap (λ (z : Man). z ∷ map (from_to a x) (map (from_to x a) ms)) (man_back x a m t) ∙ ap (λ (zs : List Man). m ∷ zs) (f o)
+        ap (λ (z : Man). z ∷ map (moved_if a x) (map (moved_if x a) ms)) (man_back x a m t) ∙ ap (λ (zs : List Man). m ∷ zs) (f o)
 
 other_again : (s : Side) → other_side (other_side s) ≡ s
 other_again White = refl
@@ -86,8 +86,8 @@ module _ (c : Class) (n : ℕ) (q : Position) (at : position_numbered c n ≡ So
   pub moved_before : (r : Position) (m : Move) → LeadsQuietly r m q → IsMoved c n m.target m.origin r
   moved_before r m b =
       let t = told_of c n q (told_decoded c n q at) in
-      let f = from_to m.origin m.target in
-      let g = from_to m.target m.origin in
+      let f = moved_if m.origin m.target in
+      let g = moved_if m.target m.origin in
       let told = told_men (slots_of c) (without_bit n) in
       let men : (after r m).men ≡ q.men = ap (λ (p : Position). p.men) b.leads in
       let turn : (after r m).to_move ≡ q.to_move = ap (λ (p : Position). p.to_move) b.leads in
@@ -141,7 +141,7 @@ module _ (c : Class) (n : ℕ) (q : Position) (at : position_numbered c n ≡ So
         let d = told_decoded c n q at in
         let t = told_of c n q d in
         let told = told_men (slots_of c) (without_bit n) in
-        let f = from_to m.origin m.target in
+        let f = moved_if m.origin m.target in
         let moved = quiet_men q m d.valid legal no_passing quiet in
         record {
           valid = valid_without (after q m) (IsValid-after q m d.valid legal);

@@ -18,7 +18,7 @@ use Rattle.study_board.specs.declared.men.Kind.{Kind}
 use Rattle.study_board.specs.declared.men.Kind.TheVariants.{King, Queen, Rook, Bishop, Knight, Pawn}
 use Rattle.study_board.specs.EqualLaws.{kinds_equal}
 use Rattle.study_board.specs.Geometry.{file_of, rank_of}
-use Rattle.study_board.specs.Men.{same_side, other_side, is_man, is_pawn}
+use Rattle.study_board.specs.Men.{same_side, other_side, is_man, is_pawn, moved_if}
 use Rattle.study_board.specs.Position.{Position, IsValid, AllAbove, IsAscending, is_occupied, has_man, man_at}
 use Rattle.study_moves.specs.declared.moves.Move.{Move}
 use Rattle.study_moves.specs.Rules.{is_en_passant, is_square, has_side, survives, moved, is_legal, after, is_promotion_choice, is_promotion_piece, reaches_last_rank, last_rank}
@@ -32,7 +32,6 @@ use Rattle.study_material.specs.Class.{IsOf}
 use Rattle.study_material.proofs.KindCounts.{lists-IsPermutation}
 use Rattle.study_material.proofs.MenBesideKings.{one_king}
 use Rattle.study_material.proofs.MenAfterMove.{goes_away, IsStep-move}
-use Rattle.study_index.specs.Moved.{from_to}
 use Rattle.study_index.proofs.Fillings.{AreApart-ascending}
 use Rattle.study_index.proofs.AddedNumbers.{moves_there, none_moves}
 use Rattle.study_material.proofs.MovesOn.{passed_there, passed_empty}
@@ -382,9 +381,9 @@ module _ (p : Position) (m : Move) (v : IsValid p) (legal : is_legal p m ≡ tru
         (lists-IsPermutation (mover ∷ left) p.men (IsPermutation-sym p.men (mover ∷ left) (before_alone q.0)))
 
     -- the men after it are the men before it, with the mover on its target
-    pub quiet_men : IsQuiet p m → IsPermutation (map (from_to m.origin m.target) p.men) (after p m).men
+    pub quiet_men : IsQuiet p m → IsPermutation (map (moved_if m.origin m.target) p.men) (after p m).men
     quiet_men q =
-        let f = from_to m.origin m.target in
+        let f = moved_if m.origin m.target in
         let at : mover.at ≡ m.origin = found.1 in
         let one = AreApart-ascending p.men v.ordered m.origin in
         let count = sum_by-IsPermutation (λ (y : Man). cond (y.at == m.origin) 1 0) p.men (mover ∷ left) (before_alone q.0) in

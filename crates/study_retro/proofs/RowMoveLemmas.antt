@@ -16,7 +16,7 @@ use Rattle.study_board.specs.declared.men.Kind.TheVariants.{King, Queen, Rook, B
 use Rattle.study_board.specs.declared.men.Man.{Man}
 use Rattle.study_board.specs.EqualLaws.{sides_equal}
 use Rattle.study_board.specs.Geometry.{file_of, rank_of, strictly_between}
-use Rattle.study_board.specs.Men.{bears_on, is_pawn, other_side, pawn_captures, reaches, same_kind, same_side}
+use Rattle.study_board.specs.Men.{bears_on, is_pawn, other_side, pawn_captures, reaches, same_kind, same_side, moved_if}
 use Rattle.study_board.specs.Position.{Position, IsValid, in_check, is_empty, is_occupied}
 use Rattle.study_board.specs.Sets.{has, is_slider}
 use Rattle.study_board.proofs.Faults.{in_check_same}
@@ -32,7 +32,6 @@ use Rattle.study_moves.proofs.MenOfList.{IsAmong, none_among}
 use Rattle.study_moves.proofs.PutBack.{stays_plain}
 use Rattle.study_moves.proofs.QuietChecks.{in_check_before, is_occupied_is, no_side_there}
 use Rattle.study_moves.proofs.SafeTargets.{none_passed}
-use Rattle.study_index.specs.Moved.{from_to}
 use Rattle.study_index.proofs.AddedNumbers.{moves_there, none_moves}
 use Rattle.study_index.proofs.Fillings.{AreApart-ascending}
 use Rattle.study_retro.specs.RowMoves.{AreApart, goes_quietly, hinders, lets_pass, pawn_goes}
@@ -227,7 +226,7 @@ all_survive man a (x ∷ xs) e f =
 
 module _ (man : Man) (a : ℕ) where
   abbrev f : Man → Man
-  f = from_to man.at a
+  f = moved_if man.at a
 
   abbrev z : Man
   z = on_square man a
@@ -361,13 +360,13 @@ module _ (others : List Man) (last : Man) (y : ℕ) where
 
   module _ (man : Man) (a : ℕ) (among : IsAmong man men) (apart : AreApart men) (side : Side) where
     check_moved : is_occupied men a ≡ false
-        → in_check (on_square man a ∷ filter (survives None man a) men) side ≡ in_check (map (from_to man.at a) men) side
+        → in_check (on_square man a ∷ filter (survives None man a) men) side ≡ in_check (map (moved_if man.at a) men) side
     check_moved free =
-        sym (in_check_same (map (from_to man.at a) men) (on_square man a ∷ filter (survives None man a) men)
+        sym (in_check_same (map (moved_if man.at a) men) (on_square man a ∷ filter (survives None man a) men)
         (moved_men man a men among (apart man.at) free) side)
 
     check_before : same_side man.side (other_side side) ≡ true → is_occupied men a ≡ false
-        → was_check men side man a ≡ in_check (map (from_to man.at a) men) side
+        → was_check men side man a ≡ in_check (map (moved_if man.at a) men) side
     unfolding men_before
     check_before his free =
         sym (in_check_before men man a free side (sides_equal man.side (other_side side) his))
@@ -375,7 +374,7 @@ module _ (others : List Man) (last : Man) (y : ℕ) where
         (IsPermutation-placed (on_square man a) (filter (survives None man a) men)) side)
         ∙ check_moved free
 
-    check_after : same_side man.side side ≡ true → is_occupied men a ≡ false → is_unsafe men side man a ≡ in_check (map (from_to man.at a) men) side
+    check_after : same_side man.side side ≡ true → is_occupied men a ≡ false → is_unsafe men side man a ≡ in_check (map (moved_if man.at a) men) side
     check_after mine free =
         sym (in_check_after men None man a side (on_square man a) refl mine (none_passed None man a refl) (no_side_there men side a free) refl)
         ∙ check_moved free
@@ -398,22 +397,22 @@ module _ (others : List Man) (last : Man) (y : ℕ) where
     among_all (x ∷ xs) (inl s) = inl s
     among_all (x ∷ xs) (inr i) = inr (among_all xs i)
 
-    moved_with : map (from_to man.at a) men ≡ map (from_to man.at a) others ++ l ∷ []
+    moved_with : map (moved_if man.at a) men ≡ map (moved_if man.at a) others ++ l ∷ []
     moved_with =
-        let stays : from_to man.at a l ≡ l = rw (last_elsewhere others (among-of others man among) (apart man.at)) refl in
-        map-append (from_to man.at a) others (l ∷ []) ∙ ap (λ (m : Man). map (from_to man.at a) others ++ m ∷ []) stays
+        let stays : moved_if man.at a l ≡ l = rw (last_elsewhere others (among-of others man among) (apart man.at)) refl in
+        map-append (moved_if man.at a) others (l ∷ []) ∙ ap (λ (m : Man). map (moved_if man.at a) others ++ m ∷ []) stays
 
     among_men : IsAmong man men
     among_men = among_all others (among-of others man among)
 
-    check_with : (side : Side) → in_check (map (from_to man.at a) men) side ≡ in_check (map (from_to man.at a) others ++ l ∷ []) side
+    check_with : (side : Side) → in_check (map (moved_if man.at a) men) side ≡ in_check (map (moved_if man.at a) others ++ l ∷ []) side
     check_with side = ap (λ (ms : List Man). in_check ms side) moved_with
 
     -- the squares of the last man with which the man can have come from a square
     pub led_with : (side : Side) → same_side man.side (other_side side) ≡ true → comes others man a ≡ true
         → lets_pass others last side man.at a y ≡ came_from men side man a
     led_with side his e =
-        letting (hinders man.at a y) (in_check (map (from_to man.at a) others ++ l ∷ []) side) (comes men man a) (was_check men side man a)
+        letting (hinders man.at a y) (in_check (map (moved_if man.at a) others ++ l ∷ []) side) (comes men man a) (was_check men side man a)
         (comes_with man a e)
         (λ k. check_before man a among_men apart side his (free_if_comes men man a k) ∙ check_with side)
 
@@ -422,7 +421,7 @@ module _ (others : List Man) (last : Man) (y : ℕ) where
         → lets_pass others last side man.at a y ≡ (is_safe_target men side man a && not (is_occupied men a))
     unfolding is_safe_target
     going_with side mine e =
-        letting_go (hinders man.at a y) (in_check (map (from_to man.at a) others ++ l ∷ []) side) (reaches_target men None man a) (has_side men side a)
+        letting_go (hinders man.at a y) (in_check (map (moved_if man.at a) others ++ l ∷ []) side) (reaches_target men None man a) (has_side men side a)
         (is_unsafe men side man a) (is_occupied men a) (goes_with man a e) (no_side_there men side a)
         (λ k. check_after man a among_men apart side mine k ∙ check_with side)
 
@@ -478,13 +477,13 @@ module _ (others : List Man) (last : Man) (y : ℕ) where
 
   module _ (side : Side) (check : ℕ) (tells : (a : ℕ) → a < 64 → has check a ≡ in_check (others ++ on_square last a ∷ []) side)
       (apart : AreApart men) (a : ℕ) (on : a < 64) where
-    moved_itself : map (from_to y a) men ≡ others ++ on_square last a ∷ []
+    moved_itself : map (moved_if y a) men ≡ others ++ on_square last a ∷ []
     moved_itself =
-        map-append (from_to y a) others (l ∷ [])
-        ∙ ap (λ (ms : List Man). ms ++ from_to y a l ∷ []) (none_moves y a others (none_there apart))
+        map-append (moved_if y a) others (l ∷ [])
+        ∙ ap (λ (ms : List Man). ms ++ moved_if y a l ∷ []) (none_moves y a others (none_there apart))
         ∙ ap (λ (m : Man). others ++ m ∷ []) (moves_there y a l (eq-eqb y y refl))
 
-    check_itself : in_check (map (from_to y a) men) side ≡ has check a
+    check_itself : in_check (map (moved_if y a) men) side ≡ has check a
     check_itself = ap (λ (ms : List Man). in_check ms side) moved_itself ∙ sym (tells a on)
 
     -- its possible origins, and its targets without a capture

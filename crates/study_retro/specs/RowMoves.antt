@@ -5,11 +5,10 @@ use Rattle.study_board.specs.declared.men.Side.{Side}
 use Rattle.study_board.specs.declared.men.Kind.TheVariants.{King}
 use Rattle.study_board.specs.declared.men.Man.{Man}
 use Rattle.study_board.specs.Geometry.{rank_of, strictly_between}
-use Rattle.study_board.specs.Men.{bears_on, is_man, other_side, same_side}
+use Rattle.study_board.specs.Men.{bears_on, is_man, other_side, same_side, moved_if}
 use Rattle.study_board.specs.Position.{in_check, is_empty, is_occupied}
 use Rattle.study_board.specs.Sets.{has, is_slider}
 use Rattle.study_moves.specs.Rules.{half_way, is_ahead, reaches_target, starting_rank}
-use Rattle.study_index.specs.Moved.{from_to}
 use Rattle.study_retro.specs.declared.row_checks.Bearer.{Bearer}
 use Rattle.study_retro.specs.Still.{facing, on_square}
 
@@ -42,7 +41,7 @@ hinders from to y = strictly_between from y to || (to == y)
 
 -- the last man on y is not in the way, and no king of the side is attacked after the man has gone from the first square to the second
 abbrev pub lets_pass : List Man → Man → Side → ℕ → ℕ → ℕ → Bool
-lets_pass others last side from to y = not (hinders from to y || in_check (map (from_to from to) others ++ on_square last y ∷ []) side)
+lets_pass others last side from to y = not (hinders from to y || in_check (map (moved_if from to) others ++ on_square last y ∷ []) side)
 
 -- with the last man on y some man of the side, the last or another, bears on x
 abbrev pub attacked_with_last : List Man → Man → Side → ℕ → ℕ → Bool

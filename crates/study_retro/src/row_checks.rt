@@ -3,10 +3,9 @@ ghost use Rattle.std.specs.Prelude.{◌≡◌, ◌<◌, ◌≤◌, ◌&&◌, ◌
 ghost use Rattle.std.specs.List.{list_any, Contains};
 ghost use Rattle.study_board.specs.declared.men.Kind.TheVariants.{King};
 ghost use Rattle.study_board.specs.Geometry.{strictly_between};
-ghost use Rattle.study_board.specs.Men.{bears_on, other_side, same_kind, same_side};
+ghost use Rattle.study_board.specs.Men.{bears_on, other_side, same_kind, same_side, moved_if};
 ghost use Rattle.study_board.specs.Position.{in_check};
 ghost use Rattle.study_board.specs.Sets.{has, is_slider};
-ghost use Rattle.study_index.specs.Moved.{from_to};
 ghost use Rattle.study_retro.specs.RowMoves.{AreApart, AreBearers, AreRest, AreStaying, IsOnlyKing, attacked_with_last};
 ghost use Rattle.study_retro.specs.RowMoves.{bears_past, bears_with, gone_to, king_attacked_with, stands_aside};
 ghost use Rattle.study_retro.specs.Still.{facing, on_square};
@@ -320,22 +319,6 @@ fn squares_attacking_past(
     set
 }
 
-/// The man, on `to` if it stands on `from`.
-#[inline]
-fn put(man: &Man, from: Square, to: Square) -> Man
-    ensures { result ≡ from_to from to man.now }
-{
-    if man.at == from {
-        Man {
-            side: man.side,
-            kind: man.kind,
-            at: to,
-        }
-    } else {
-        *man
-    }
-}
-
 /// The squares of the man of the last slot with which the square is attacked by it or by men that stay, given the squares on
 /// which the men of the side bear without it.
 #[inline(always)]
@@ -417,7 +400,7 @@ fn squares_attacking_after(
         staying.now.king staying.now.checks staying.now.checks_of_man }
     requires king { staying.now.king ≡ Some king }
     ensures { (y : ℕ) → y < 64 → AreApart (others.now ++ on_square last.now y ∷ []) → has result y
-        ≡ attacked_with_last (map (from_to man.now.at to) others.now) last.now (other_side side) (gone_to man.now.at to king) y }
+        ≡ attacked_with_last (map (moved_if man.now.at to) others.now) last.now (other_side side) (gone_to man.now.at to king) y }
 {
     let _read = (others.len(), king.number(), to.number());
     let by = side.other();
@@ -437,11 +420,11 @@ fn squares_attacking_after(
 #[inline]
 fn with_man_on(others: &[Man], from: Square, to: Square) -> ArrayVec<Man, 4>
     requires { length others.now ≤ 4 }
-    ensures { result.items ≡ map (from_to from to) others.now }
+    ensures { result.items ≡ map (moved_if from to) others.now }
 {
     let mut list = ArrayVec::new();
     for man in others {
-        list.push(put(man, from, to));
+        list.push(man.moved(from, to));
     }
     list
 }
@@ -462,7 +445,7 @@ pub fn squares_of_check_after(
     requires staying { AreStaying others.now last.now man.now side staying.now.men.items staying.now.bearers.items staying.now.attacked
         staying.now.king staying.now.checks staying.now.checks_of_man }
     ensures { (y : ℕ) → y < 64 → AreApart (others.now ++ on_square last.now y ∷ [])
-        → has result y ≡ in_check (map (from_to man.now.at to) others.now ++ on_square last.now y ∷ []) side }
+        → has result y ≡ in_check (map (moved_if man.now.at to) others.now ++ on_square last.now y ∷ []) side }
 {
     match staying.king {
         Some(king) => squares_attacking_after(others, staying, last, side, man, to, king),

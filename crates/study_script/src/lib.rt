@@ -25,4 +25,5 @@ pub use memory_store::{MemoryFile, MemoryStore, SharedWriter};
 pub use running::{RunFault, Settings, Summary, run, run_session};
 pub use session::{Interpreter, Session};
 pub use store::{StoreFault, TableStore};
+pub use table_commands::refusal_of_paged;
 pub use tables::Tables;

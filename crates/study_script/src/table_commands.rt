@@ -250,7 +250,8 @@ fn open_class<'a, S: TableStore, A: Allocator>(
     }
 }
 
-fn refusal_of_paged(fault: PagedFault) -> Refusal
+/// Why a source of pages is not kept, as a script's reply has it.
+pub fn refusal_of_paged(fault: PagedFault) -> Refusal
     ensures { result ≡ refusal_of_paged fault }
 {
     match fault {

@@ -8,7 +8,7 @@ use Rattle.study_board.specs.Position.{Position, IsValid, in_order}
 use Rattle.study_board.specs.declared.men.Man.{Man}
 use Rattle.study_board.specs.declared.men.Side.{Side}
 use Rattle.study_board.specs.declared.men.Side.TheVariants.{White, Black}
-use Rattle.study_board.specs.Men.{same_side}
+use Rattle.study_board.specs.Men.{same_side, moved_if}
 use Rattle.study_board.proofs.MenInOrder.{IsPermutation-in_order}
 use Rattle.study_material.specs.Lists.{lists, kinds_of, put_kind, ordered, of, is_other_than_king, Lists}
 use Rattle.study_material.proofs.KindCounts.{lists-IsPermutation}
@@ -23,7 +23,7 @@ use Rattle.study_values.specs.declared.value.Value.{Value}
 use Rattle.study_facts.specs.declared.continuation.Continuation.{Continuation}
 use Rattle.study_facts.proofs.Chosen.{all-first}
 use Rattle.study_view.specs.Shown.{IsPlayedIn}
-use Rattle.study_view.specs.Survey.{moved_man, moved_men, by_moves, stood, stood_fault, squares_but, IsStanding, IsTold, AreStandings}
+use Rattle.study_view.specs.Survey.{moved_men, by_moves, stood, stood_fault, squares_but, IsStanding, IsTold, AreStandings}
 
 range-step : (n : ℕ) → n < 64 → range_with_len n (64 - n) ≡ n ∷ range_with_len (n + 1) (64 - (n + 1))
 range-step n lt =
@@ -80,10 +80,10 @@ by-legal q v (x ∷ y ∷ l) h = tt
 
 -- ---- the material of the position with a man on another square
 
-moved-kind : (from to : ℕ) (m : Man) → (moved_man from to m).kind ≡ m.kind
+moved-kind : (from to : ℕ) (m : Man) → (moved_if from to m).kind ≡ m.kind
 moved-kind from to m = elim (m.at == from) as (λ b. (cond b (record m { at = to }) m).kind ≡ m.kind) [ true ↦ refl | false ↦ refl ]
 
-moved-side : (from to : ℕ) (m : Man) → (moved_man from to m).side ≡ m.side
+moved-side : (from to : ℕ) (m : Man) → (moved_if from to m).side ≡ m.side
 moved-side from to m = elim (m.at == from) as (λ b. (cond b (record m { at = to }) m).side ≡ m.side) [ true ↦ refl | false ↦ refl ]
 
 moved-kinds : (side : Side) (from to : ℕ) (men : List Man) → kinds_of side (moved_men from to men) ≡ kinds_of side men

@@ -6,7 +6,7 @@ use Rattle.std.specs.List.{All, Contains, filter, range_with_len}
 use Rattle.std.proofs.lemmas.Bool.{false≢true, cases_Bool}
 use Rattle.std.proofs.lemmas.List.Elements.{All-map}
 use Rattle.std.proofs.lemmas.List.Sorted.{All-permutation}
-use Rattle.study_board.specs.Men.{same_side}
+use Rattle.study_board.specs.Men.{same_side, moved_if}
 use Rattle.study_board.specs.declared.men.Man.{Man}
 use Rattle.study_board.specs.declared.fault.PositionFault.{PositionFault}
 use Rattle.study_board.specs.Position.{Position, IsValid, in_order, first_fault}
@@ -32,7 +32,7 @@ use Rattle.study_facts.specs.Continuations.{chosen, AreHoldingMoves}
 use Rattle.study_view.specs.declared.squares.Standing.{Standing}
 use Rattle.study_view.specs.declared.squares.Standing.TheVariants.{Impossible, Fails, Holds, HoldsBy, Only}
 use Rattle.study_view.specs.declared.squares.Stood.{Stood}
-use Rattle.study_view.specs.Survey.{moved_man, moved_men, stood, stood_fault, aim_in, by_moves, other_squares, IsToldBy, IsTold, IsStanding, AreStandings}
+use Rattle.study_view.specs.Survey.{moved_men, stood, stood_fault, aim_in, by_moves, other_squares, IsToldBy, IsTold, IsStanding, AreStandings}
 use Rattle.study_view.specs.Told.{Keeps, IsOnlyWay, SurveysTellTheGame}
 
 -- ---- selected moves
@@ -161,9 +161,9 @@ module _ (law : EachHasAtMostOneValue) (st : Stipulation) (q : Position) (valid 
 -- ---- the man on another square
 
 moved-within : (from x : ℕ) (men : List Man) → x < 64 → All (λ m. m.at < 64) men → All (λ m. m.at < 64) (moved_men from x men)
-moved-within from x men lt all = All-map (λ (m : Man). m.at < 64) (moved_man from x) men (λ k d i. one _ (all k d i))
+moved-within from x men lt all = All-map (λ (m : Man). m.at < 64) (moved_if from x) men (λ k d i. one _ (all k d i))
   where
-    one : (m : Man) → m.at < 64 → (moved_man from x m).at < 64
+    one : (m : Man) → m.at < 64 → (moved_if from x m).at < 64
     one m h = elim (m.at == from) as (λ b. (cond b (record m { at = x }) m).at < 64) [ true ↦ lt | false ↦ h ]
 
 stood-valid : (p : Position) (from x : ℕ) → IsValid p → x < 64 → stood_fault p from x ≡ None → IsValid (stood p from x)

@@ -5,7 +5,7 @@ use Rattle.std.specs.List.{filter, flat_map, range_with_len}
 use Rattle.study_board.specs.declared.men.Man.{Man}
 use Rattle.study_board.specs.declared.fault.PositionFault.{PositionFault}
 use Rattle.study_board.specs.Letters.{letter}
-use Rattle.study_board.specs.Men.{same_side}
+use Rattle.study_board.specs.Men.{same_side, moved_if}
 use Rattle.study_board.specs.Position.{Position, in_order, man_at, first_fault}
 use Rattle.study_notation.specs.FenSpelling.{square_text}
 use Rattle.study_notation.specs.Written.{move_text}
@@ -23,11 +23,8 @@ use Rattle.study_view.specs.declared.squares.Standing.TheVariants.{Impossible, F
 use Rattle.study_view.specs.declared.squares.Stood.{Stood}
 
 -- the men, with the man of one square moved to another
-abbrev pub moved_man : ℕ → ℕ → Man → Man
-moved_man from to m = if m.at == from then record m { at = to } else m
-
 abbrev pub moved_men : ℕ → ℕ → List Man → List Man
-moved_men from to men = map (moved_man from to) men
+moved_men from to men = map (moved_if from to) men
 
 -- the position with the man of one square on another, otherwise unchanged
 abbrev pub stood : Position → ℕ → ℕ → Position

@@ -3,60 +3,14 @@ ghost use Rattle.std.specs.Prelude.{◌≡◌, ◌↔◌, ◌≤◌, ◌<◌, �
 ghost use Rattle.std.specs.List.{Contains};
 ghost use Rattle.arrayvec.specs.ArrayVec.{array_vec_len};
 ghost use Rattle.study_material.specs.declared.class.Class.{Class as AClass};
-ghost use Rattle.study_material.specs.Needs.{NeedsClass, by_size};
+ghost use Rattle.study_material.specs.Needs.{NeedsClass};
 ghost use Rattle.study_view.specs.Setup.{IsNeededBy, AreThose, AreClassesNeeded};
 
 use arrayvec::ArrayVec;
 use study_board::Position;
-use study_material::{CLASS_COUNT, Class, class_of, order, positions_have_one_class};
-
-/// By number of men, number of pawns, and index in the class list.
-const BY_SIZE: [Class; CLASS_COUNT] = [
-    Class::KK,
-    Class::KQK,
-    Class::KRK,
-    Class::KBK,
-    Class::KNK,
-    Class::KPK,
-    Class::KQQK,
-    Class::KQRK,
-    Class::KQBK,
-    Class::KQNK,
-    Class::KRRK,
-    Class::KRBK,
-    Class::KRNK,
-    Class::KBBK,
-    Class::KBNK,
-    Class::KNNK,
-    Class::KQKQ,
-    Class::KQKR,
-    Class::KQKB,
-    Class::KQKN,
-    Class::KRKR,
-    Class::KRKB,
-    Class::KRKN,
-    Class::KBKB,
-    Class::KBKN,
-    Class::KNKN,
-    Class::KQPK,
-    Class::KRPK,
-    Class::KBPK,
-    Class::KNPK,
-    Class::KQKP,
-    Class::KRKP,
-    Class::KBKP,
-    Class::KNKP,
-    Class::KPPK,
-    Class::KPKP,
-];
-
-#[tactic(auto, using(study_material::proofs::NeedsTables::by_size_is))]
-fn by_size() -> &'static [Class]
-    ensures value { result.now ≡ by_size }
-    ensures few { length result.now ≤ 36 }
-{
-    &BY_SIZE
-}
+use study_material::{
+    CLASS_COUNT, Class, class_of, classes_by_size, order, positions_have_one_class,
+};
 
 /// Whether the class is in the list.
 fn is_in(classes: &[Class], class: Class) -> bool
@@ -124,6 +78,6 @@ pub fn classes_needed(positions: &[Position]) -> ArrayVec<Class, CLASS_COUNT>
     ensures { AreClassesNeeded positions.now result.items }
 {
     let mut list = ArrayVec::new();
-    add_needed(positions, by_size(), &mut list);
+    add_needed(positions, classes_by_size(), &mut list);
     list
 }

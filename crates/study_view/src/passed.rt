@@ -1,33 +1,10 @@
 //! The squares that a pawn may have passed in a double step just before.
 ghost use Rattle.std.specs.Prelude.{◌≡◌, ◌≤◌, ◌<◌, ◌+◌, ◌++◌, ◌∷◌, []};
 ghost use Rattle.arrayvec.specs.ArrayVec.{array_vec_len};
-ghost use Rattle.study_board.specs.Position.{could_be_passed};
 ghost use Rattle.study_view.specs.Setup.{passed_from, passed_squares};
 
 use arrayvec::ArrayVec;
-use study_board::{Kind, Man, Side, Square, has_man, is_occupied};
-
-/// Whether a pawn of the side not to move may have passed the square in a double step just before.
-#[tactic(auto, unfolding(study_board::specs::Position::could_be_passed))]
-fn could_be_passed(men: &[Man], to_move: Side, x: Square) -> bool
-    ensures { result ≡ could_be_passed men.now to_move x }
-{
-    let n = x.number();
-    match to_move {
-        Side::White => {
-            x.rank() == 5
-                && !is_occupied(men, n)
-                && !is_occupied(men, n + 8)
-                && has_man(men, Side::Black, Kind::Pawn, n - 8)
-        }
-        Side::Black => {
-            x.rank() == 2
-                && !is_occupied(men, n)
-                && !is_occupied(men, n - 8)
-                && has_man(men, Side::White, Kind::Pawn, n + 8)
-        }
-    }
-}
+use study_board::{Man, Side, Square, could_be_passed};
 
 /// Appends a square to the list.
 fn push_square(x: Square, list: &mut ArrayVec<Square, 64>)

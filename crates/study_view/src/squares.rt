@@ -8,7 +8,7 @@ ghost use Rattle.study_values.specs.declared.values.ProbeFault.{ProbeFault as AP
 ghost use Rattle.study_facts.specs.Asked.{within};
 ghost use Rattle.study_view.specs.Asked.{HasToldSome, HasSurveyed};
 ghost use Rattle.study_view.specs.declared.squares.Stood.{Stood as AStood};
-ghost use Rattle.study_view.specs.Survey.{moved_man, moved_men, stood, stood_fault, by_moves, other_squares};
+ghost use Rattle.study_view.specs.Survey.{moved_men, stood, stood_fault, by_moves, other_squares};
 ghost use Rattle.study_view.specs.Survey.{IsToldBy, IsTold, IsStanding, AreStandings, squares_but};
 ghost use Rattle.study_view.specs.Shown.{IsPlayedIn, IsShown};
 
@@ -61,27 +61,13 @@ pub struct Question<'q> {
     pub stipulation: &'q Stipulation,
 }
 
-fn moved_man(from: Square, to: Square, man: Man) -> Man
-    ensures { result ≡ moved_man from to man }
-{
-    if man.at == from {
-        Man {
-            side: man.side,
-            kind: man.kind,
-            at: to,
-        }
-    } else {
-        man
-    }
-}
-
 fn moved_men(from: Square, to: Square, men: &[Man]) -> ArrayVec<Man, 4>
     requires { length men.now ≤ 4 }
     ensures { result.items ≡ moved_men from to men.now }
 {
     let mut list = ArrayVec::new();
     for man in men {
-        list.push(moved_man(from, to, *man));
+        list.push(man.moved(from, to));
     }
     list
 }

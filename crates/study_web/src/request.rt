@@ -2,10 +2,10 @@
 ghost use Rattle.std.specs.Prelude.{◌≡◌, true, Some, IfSome};
 ghost use Rattle.std.specs.Option.{option_map};
 ghost use Rattle.std.specs.List.{list_all};
+ghost use Rattle.study_command.specs.Parser.{one_word};
 ghost use Rattle.study_notation.specs.Fen.{start_of};
 ghost use Rattle.study_text.specs.Words.{words};
 ghost use Rattle.study_marks.specs.Edits.{is_printable};
-ghost use Rattle.study_command.specs.Parser.{one_word, mate_in, mate_moves_of};
 ghost use Rattle.study_script.specs.Replies.{class_told};
 ghost use Rattle.study_listing.specs.Requests.{outcome_named};
 ghost use Rattle.study_web.specs.Request.{alone, make_asked, view_asked, with_start, goal_begun, stipulation_begun};
@@ -16,10 +16,10 @@ use crate::find_words::read_find;
 use crate::words::read_square;
 use study_board::Square;
 use study_command::{
-    PathWord, SyntaxFault, as_text, read_one_word, read_path_word, read_place, read_side,
+    PathWord, SyntaxFault, as_text, read_mate_moves, read_one_word, read_path_word, read_side,
 };
 use study_listing::{Piece, Unread};
-use study_marks::{Goal, MateMoves, Stipulation, is_printable};
+use study_marks::{Goal, Stipulation, is_printable};
 use study_material::Class;
 use study_notation::{FenFault, Start, read_fen};
 use study_reply::Refusal;
@@ -178,20 +178,6 @@ fn read_passed(rest: &[u8]) -> Result<Request<'_>, Refusal>
     }
 }
 
-/// One to three digits, with a value from 1 to 127.
-fn read_mate_moves(word: &[u8]) -> Option<Goal>
-    ensures { result ≡ mate_in (mate_moves_of word.now) }
-{
-    let number = read_place(word)?;
-    if number > 127 {
-        return None;
-    }
-    match MateMoves::new(number as u8) {
-        Some(moves) => Some(Goal::MateIn(moves)),
-        None => None,
-    }
-}
-
 /// `win`, `draw` or `mate K`, and the rest.
 #[tactic(auto, using(study_command::proofs::Printable::printable_behind))]
 fn read_goal(rest: &[u8]) -> Option<(Goal, &[u8])>
@@ -207,8 +193,8 @@ fn read_goal(rest: &[u8]) -> Option<(Goal, &[u8])>
     }
     if word == b"mate".as_slice() {
         let (count, rest) = next_word(rest)?;
-        let goal = read_mate_moves(count)?;
-        return Some((goal, rest));
+        let moves = read_mate_moves(count)?;
+        return Some((Goal::MateIn(moves), rest));
     }
     None
 }

@@ -1,14 +1,13 @@
 //! The tables of a folder.
 ghost use Rattle.std.specs.Prelude.{◌≡◌, OnErr};
-ghost use Rattle.study_script.specs.StoreRefusals.{refusal_of_paged};
 
 use crate::status::{put_file_fault, without_error};
 use std::alloc::Allocator;
 use std::io::Write;
 use study_material::Class;
-use study_prober::{PagedFault, PagedTables};
+use study_prober::PagedTables;
 use study_reply::{Refusal, refuse};
-use study_script::{StoreFault, TableStore};
+use study_script::{StoreFault, TableStore, refusal_of_paged};
 use study_text::MemoryWriter;
 
 /// Why the file of a class is not a table.
@@ -16,19 +15,6 @@ use study_text::MemoryWriter;
 enum NoTable {
     NoFile,
     Fault(Refusal),
-}
-
-/// A fault of a source of pages, by its name in a script.
-fn refusal_of(fault: PagedFault) -> Refusal
-    ensures { result ≡ refusal_of_paged fault }
-{
-    match fault {
-        PagedFault::AlreadyHeld(class) => Refusal::AlreadyHeld(class),
-        PagedFault::TableRead(fault) => Refusal::TableRead(fault),
-        PagedFault::Header(fault) => Refusal::File(fault),
-        PagedFault::OtherClass(class) => Refusal::OtherClass(class),
-        PagedFault::OutOfMemory => Refusal::OutOfMemory,
-    }
 }
 
 /// Opens the file of a class by pages.
@@ -44,7 +30,7 @@ fn open_table<'a, S: TableStore, A: Allocator>(
         Err(StoreFault::Device) => Err(NoTable::Fault(Refusal::Device)),
         Ok(source) => match tables.add(class, source) {
             Ok(()) => Ok(()),
-            Err(fault) => Err(NoTable::Fault(refusal_of(fault))),
+            Err(fault) => Err(NoTable::Fault(refusal_of_paged(fault))),
         },
     }
 }

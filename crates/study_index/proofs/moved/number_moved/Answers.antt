@@ -1,11 +1,10 @@
 use Rattle.std.proofs.Common.{◌≡◌, ◌<◌, List, Bool, false, length, slice_index_or, map, sym, ◌∙◌, ap, subst}
 use Rattle.study_board.specs.declared.men.Man.{Man}
-use Rattle.study_board.specs.Men.{other_side}
+use Rattle.study_board.specs.Men.{other_side, moved_if}
 use Rattle.study_index.specs.declared.decoding.Slot.{Slot}
 use Rattle.study_values.specs.Number.{without_bit}
 use Rattle.study_values.specs.Canonical.{least_of}
 use Rattle.study_index.specs.Decoded.{slots_of, slots_have_pawn, told_men, told_side}
-use Rattle.study_index.specs.Moved.{from_to}
 use Rattle.study_index.proofs.MovedNumbers.{moved_number}
 use Rattle.study_index.proofs.AddedNumbers.{IsStepped-moved}
 use Rattle.study_index.proofs.moved.number_moved.Goals as goal
@@ -25,9 +24,9 @@ returns-in-Some-least_moved c = λ p t.
     let e =
     c.least_moved.ensures
     ∙ ap (λ (w : Bool). least_of w (other_side (told_side c.slots-slots.result.now n)) false
-    (map (from_to c.args.from c.args.to) (told_men c.slots-slots.result.now n)))
+    (map (moved_if c.args.from c.args.to) (told_men c.slots-slots.result.now n)))
     c.class_has_pawn-pawns.ensures
-    ∙ ap (λ (ss : List Slot). least_of (slots_have_pawn (slots_of c.args.class)) (other_side (told_side ss n)) false (map (from_to c.args.from c.args.to) (told_men ss n)))
+    ∙ ap (λ (ss : List Slot). least_of (slots_have_pawn (slots_of c.args.class)) (other_side (told_side ss n)) false (map (moved_if c.args.from c.args.to) (told_men ss n)))
     c.slots-slots.ensures in
     let is = sym c.in-Some-least_moved.is ∙ moved_number c.args.class c.args.number c.args.from c.args.to p c.least_moved.result t e in
     cc
@@ -38,8 +37,8 @@ returns-in-None c = λ p t.
     let e =
     c.least_moved.ensures
     ∙ ap (λ (w : Bool). least_of w (other_side (told_side c.slots-slots.result.now n)) false
-    (map (from_to c.args.from c.args.to) (told_men c.slots-slots.result.now n)))
+    (map (moved_if c.args.from c.args.to) (told_men c.slots-slots.result.now n)))
     c.class_has_pawn-pawns.ensures
-    ∙ ap (λ (ss : List Slot). least_of (slots_have_pawn (slots_of c.args.class)) (other_side (told_side ss n)) false (map (from_to c.args.from c.args.to) (told_men ss n)))
+    ∙ ap (λ (ss : List Slot). least_of (slots_have_pawn (slots_of c.args.class)) (other_side (told_side ss n)) false (map (moved_if c.args.from c.args.to) (told_men ss n)))
     c.slots-slots.ensures in
     absurd (let is = sym c.in-None.is ∙ moved_number c.args.class c.args.number c.args.from c.args.to p c.least_moved.result t e in cc)

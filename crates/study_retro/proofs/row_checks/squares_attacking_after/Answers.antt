@@ -3,9 +3,8 @@ use Rattle.std.specs.Prelude.{IfSome}
 use Rattle.std.specs.List.{list_any}
 use Rattle.study_board.specs.declared.men.Man.{Man}
 use Rattle.study_board.specs.declared.men.Side.{Side}
-use Rattle.study_board.specs.Men.{bears_on, other_side, same_side}
+use Rattle.study_board.specs.Men.{bears_on, other_side, same_side, moved_if}
 use Rattle.study_board.specs.Sets.{has}
-use Rattle.study_index.specs.Moved.{from_to}
 use Rattle.study_retro.specs.declared.row_checks.Bearer.{Bearer}
 use Rattle.study_retro.specs.RowMoves.{attacked_with_last, bears_past, gone_to, stands_aside}
 use Rattle.study_retro.specs.Still.{facing, on_square}
@@ -21,7 +20,7 @@ returns-then-eq c y ly apart =
     ∙ ap (λ (zs : List Man). attacked_with_last zs last c.other-by.result to y) c.as_slice-men.ensures.value
     ∙ king_itself c.args.others.now men last c.args.man.now to y c.requires.man c.requires.staying.rest apart c.other-by.result
     c.args.king (sym c.eq.ensures ∙ c.if-eq.true)
-    ∙ ap (λ (s : Side). attacked_with_last (map (from_to c.args.man.now.at to) c.args.others.now) last s (gone_to c.args.man.now.at to c.args.king) y)
+    ∙ ap (λ (s : Side). attacked_with_last (map (moved_if c.args.man.now.at to) c.args.others.now) last s (gone_to c.args.man.now.at to c.args.king) y)
     c.other-by.ensures
 
 pub squares_of_last_past-of_last-requires : goal.squares_of_last_past-of_last-requires
@@ -42,7 +41,7 @@ returns c y ly apart =
     let men = c.args.staying.now.men.items in
     let bearers = c.args.staying.now.bearers.items in
     let by = other_side c.args.side in
-    let moved = map (from_to man.at to) c.args.others.now in
+    let moved = map (moved_if man.at to) c.args.others.now in
     let of_man = c.squares_bearing_from-of_man in
     let of_last = c.squares_of_last_past-of_last in
     let given =
