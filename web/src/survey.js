@@ -84,7 +84,10 @@ async function rows(d, man) {
   if (!known || !dots.length || goal === 'mate' || hero !== sideOf(fen)) return;
   await loadTables(fen);
   await forEach(d, spots, dots, async spot => {
-    const row = await rowAt(services.facts, goal, fenWith(fen, man, spot.to));
+    const moved = fenWith(fen, man, spot.to);
+    let row = await rowAt(services.facts, goal, moved);
+    // a draw is exceeded where the hero wins: there the moves count that alone win
+    if (row === null && goal === 'draw') row = await rowAt(services.facts, 'win', moved);
     known = row !== undefined;
     spot.row = row === undefined ? null : row;
     return known;
