@@ -592,9 +592,20 @@ def page(study, number):
                   + cards(study) + tries(study) + zugzwang_rows(study) + defences(study) + ends(study) + inside("footer", FOOT), f'id="e{number}"')
 
 
-def summary(studies):
-    rows = ""
-    for number, study in enumerate(studies, 1):
+def left_out_row(line):
+    """The row of a game without a block, from its comment: its place among the games, and why."""
+    place, _, why = line[2:].partition(":")
+    return inside("tr", inside("td", "") + inside("td", say(place)) + inside("td", "") + inside("td", "") + inside("td", say(why[1:])))
+
+
+def summary(entries):
+    """The list of entries: studies, and comments on games without a block."""
+    rows, number = "", 0
+    for study in entries:
+        if isinstance(study, str):
+            rows += left_out_row(study)
+            continue
+        number += 1
         event = study.tags["Event"] if study.tags["Event"] != "?" else "Untitled"
         white = study.tags["White"] if study.tags["White"] != "?" else ""
         rows += inside("tr", inside("td", str(number)) + inside("td", inside("a", say(event), f'href="#e{number}"')) + inside("td", say(white))
@@ -660,11 +671,17 @@ def in_its_letters(text):
     return "".join(say(c) if c < first else c if first == "\x80" else c.encode("utf-8").decode("latin-1") for c in text)
 
 
+def is_left_out(line):
+    """Whether a line is the comment of studyimport on a game without a block."""
+    return bool(re.match(r"# game \d*, line ", line)) and not re.match(r"[^:]*: stipulated by ", line)
+
+
 def remark(line):
-    """The paragraph of a comment of studyimport: a game without a block, or the original text of a tag. Other comments have none."""
-    if re.match(r"# game \d*, line ", line) and not re.match(r"[^:]*: stipulated by ", line):
+    """The paragraph of a comment of studyimport: a game without a block, the original text of a tag, or what a block does not have. Other comments have
+    none."""
+    if is_left_out(line):
         return inside("p", say("No page for " + line[2:]), 'class="warn"')
-    if re.match(r"# (Event|Site|Date|Round|White|Black) was: ", line):
+    if re.match(r"# ((Event|Site|Date|Round|White|Black) was|not taken over|behind the result|a tail): ", line):
         return inside("p", in_its_letters(line[2:]), 'class="note"')
     return ""
 
@@ -692,22 +709,24 @@ def told_in(name):
 
 
 def part(studies, number, script, refused, tags):
-    """What the lines of a script add to the pages: studies come from the list, refused lines by their numbers, and remarks."""
-    out = ""
+    """What the lines of a script add to the pages: studies come from the list, refused lines by their numbers, and remarks. With each study come the
+    comments on games without a block since the one before."""
+    out, games = "", []
     for n, line in enumerate(script, 1):
         if n in refused:
             out += refusal(n + number, line, refused[n])
         elif line.startswith("#"):
             out += remark(line)
+            games += [line] if is_left_out(line) else []
         elif line.startswith("tag "):
             _, name, *words = line.split(" ", 2)
             tags[name] = words[0].rstrip(" ") if words else "?"
         elif line == "pgn":
             study = studies.pop(0)
             study.tags.update(tags)
-            yield study, out
-            out = ""
-    yield None, out
+            yield study, out, games
+            out, games = "", []
+    yield None, out, games
 
 
 def expected_file(names, more=()):
@@ -720,16 +739,18 @@ def file_of(texts, more=()):
     """The file of pages of scripts one after the other, each with the lines and the replies to it.
 
     Tags go on from script to script, as they do in one run."""
-    count, number, tags, studies, body = 0, 0, {}, [], ""
+    count, number, tags, studies, entries, body = 0, 0, {}, [], [], ""
     for script, lines, replies in texts:
         refused = {int(l.split(" ", 2)[1]): l.split(" ", 2)[2] for l in lines.splitlines() if l.startswith("refused ")}
         script = script.split("\n")[:-1]
-        for study, text in part(told_by(lines, replies), number, script, refused, tags):
+        for study, text, games in part(told_by(lines, replies), number, script, refused, tags):
             body += text
+            entries += games
             if study:
                 count += 1
                 body += page(study, count)
                 studies.append(study)
+                entries.append(study)
         number += len(script)
     for line, name in more:
         number += 1
@@ -738,12 +759,14 @@ def file_of(texts, more=()):
             again = copy.copy(studies[-1])
             again.tags = {**again.tags, **dict(line.split(" ", 2)[1:] for line, fault in more if fault is None and line.startswith("tag "))}
             studies.append(again)
+            entries.append(again)
             body += page(again, count)
         elif name:
             body += refusal(number, line, name)
         else:
             body += remark(line)
-    return opening() + body + (summary(studies) if count > 1 else "") + "</body></html>\n"
+            entries += [line] if is_left_out(line) else []
+    return opening() + body + (summary(entries) if len(entries) > 1 else "") + "</body></html>\n"
 
 
 def opening():
@@ -820,7 +843,7 @@ GATE_MORE = [
     ("# White was: <b>Caf\xe9", None),
     ("# Event was: \xd0\x9c\xd0\xb0\xd1\x82 & \"", None),
     ("pgn", "again"),
-    ("# game 3, line 31: left out: 7 men", None),
+    ("# game 3, line 31 (Kasparyan, G.): left out: 7 men", None),
     ("# game 4, line 52, column 17: NoSuchMove at Kb6", None),
     ("# game 5, line 60: NoStipulation", None),
     ("moves 0.0.0.0.0", "NoSuchNode"),

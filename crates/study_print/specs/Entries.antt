@@ -1,26 +1,38 @@
 -- The entries of a report, listed at its end.
 use Rattle.std.specs.Prelude.{◌≡◌, ℕ, List, [], ◌∷◌, ◌++◌}
 use Rattle.study_marks.specs.declared.mark.Mark.{Mark}
-use Rattle.study_marks.specs.Edits.{Plainly}
 use Rattle.study_marks.specs.Study.{Study, plain_study}
 use Rattle.study_marks.specs.Annotated.{IsAnnotated}
+use Rattle.study_html.specs.declared.element.Element.TheVariants.{Cell, Row}
+use Rattle.study_html.specs.Escape.{said}
+use Rattle.study_html.specs.Elements.{inside}
+use Rattle.study_report.specs.Remarks.{subject, statement}
+use Rattle.study_report.specs.Told.{Entry, study_entry, game_entry}
 use Rattle.study_page.specs.Page.{IsRow}
 use Rattle.study_print.specs.declared.pages.Count.{Count}
 use Rattle.study_print.specs.declared.pages.Count.TheVariants.{Nothing, One, Several}
 
--- none, one, or more studies
-abbrev pub count_of : List (Plainly × ℕ) → Count
+-- none, one, or more entries
+abbrev pub count_of : List Entry → Count
 count_of [] = Nothing
 count_of (x ∷ []) = One
 count_of (x ∷ y ∷ more) = Several
 
--- a row for each study, from its annotation and with its number, in order
-abbrev pub AreRows : List (Plainly × ℕ) → List ℕ → Type 0
-AreRows [] rows = rows ≡ []
-AreRows ((plain, number) ∷ more) rows =
-    (s : Study Mark) × (plain_study s ≡ plain) × IsAnnotated s
-    × (row rest : List ℕ) × IsRow s number row × AreRows more rest × (rows ≡ row ++ rest)
+-- a game that was left out: its place among the games in place of a title, and the reason in place of a verdict
+unfoldable pub left_out_row : List ℕ → List ℕ
+left_out_row line =
+    inside Row (inside Cell [] ++ (inside Cell (said (subject line)) ++ (inside Cell [] ++ (inside Cell [] ++ inside Cell (said (statement line))))))
 
--- the entries of exactly these studies
-abbrev pub AreEntries : Count → List ℕ → List (Plainly × ℕ) → Type 0
-AreEntries count rows told = (count ≡ count_of told) × AreRows told rows
+-- the row of a study is that of its annotation, with its number
+abbrev pub IsRowOf : Entry → List ℕ → Type 0
+IsRowOf (study_entry plain number) row = (s : Study Mark) × (plain_study s ≡ plain) × IsAnnotated s × IsRow s number row
+IsRowOf (game_entry line) row = row ≡ left_out_row line
+
+-- a row for each entry, in order
+abbrev pub AreRows : List Entry → List ℕ → Type 0
+AreRows [] rows = rows ≡ []
+AreRows (x ∷ more) rows = (row rest : List ℕ) × IsRowOf x row × AreRows more rest × (rows ≡ row ++ rest)
+
+-- exactly these entries
+abbrev pub AreEntries : Count → List ℕ → List Entry → Type 0
+AreEntries count rows entries = (count ≡ count_of entries) × AreRows entries rows

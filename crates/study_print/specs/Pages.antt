@@ -51,7 +51,7 @@ IsEndedIf false text old new ran answer = IsClosed text old new ran answer
 abbrev pub IsEnded : List ℕ → Option (List ℕ) → Option (List ℕ) → Result Summary RunFault → Result Summary RunFault → Type 0
 IsEnded text old new ran answer = IsEndedIf (is_broken ran) text old new ran answer
 
--- The entries of a run are exactly its printed studies; if it stops at a fault, those printed before the stop.
+-- The entries of a run are exactly its printed studies and the games that were left out; if it stops at a fault, those before the stop.
 abbrev pub AreItsEntries : State → List ℕ → Option (List ℕ) → Option (List ℕ) → Result Summary RunFault → Count → List ℕ → Type 0
 AreItsEntries first script old new (Ok summary) count rows = AreListed IsPageOf refusal_text remark_text first script old new (AreEntries count rows)
 AreItsEntries first script old new (Err fault) count rows = AreListedBefore IsPageOf refusal_text remark_text first script old new (AreEntries count rows) fault

@@ -5,6 +5,7 @@
 #![tactic(auto)]
 
 mod ending;
+mod entries;
 mod following;
 mod pages;
 mod reasons;

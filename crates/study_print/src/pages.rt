@@ -1,6 +1,7 @@
 //! A report in printed pages.
 ghost use Rattle.std.specs.Prelude.{◌≡◌, []};
 
+use crate::entries::with_left_out;
 use crate::reasons::{reason_of, refusal_in};
 use crate::remarks::write_remark;
 use crate::watch::Watch;
@@ -9,10 +10,10 @@ use std::io::Write;
 use study_html::Html;
 use study_marks::Bench;
 use study_page::{Listed, PageFault, write_page, write_refusal};
-use study_report::{NotTold, Report, ReviewFault};
+use study_report::{NotTold, Report, ReviewFault, is_left_out};
 use study_values::Values;
 
-/// The number of studies printed so far.
+/// The number of entries so far.
 #[derive(Clone, Copy, Debug, PartialEq, Eq)]
 pub enum Count {
     Nothing,
@@ -21,7 +22,7 @@ pub enum Count {
 }
 
 impl Count {
-    /// With one study more.
+    /// With one entry more.
     pub fn next(self) -> Count
         ensures nothing { self ≡ Count.Nothing → result ≡ Count.One }
         ensures one { self ≡ Count.One → result ≡ Count.Several }
@@ -34,7 +35,8 @@ impl Count {
     }
 }
 
-/// A page for each study, a line for each refused one, and a paragraph for each remark. For each printed study its row of the list at the end is kept.
+/// A page for each study, a line for each refused one, and a paragraph for each remark. For each printed study, and for each game that was left out, its
+/// row of the list at the end is kept.
 #[derive(Drop)]
 pub struct Pages<'s, S: Allocator, N: Watch> {
     alloc: &'s S,
@@ -45,7 +47,7 @@ pub struct Pages<'s, S: Allocator, N: Watch> {
 }
 
 impl<'s, S: Allocator, N: Watch> Pages<'s, S, N> {
-    /// No study has been printed.
+    /// There is no entry.
     pub fn new(alloc: &'s S, watch: N) -> Self
         ensures rows { result.rows ≡ [] }
         ensures count { result.count ≡ Count.Nothing }
@@ -73,7 +75,7 @@ impl<'s, S: Allocator, N: Watch> Report for Pages<'s, S, N> {
 
     ghost remark = { λ line. remark_text line };
 
-    ghost lists = { λ pages told. AreEntries pages.count pages.rows told };
+    ghost lists = { λ pages entries. AreEntries pages.count pages.rows entries };
 
     fn add_study<'a, 'b, A: Allocator, B: Allocator, V: Values, W: Write>(
         &mut self,
@@ -116,10 +118,13 @@ impl<'s, S: Allocator, N: Watch> Report for Pages<'s, S, N> {
         line: &[u8],
         out: &mut W,
     ) -> Result<(), NotTold> {
-        match write_remark(alloc, line, out) {
-            Ok(()) => Ok(()),
-            Err(PageFault::OutOfMemory) => Err(NotTold::OutOfMemory),
-            Err(PageFault::Device) => Err(NotTold::Device),
+        if !is_left_out(line) {
+            return write_remark(alloc, line, out);
         }
+        let more = with_left_out(self.alloc, &self.rows, line)?;
+        write_remark(alloc, line, out)?;
+        self.rows = more;
+        self.count = self.count.next();
+        Ok(())
     }
 }

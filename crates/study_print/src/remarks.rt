@@ -11,7 +11,7 @@ use std::io::Write;
 use study_games::is_utf8;
 use study_html::{Element, Html};
 use study_page::PageFault;
-use study_report::{behind, is_left_out};
+use study_report::{NotTold, behind, is_left_out};
 use study_text::{Text, write_text};
 
 /// The paragraph of a game without a page.
@@ -154,8 +154,7 @@ fn write_original<'a, A: Allocator, W: Write>(
     Ok(())
 }
 
-/// Writes the paragraph of a remark.
-pub fn write_remark<'a, A: Allocator, W: Write>(
+fn write_paragraph<'a, A: Allocator, W: Write>(
     alloc: &'a A,
     line: &[u8],
     out: &mut W,
@@ -168,4 +167,21 @@ pub fn write_remark<'a, A: Allocator, W: Write>(
         return write_left_out(alloc, line, out);
     }
     write_original(alloc, line, out)
+}
+
+/// Writes the paragraph of a remark.
+pub fn write_remark<'a, A: Allocator, W: Write>(
+    alloc: &'a A,
+    line: &[u8],
+    out: &mut W,
+) -> Result<(), NotTold>
+    ensures ok { OnOk result (Appends (W.contents out.old) (W.contents out.new) (remark_text line.now)) }
+    ensures device { result ≡ Err NotTold.Device → TakesPrefix (W.contents out.old) (W.contents out.new) (remark_text line.now) }
+    ensures memory { result ≡ Err NotTold.OutOfMemory → out.new ≡ out.old }
+{
+    match write_paragraph(alloc, line, out) {
+        Ok(()) => Ok(()),
+        Err(PageFault::OutOfMemory) => Err(NotTold::OutOfMemory),
+        Err(PageFault::Device) => Err(NotTold::Device),
+    }
 }

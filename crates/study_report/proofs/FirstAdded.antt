@@ -23,7 +23,7 @@ use Rattle.study_script.specs.Replies.{Reply, refused}
 use Rattle.study_report.specs.declared.kind.Kind.{Kind}
 use Rattle.study_report.specs.declared.kind.Kind.TheVariants.{Remark, PassedOver, NoClass, Study, Checked}
 use Rattle.study_report.specs.Told.{Point, Added, IsAdded, IsAddedAs, IsPgnAfter, IsCheckedAfter, line_kind, refusal_count, study_count}
-use Rattle.study_report.specs.Told.{nothing_added, refusal_added, studies_on, listed_in, studies_in}
+use Rattle.study_report.specs.Told.{nothing_added, refusal_added, Entry, studies_on, listed_in, entries_in}
 use Rattle.study_report.specs.Outcome.{begun, AreAdded, report_text, refusals, point_after, IsFollowed, AreListed, StoppedAfter, AreListedBefore, Outcome}
 use Rattle.study_report.specs.Outcome.{Shape}
 use Rattle.study_report.specs.Written.{Adds, Stops}
@@ -64,19 +64,13 @@ text-more : (added : List Added) (a : Added) → report_text (added ++ a ∷ [])
 text-more [] a = append-nil a.text
 text-more (x ∷ added) a = ap (λ (t : List ℕ). x.text ++ t) (text-more added a) ∙ sym (append_assoc x.text (report_text added) a.text)
 
-studies-more : (added : List Added) (a : Added)
-    → studies_in (added ++ a ∷ []) ≡ studies_in added ++ listed_in a.told a.after.state.document a.after.studies
-studies-more [] a = append-nil (listed_in a.told a.after.state.document a.after.studies)
-studies-more (x ∷ added) a =
-    ap (λ (t : List (Plainly × ℕ)). listed_in x.told x.after.state.document x.after.studies ++ t) (studies-more added a)
-    ∙ sym (append_assoc (listed_in x.told x.after.state.document x.after.studies) (studies_in added) (listed_in a.told a.after.state.document a.after.studies))
-
 -- the study that a line reported is the one in the document, and has the number after the others
-listed-same : (t u : Told) (b c : Document) (i j : ℕ) → t ≡ u → b ≡ c → (study_count u ≡ 1 → i ≡ j) → listed_in t b i ≡ listed_in u c j
-listed-same t Nothing b c i j e f n = ap (λ (x : Told). listed_in x b i) e
-listed-same t ARefusal b c i j e f n = ap (λ (x : Told). listed_in x b i) e
-listed-same t AStudy b c i j e f n =
-    ap (λ (x : Told). listed_in x b i) e ∙ ap (λ (x : Document). studies_on x i) f ∙ ap (studies_on c) (n refl)
+listed-same : (line : List ℕ) (t u : Told) (b c : Document) (i j : ℕ) → t ≡ u → b ≡ c → (study_count u ≡ 1 → i ≡ j)
+    → listed_in line t b i ≡ listed_in line u c j
+listed-same line t Nothing b c i j e f n = ap (λ (x : Told). listed_in line x b i) e
+listed-same line t ARefusal b c i j e f n = ap (λ (x : Told). listed_in line x b i) e
+listed-same line t AStudy b c i j e f n =
+    ap (λ (x : Told). listed_in line x b i) e ∙ ap (λ (x : Document). studies_on x i) f ∙ ap (studies_on c) (n refl)
 
 module _ (tells : Plainly → ℕ → List ℕ → Type 0) (refusal : ℕ → List ℕ → List ℕ → List ℕ) (remark : List ℕ → List ℕ) where
   are-more : (p : Point) (lines : List (List ℕ)) (added : List Added) (line : List ℕ) (a : Added)
@@ -87,9 +81,20 @@ module _ (tells : Plainly → ℕ → List ℕ → Type 0) (refusal : ℕ → Li
   are-more p (l ∷ lines) [] line a h r = absurd h
   are-more p (l ∷ lines) (x ∷ added) line a h r = (h.0, are-more x.after lines added line a h.1 r)
 
+  entries-more : (p : Point) (lines : List (List ℕ)) (added : List Added) (line : List ℕ) (a : Added) → AreAdded tells refusal remark p lines added
+      → entries_in (lines ++ line ∷ []) (added ++ a ∷ [])
+      ≡ entries_in lines added ++ listed_in line a.told a.after.state.document a.after.studies
+  entries-more p [] [] line a h = append-nil (listed_in line a.told a.after.state.document a.after.studies)
+  entries-more p [] (x ∷ added) line a h = absurd h
+  entries-more p (l ∷ lines) [] line a h = absurd h
+  entries-more p (l ∷ lines) (x ∷ added) line a h =
+      let mine = listed_in l x.told x.after.state.document x.after.studies in
+      ap (λ (t : List Entry). mine ++ t) (entries-more x.after lines added line a h.1)
+      ∙ sym (append_assoc mine (entries_in lines added) (listed_in line a.told a.after.state.document a.after.studies))
+
   -- ---- the parts of the first n lines are written
 
-  pub record ToldOver (Lists : List (Plainly × ℕ) → Type 0) (all left : List (List ℕ)) (old new : Option (List ℕ)) (first : State) (p : Point)
+  pub record ToldOver (Lists : List Entry → Type 0) (all left : List (List ℕ)) (old new : Option (List ℕ)) (first : State) (p : Point)
       (n refused : ℕ) : Type 0 where
     pub left_is : drop n all ≡ left
     pub within : n ≤ length all
@@ -99,19 +104,19 @@ module _ (tells : Plainly → ℕ → List ℕ → Type 0) (refusal : ℕ → Li
     pub written : Appends old new (report_text added)
     pub point_is : p ≡ point_after (begun first) added
     pub refused_is : refused ≡ refusals added
-    pub listed : Lists (studies_in added)
+    pub listed : Lists (entries_in (take n all) added)
 
-  abbrev pub ToldKnown : (List (Plainly × ℕ) → Type 0) → Option (List ℕ) → Option (List ℕ) → Option (List ℕ) → Option (List ℕ) → State → Point
+  abbrev pub ToldKnown : (List Entry → Type 0) → Option (List ℕ) → Option (List ℕ) → Option (List ℕ) → Option (List ℕ) → State → Point
       → ℕ → ℕ → Type 0
   ToldKnown Lists None now old new first p n refused = Unit {0}
   ToldKnown Lists (Some bs) None old new first p n refused = ⊥
   ToldKnown Lists (Some bs) (Some rest) old new first p n refused = ToldOver Lists (script_lines bs) (script_lines rest) old new first p n refused
 
-  pub record HasTold (Lists : List (Plainly × ℕ) → Type 0) (script now old new : Option (List ℕ)) (first : State) (p : Point)
+  pub record HasTold (Lists : List Entry → Type 0) (script now old new : Option (List ℕ)) (first : State) (p : Point)
       (n refused : ℕ) : Type 0 where
     pub known : ToldKnown Lists script now old new first p n refused
 
-  pub told_none : (Lists : List (Plainly × ℕ) → Type 0) → Lists [] → (script out : Option (List ℕ)) (first : State)
+  pub told_none : (Lists : List Entry → Type 0) → Lists [] → (script out : Option (List ℕ)) (first : State)
       → HasTold Lists script script out out first (begun first) 0 0
   told_none Lists h None out first = record { known = tt }
   told_none Lists h (Some bs) out first =
@@ -129,11 +134,11 @@ module _ (tells : Plainly → ℕ → List ℕ → Type 0) (refusal : ℕ → Li
         };
       }
 
-  pub told_more : (Lists Lists' : List (Plainly × ℕ) → Type 0) (script now next old mid new : Option (List ℕ)) (first : State)
+  pub told_more : (Lists Lists' : List Entry → Type 0) (script now next old mid new : Option (List ℕ)) (first : State)
       (p : Point) (line : List ℕ) (a : Added) (n refused refused' : ℕ) → HasTold Lists script now old mid first p n refused
       → TakesLine now next true line → length line ≤ 1024
       → IsAdded tells refusal remark p line a → Appends mid new a.text → refused' ≡ refused + refusal_count a.told
-      → ((more : List (Plainly × ℕ)) → Lists more → Lists' (more ++ listed_in a.told a.after.state.document a.after.studies))
+      → ((more : List Entry) → Lists more → Lists' (more ++ listed_in line a.told a.after.state.document a.after.studies))
       → HasTold Lists' script next old new first a.after (n + 1) refused'
   told_more Lists Lists' None now next old mid new first p line a n refused refused' r t short is wrote k l = record { known = tt }
   told_more Lists Lists' (Some bs) None next old mid new first p line a n refused refused' r t short is wrote k l = absurd r.known
@@ -156,13 +161,15 @@ module _ (tells : Plainly → ℕ → List ℕ → Type 0) (refusal : ℕ → Li
           written = rw (text-more v.added a) (Appends-trans old mid new (report_text v.added) a.text v.written wrote);
           point_is = sym (point_after-more (begun first) v.added a);
           refused_is = k ∙ ap (λ i. i + refusal_count a.told) v.refused_is ∙ sym (sum_by_push (λ (x : Added). refusal_count x.told) v.added a);
-          listed = subst Lists' (sym (studies-more v.added a)) (l (studies_in v.added) v.listed);
+          listed = subst Lists'
+              (sym (ap (λ (ls : List (List ℕ)). entries_in ls (v.added ++ a ∷ [])) grown ∙ entries-more (begun first) (take n all) v.added line a v.are))
+              (l (entries_in (take n all) v.added) v.listed);
         };
       }
 
   -- ---- the ends of a report
 
-  pub told_ends : {Lists : List (Plainly × ℕ) → Type 0} (left script now next old new : Option (List ℕ)) (first : State) (p : Point) (line : List ℕ)
+  pub told_ends : {Lists : List Entry → Type 0} (left script now next old new : Option (List ℕ)) (first : State) (p : Point) (line : List ℕ)
       (n refused : ℕ) → HasTold Lists script now old new first p n refused → TakesLine now next false line → n ≤ 100000
       → IfSome script (λ bytes. Outcome tells refusal remark first bytes left old new (Ok (record { lines = n; refused = refused })))
   told_ends left None now next old new first p line n refused r t le = tt
@@ -182,7 +189,7 @@ module _ (tells : Plainly → ℕ → List ℕ → Type 0) (refusal : ℕ → Li
       )
 
   -- the state at the end of the script is the one that it leaves
-  pub told_after : {Lists : List (Plainly × ℕ) → Type 0} (holds : State → Type 0) (script now next old new : Option (List ℕ)) (first : State)
+  pub told_after : {Lists : List Entry → Type 0} (holds : State → Type 0) (script now next old new : Option (List ℕ)) (first : State)
       (p : Point) (line : List ℕ) (n refused : ℕ) → HasTold Lists script now old new first p n refused → TakesLine now next false line → holds p.state
       → IfSome script (λ bytes. IsFollowed tells refusal remark first bytes old new holds)
   told_after holds None now next old new first p line n refused r t held = tt
@@ -197,8 +204,8 @@ module _ (tells : Plainly → ℕ → List ℕ → Type 0) (refusal : ℕ → Li
         subst (λ (q : Point). holds q.state) v.point_is held,
       )
 
-  -- what is true of the reported studies
-  pub told_listed : (Lists : List (Plainly × ℕ) → Type 0) (script now next old new : Option (List ℕ)) (first : State) (p : Point) (line : List ℕ)
+  -- what is true of the entries
+  pub told_listed : (Lists : List Entry → Type 0) (script now next old new : Option (List ℕ)) (first : State) (p : Point) (line : List ℕ)
       (n refused : ℕ) → HasTold Lists script now old new first p n refused → TakesLine now next false line
       → IfSome script (λ bytes. AreListed tells refusal remark first bytes old new Lists)
   told_listed Lists None now next old new first p line n refused r t = tt
@@ -210,18 +217,18 @@ module _ (tells : Plainly → ℕ → List ℕ → Type 0) (refusal : ℕ → Li
         v.added,
         subst (λ (ls : List (List ℕ)). AreAdded tells refusal remark (begun first) ls v.added) d.0 v.are,
         v.written,
-        v.listed,
+        subst (λ (ls : List (List ℕ)). Lists (entries_in ls v.added)) d.0 v.listed,
       )
 
-  pub listed-before : (Had Has : List (Plainly × ℕ) → Type 0) (before : List (Plainly × ℕ)) → Had before
+  pub listed-before : (Had Has : List Entry → Type 0) (before : List Entry) → Had before
       → (script : Option (List ℕ)) (first : State) (old new : Option (List ℕ))
       → IfSome script (λ bytes. AreListed tells refusal remark first bytes old new
-      (λ more. (told : List (Plainly × ℕ)) → Had told → Has (told ++ more)))
+      (λ more. (told : List Entry) → Had told → Has (told ++ more)))
       → IfSome script (λ bytes. AreListed tells refusal remark first bytes old new (λ more. Has (before ++ more)))
   listed-before Had Has before had None first old new h = tt
   listed-before Had Has before had (Some bs) first old new (added, are, wrote, l) = (added, are, wrote, l before had)
 
-  pub told_long : {Lists : List (Plainly × ℕ) → Type 0} (left script now old new : Option (List ℕ)) (first : State) (p : Point) (n refused : ℕ)
+  pub told_long : {Lists : List Entry → Type 0} (left script now old new : Option (List ℕ)) (first : State) (p : Point) (n refused : ℕ)
       → HasTold Lists script now old new first p n refused → BeginsLong now → n < 100000
       → IfSome script (λ bytes. Outcome tells refusal remark first bytes left old new (Err (LineTooLong (n + 1))))
   told_long left None now old new first p n refused r t lt = tt
@@ -232,7 +239,7 @@ module _ (tells : Plainly → ℕ → List ℕ → Type 0) (refusal : ℕ → Li
       let e : n + 1 - 1 ≡ n = omega arith in
       (omega arith, omega arith, rw (e, f.3) long, (rw e v.short, v.added, rw e v.are, v.written))
 
-  pub told_read : {Lists : List (Plainly × ℕ) → Type 0} (left script now old new : Option (List ℕ)) (first : State) (p : Point) (n refused : ℕ)
+  pub told_read : {Lists : List Entry → Type 0} (left script now old new : Option (List ℕ)) (first : State) (p : Point) (n refused : ℕ)
       → HasTold Lists script now old new first p n refused → n ≤ 100000 → GaveFeeds script left n → GaveFeeds now left 0
       → IfSome script (λ bytes. Outcome tells refusal remark first bytes left old new (Err ReadDevice))
   told_read left None now old new first p n refused r le g h = tt
@@ -240,7 +247,7 @@ module _ (tells : Plainly → ℕ → List ℕ → Type 0) (refusal : ℕ → Li
   told_read left (Some bs) (Some rest) old new first p n refused r le g h =
       let v = r.known in (n, le, v.within, g, rest, v.left_is, h, (v.short, v.added, v.are, v.written))
 
-  pub told_many : {Lists : List (Plainly × ℕ) → Type 0} (left script now old new : Option (List ℕ)) (first : State) (p : Point) (refused : ℕ)
+  pub told_many : {Lists : List Entry → Type 0} (left script now old new : Option (List ℕ)) (first : State) (p : Point) (refused : ℕ)
       → HasTold Lists script now old new first p 100000 refused → HasMore now
       → IfSome script (λ bytes. Outcome tells refusal remark first bytes left old new (Err TooManyLines))
   told_many left None now old new first p refused r t = tt
@@ -249,7 +256,7 @@ module _ (tells : Plainly → ℕ → List ℕ → Type 0) (refusal : ℕ → Li
       let v = r.known in
       (more_left (script_lines bs) (script_lines rest) 100000 v.left_is t, (v.short, v.added, v.are, v.written))
 
-  pub told_write : {Lists : List (Plainly × ℕ) → Type 0} (script now next old mid new : Option (List ℕ)) (first : State) (p : Point) (line : List ℕ)
+  pub told_write : {Lists : List Entry → Type 0} (script now next old mid new : Option (List ℕ)) (first : State) (p : Point) (line : List ℕ)
       (n refused : ℕ) → HasTold Lists script now old mid first p n refused → TakesLine now next true line → length line ≤ 1024
       → n < 100000 → GaveFeeds script next (n + 1)
       → (a : Added) × IsAdded tells refusal remark p line a × TakesPrefix mid new a.text
@@ -279,7 +286,7 @@ module _ (tells : Plainly → ℕ → List ℕ → Type 0) (refusal : ℕ → Li
         ),
       )
 
-  pub told_memory : {Lists : List (Plainly × ℕ) → Type 0} (left script now old mid new : Option (List ℕ)) (first : State) (p : Point) (n refused : ℕ)
+  pub told_memory : {Lists : List Entry → Type 0} (left script now old mid new : Option (List ℕ)) (first : State) (p : Point) (n refused : ℕ)
       → HasTold Lists script now old mid first p n refused → n ≤ 100000 → new ≡ mid
       → IfSome script (λ bytes. Outcome tells refusal remark first bytes left old new (Err OutOfMemory))
   told_memory left None now old mid new first p n refused r le same = tt
@@ -289,7 +296,7 @@ module _ (tells : Plainly → ℕ → List ℕ → Type 0) (refusal : ℕ → Li
       (n, le, v.within, (v.short, v.added, v.are, subst (λ (x : Option (List ℕ)). Appends old x (report_text v.added)) (sym same) v.written))
 
   -- the run stops within a line
-  pub told_stops : {Lists : List (Plainly × ℕ) → Type 0} (script now next old mid new : Option (List ℕ)) (first : State) (p : Point) (line : List ℕ)
+  pub told_stops : {Lists : List Entry → Type 0} (script now next old mid new : Option (List ℕ)) (first : State) (p : Point) (line : List ℕ)
       (n refused : ℕ) (fault : RunFault) → HasTold Lists script now old mid first p n refused → TakesLine now next true line → length line ≤ 1024
       → n < 100000 → GaveFeeds script next (n + 1) → Stops (IsAdded tells refusal remark p line) mid new fault
       → IfSome script (λ bytes. Outcome tells refusal remark first bytes next old new (Err fault))
@@ -304,9 +311,9 @@ module _ (tells : Plainly → ℕ → List ℕ → Type 0) (refusal : ℕ → Li
   -- ---- the list of a run that stopped
 
   -- the lines before the stop are those that were reported
-  pub told_before : {Lists : List (Plainly × ℕ) → Type 0} (Has : List (Plainly × ℕ) → Type 0) (script now old new : Option (List ℕ)) (first : State)
+  pub told_before : {Lists : List Entry → Type 0} (Has : List Entry → Type 0) (script now old new : Option (List ℕ)) (first : State)
       (p : Point) (n refused : ℕ) (fault : RunFault) → HasTold Lists script now old new first p n refused
-      → ((more : List (Plainly × ℕ)) → Lists more → Has more)
+      → ((more : List Entry) → Lists more → Has more)
       → ((q : Point) (all : List (List ℕ)) (added : List Added) → Appends old new (report_text added)
       → StoppedAfter tells refusal remark q all n added old new fault)
       → IfSome script (λ bytes. AreListedBefore tells refusal remark first bytes old new Has fault)
@@ -314,11 +321,11 @@ module _ (tells : Plainly → ℕ → List ℕ → Type 0) (refusal : ℕ → Li
   told_before Has (Some bs) None old new first p n refused fault r l stopped = absurd r.known
   told_before Has (Some bs) (Some rest) old new first p n refused fault r l stopped =
       let v = r.known in
-      (n, v.within, v.added, v.are, stopped (begun first) (script_lines bs) v.added v.written, l (studies_in v.added) v.listed)
+      (n, v.within, v.added, v.are, stopped (begun first) (script_lines bs) v.added v.written, l (entries_in (take n (script_lines bs)) v.added) v.listed)
 
-  told_before_write : {Lists : List (Plainly × ℕ) → Type 0} (Has : List (Plainly × ℕ) → Type 0) (script now next old mid new : Option (List ℕ))
+  told_before_write : {Lists : List Entry → Type 0} (Has : List Entry → Type 0) (script now next old mid new : Option (List ℕ))
       (first : State) (p : Point) (line : List ℕ) (n refused : ℕ) → HasTold Lists script now old mid first p n refused → TakesLine now next true line
-      → ((more : List (Plainly × ℕ)) → Lists more → Has more) → (a : Added) × IsAdded tells refusal remark p line a × TakesPrefix mid new a.text
+      → ((more : List Entry) → Lists more → Has more) → (a : Added) × IsAdded tells refusal remark p line a × TakesPrefix mid new a.text
       → IfSome script (λ bytes. AreListedBefore tells refusal remark first bytes old new Has WriteDevice)
   told_before_write Has None now next old mid new first p line n refused r t l q = tt
   told_before_write Has (Some bs) None next old mid new first p line n refused r t l q = absurd r.known
@@ -331,12 +338,12 @@ module _ (tells : Plainly → ℕ → List ℕ → Type 0) (refusal : ℕ → Li
         v.added,
         v.are,
         (mid, v.written, rw f.3 (a, subst (λ (h : Point). IsAdded tells refusal remark h line a) v.point_is is, part)),
-        l (studies_in v.added) v.listed,
+        l (entries_in (take n (script_lines bs)) v.added) v.listed,
       )
 
-  told_before_memory : {Lists : List (Plainly × ℕ) → Type 0} (Has : List (Plainly × ℕ) → Type 0) (script now old mid new : Option (List ℕ))
+  told_before_memory : {Lists : List Entry → Type 0} (Has : List Entry → Type 0) (script now old mid new : Option (List ℕ))
       (first : State) (p : Point) (n refused : ℕ) → HasTold Lists script now old mid first p n refused
-      → ((more : List (Plainly × ℕ)) → Lists more → Has more) → new ≡ mid
+      → ((more : List Entry) → Lists more → Has more) → new ≡ mid
       → IfSome script (λ bytes. AreListedBefore tells refusal remark first bytes old new Has OutOfMemory)
   told_before_memory Has None now old mid new first p n refused r l same = tt
   told_before_memory Has (Some bs) None old mid new first p n refused r l same = absurd r.known
@@ -347,13 +354,13 @@ module _ (tells : Plainly → ℕ → List ℕ → Type 0) (refusal : ℕ → Li
         v.added,
         v.are,
         subst (λ (x : Option (List ℕ)). Appends old x (report_text v.added)) (sym same) v.written,
-        l (studies_in v.added) v.listed,
+        l (entries_in (take n (script_lines bs)) v.added) v.listed,
       )
 
   -- the run stopped within a line
-  pub told_before_stop : {Lists : List (Plainly × ℕ) → Type 0} (Has : List (Plainly × ℕ) → Type 0) (script now next old mid new : Option (List ℕ))
+  pub told_before_stop : {Lists : List Entry → Type 0} (Has : List Entry → Type 0) (script now next old mid new : Option (List ℕ))
       (first : State) (p : Point) (line : List ℕ) (n refused : ℕ) (fault : RunFault) → HasTold Lists script now old mid first p n refused
-      → TakesLine now next true line → ((more : List (Plainly × ℕ)) → Lists more → Has more) → Stops (IsAdded tells refusal remark p line) mid new fault
+      → TakesLine now next true line → ((more : List Entry) → Lists more → Has more) → Stops (IsAdded tells refusal remark p line) mid new fault
       → IfSome script (λ bytes. AreListedBefore tells refusal remark first bytes old new Has fault)
   told_before_stop Has script now next old mid new first p line n refused WriteDevice r t l h =
       told_before_write Has script now next old mid new first p line n refused r t l h
@@ -366,7 +373,7 @@ module _ (tells : Plainly → ℕ → List ℕ → Type 0) (refusal : ℕ → Li
   -- ---- the invariant of the loop
 
   -- the lines so far are reported, the session has their state, and the counts are theirs
-  pub record ToldOn (holds : State → Type 0) (Lists : List (Plainly × ℕ) → Type 0) (script now old new : Option (List ℕ)) (first : State)
+  pub record ToldOn (holds : State → Type 0) (Lists : List Entry → Type 0) (script now old new : Option (List ℕ)) (first : State)
       (n refused studies : ℕ) : Type 0 where
     pub point : Point
     pub told : HasTold Lists script now old new first point n refused
@@ -400,7 +407,7 @@ module _ (tells : Plainly → ℕ → List ℕ → Type 0) (refusal : ℕ → Li
   counts-more p line a Study (o, reply, is, after) = counts-pgn p line reply a reply.refused after
   counts-more p line a Checked (o, reply, is, after) = counts-checked p line reply a reply.refused after
 
-  pub ToldOn-more : (holds holds' : State → Type 0) (Lists Lists' : List (Plainly × ℕ) → Type 0) (document : Document)
+  pub ToldOn-more : (holds holds' : State → Type 0) (Lists Lists' : List Entry → Type 0) (document : Document)
       (script now next old mid new : Option (List ℕ)) (first : State)
       (line : List ℕ) (n refused refused' studies studies' : ℕ) (told : Told)
       (r : ToldOn holds Lists script now old mid first n refused studies)
@@ -408,7 +415,7 @@ module _ (tells : Plainly → ℕ → List ℕ → Type 0) (refusal : ℕ → Li
       → Adds (IsAdded tells refusal remark r.point line) holds' mid new told
       → refused' ≡ refused + refusal_count told → studies' ≡ studies + study_count told
       → ((s : State) → holds' s → document ≡ s.document)
-      → ((more : List (Plainly × ℕ)) → Lists more → Lists' (more ++ listed_in told document (studies + 1)))
+      → ((more : List Entry) → Lists more → Lists' (more ++ listed_in line told document (studies + 1)))
       → ToldOn holds' Lists' script next old new first (n + 1) refused' studies'
   ToldOn-more holds holds' Lists Lists' document script now next old mid new first line n refused refused' studies studies' told r t short
       (a, is, wrote, held, same) k j seen l =
@@ -417,8 +424,8 @@ module _ (tells : Plainly → ℕ → List ℕ → Type 0) (refusal : ℕ → Li
         point = a.after;
         told = told_more Lists Lists' script now next old mid new first r.point line a n refused refused' r.told t short is wrote
             (k ∙ ap (λ (x : Told). refused + refusal_count x) same)
-            (λ more h. subst (λ (x : List (Plainly × ℕ)). Lists' (more ++ x))
-            (listed-same told a.told document a.after.state.document (studies + 1) a.after.studies same (seen a.after.state held)
+            (λ more h. subst (λ (x : List Entry). Lists' (more ++ x))
+            (listed-same line told a.told document a.after.state.document (studies + 1) a.after.studies same (seen a.after.state held)
             (λ one. ap (λ i. i + 1) r.studies_are ∙ ap (λ i. r.point.studies + i) (sym one) ∙ sym counts.1)) (l more h));
         held = held;
         lines_are = ap (λ i. i + 1) r.lines_are ∙ omega arith ∙ sym counts.0;
@@ -449,8 +456,8 @@ few-told ARefusal = (omega arith, omega arith)
 
 -- there is no memory for the first line
 pub none_before : (tells : Plainly → ℕ → List ℕ → Type 0) (refusal : ℕ → List ℕ → List ℕ → List ℕ)
-    (remark : List ℕ → List ℕ) (Has : List (Plainly × ℕ) → Type 0)
-    (told : List (Plainly × ℕ)) (script out : Option (List ℕ)) (first : State) → Has told
+    (remark : List ℕ → List ℕ) (Has : List Entry → Type 0)
+    (told : List Entry) (script out : Option (List ℕ)) (first : State) → Has told
     → IfSome script (λ bytes. AreListedBefore tells refusal remark first bytes out out (λ more. Has (told ++ more)) OutOfMemory)
 none_before tells refusal remark Has told None out first h = tt
 none_before tells refusal remark Has told (Some bytes) out first h =

@@ -1,5 +1,5 @@
 -- The contribution of a line, from what was written for it.
-use Rattle.std.proofs.Common.{◌≡◌, ℕ, suc, Bool, true, false, List, [], ◌++◌, Option, Some, Result, refl, sym, ap, subst, ◌∙◌, inl, inr}
+use Rattle.std.proofs.Common.{◌≡◌, ℕ, suc, Bool, true, false, List, [], ◌++◌, Option, Some, Result, Ok, Err, refl, sym, ap, subst, ◌∙◌, inl, inr}
 use Rattle.std.specs.Prelude.{IfOk, IfErr}
 use Rattle.std.specs.Io.KnownBytes.{Appends}
 use Rattle.std.proofs.KnownBytes.{Appends-nil}
@@ -15,7 +15,7 @@ use Rattle.study_script.specs.Held.{Answered}
 use Rattle.study_report.specs.declared.kind.Kind.TheVariants.{Study, Checked}
 use Rattle.study_report.specs.declared.told.Told.{Told}
 use Rattle.study_report.specs.declared.told.Told.TheVariants.{Nothing, Study as AStudy, Refusal as ARefusal}
-use Rattle.study_report.specs.Told.{study_count, listed_in}
+use Rattle.study_report.specs.Told.{study_count, Entry, games_in, listed_in}
 use Rattle.study_report.specs.Told.{Point, Added, IsLeftOut, IsStudyTold, IsAddedAs, IsPgnAfter, IsCheckedAfter}
 use Rattle.study_report.specs.Told.{nothing_added, study_added, refusal_added, remark_added}
 use Rattle.study_report.specs.Written.{Adds, Stops, StopsIn, IsSection, IsSectionPart, IsReplied}
@@ -34,26 +34,37 @@ refusal-none r text old new h =
 abbrev pub RemarkWritten : List ℕ → Option (List ℕ) → Option (List ℕ) → Told → Type 0
 RemarkWritten text old new told = (told ≡ Nothing) × Appends old new text
 
--- a remark is no study
-pub remark-none : (r : Result Told RunFault) (text : List ℕ) (old new : Option (List ℕ)) → IfOk r (RemarkWritten text old new)
-    → IfOk r (λ t. study_count t ≡ 0)
-remark-none r text old new h =
-    IfOk-weaker r (RemarkWritten text old new) (λ t. study_count t ≡ 0) (λ t (e, wrote). ap study_count e) h
+none-in : (line : List ℕ) (t : Told) (document : Document) (number : ℕ) → games_in line ≡ [] → study_count t ≡ 0
+    → listed_in line t document number ≡ []
+none-in line Nothing document number none e = none
+none-in line AStudy document number none e = absurd cc
+none-in line ARefusal document number none e = refl
 
-none-in : (t : Told) (document : Document) (number : ℕ) → study_count t ≡ 0 → listed_in t document number ≡ []
-none-in Nothing document number e = refl
-none-in AStudy document number e = absurd cc
-none-in ARefusal document number e = refl
-
-pub nothing-listed : (Lists : List (Plainly × ℕ) → Type 0) (told : List (Plainly × ℕ)) → Lists told → Lists (told ++ [])
+pub nothing-listed : (Lists : List Entry → Type 0) (told : List Entry) → Lists told → Lists (told ++ [])
 nothing-listed Lists told kept = subst Lists (sym (append-nil told)) kept
 
--- if no study was reported, the list is unchanged
-pub none-listed : (Lists : List (Plainly × ℕ) → Type 0) (r : Result Told RunFault) (told : List (Plainly × ℕ)) (document : Document) (number : ℕ)
-    → IfOk r (λ t. study_count t ≡ 0) → Lists told → IfOk r (λ t. Lists (told ++ listed_in t document number))
-none-listed Lists r told document number h kept =
-    IfOk-weaker r (λ t. study_count t ≡ 0) (λ t. Lists (told ++ listed_in t document number))
-    (λ t e. subst (λ (x : List (Plainly × ℕ)). Lists (told ++ x)) (sym (none-in t document number e)) (nothing-listed Lists told kept)) h
+-- if the line is no remark of a game, and no study was reported, the list is unchanged
+pub none-listed : (Lists : List Entry → Type 0) (r : Result Told RunFault) (told : List Entry) (line : List ℕ) (document : Document) (number : ℕ)
+    → games_in line ≡ [] → IfOk r (λ t. study_count t ≡ 0) → Lists told → IfOk r (λ t. Lists (told ++ listed_in line t document number))
+none-listed Lists r told line document number none h kept =
+    IfOk-weaker r (λ t. study_count t ≡ 0) (λ t. Lists (told ++ listed_in line t document number))
+    (λ t e. subst (λ (x : List Entry). Lists (told ++ x)) (sym (none-in line t document number none e)) (nothing-listed Lists told kept)) h
+
+-- a refusal leaves it unchanged
+pub refusal-listed : (Lists : List Entry → Type 0) (r : Result Told RunFault) (told : List Entry) (line : List ℕ) (document : Document) (number : ℕ)
+    (text : List ℕ) (old new : Option (List ℕ)) → IfOk r (RefusalWritten text old new) → Lists told
+    → IfOk r (λ t. Lists (told ++ listed_in line t document number))
+refusal-listed Lists r told line document number text old new h kept =
+    IfOk-weaker r (RefusalWritten text old new) (λ t. Lists (told ++ listed_in line t document number))
+    (λ t (e, wrote). subst (λ (x : Told). Lists (told ++ listed_in line x document number)) (sym e) (nothing-listed Lists told kept)) h
+
+-- a remark adds the game that was left out
+pub remark-listed : (Lists : List Entry → Type 0) (r : Result Told RunFault) (told : List Entry) (line : List ℕ) (document : Document) (number : ℕ)
+    (text : List ℕ) (old new : Option (List ℕ)) → IfOk r (RemarkWritten text old new) → IfOk r (λ t. Lists (told ++ games_in line))
+    → IfOk r (λ t. Lists (told ++ listed_in line t document number))
+remark-listed Lists (Ok t) told line document number text old new (e, wrote) kept =
+    subst (λ (x : Told). Lists (told ++ listed_in line x document number)) (sym e) kept
+remark-listed Lists (Err fault) told line document number text old new h kept = tt
 
 pub adds-weaker : (I J : Added → Type 0) (H K : State → Type 0) (r : Result Told RunFault) (old new : Option (List ℕ)) → ((a : Added) → I a → J a)
     → ((s : State) → H s → K s) → IfOk r (Adds I H old new) → IfOk r (Adds J K old new)

@@ -1,5 +1,5 @@
 -- What is known of a line, by its kind.
-use Rattle.std.proofs.Common.{◌≡◌, ℕ, Bool, true, false, ◌&&◌, List, Option, Some, None, Ok, Err, refl, sym, ap, ◌∙◌}
+use Rattle.std.proofs.Common.{◌≡◌, ℕ, Bool, true, false, ◌&&◌, ◌||◌, List, [], ◌∷◌, Option, Some, None, Ok, Err, refl, sym, ap, ◌∙◌}
 use Rattle.std.specs.Prelude.{IfSome, if◌then◌else◌}
 use Rattle.study_material.specs.declared.class.Class.{Class}
 use Rattle.study_command.specs.declared.command.TableCommand.TheVariants.{Build, Load, Save, Verify}
@@ -13,8 +13,8 @@ use Rattle.study_script.specs.State.{cut_off, file, header}
 use Rattle.study_script.specs.Replies.{Reply, refused, class_told, IsPgnReply, IsReplyWhere, IsReplyIn, begins_position, emptied}
 use Rattle.study_report.specs.declared.kind.Kind.{Kind}
 use Rattle.study_report.specs.declared.kind.Kind.TheVariants.{Remark, PassedOver, Study, Checked}
-use Rattle.study_report.specs.Remarks.{is_remark}
-use Rattle.study_report.specs.Told.{kind_in, line_kind, class_kind}
+use Rattle.study_report.specs.Remarks.{is_remark, is_left_out, is_original, is_omission}
+use Rattle.study_report.specs.Told.{kind_in, line_kind, class_kind, game_entry, games_in}
 use Rattle.study_report.specs.Written.{none_trusted}
 
 -- ---- a line that is no remark
@@ -26,6 +26,15 @@ plain-kind false k kind other e = e
 
 plain-study : (line : List ℕ) → line_kind line ≡ Study → kind_in (command_of line) ≡ Study
 plain-study line k = plain-kind (is_remark line) (kind_in (command_of line)) Study (λ e. absurd cc) k
+
+-- it is not the remark of a game
+no-game : (left original omission : Bool) (line : List ℕ) (k kind : Kind) → (Remark ≡ kind → ⊥)
+    → (if (left || original) || omission then Remark else k) ≡ kind → (if left then game_entry line ∷ [] else []) ≡ []
+no-game true original omission line k kind other e = absurd (other e)
+no-game false original omission line k kind other e = refl
+
+pub no-games : (line : List ℕ) (kind : Kind) → (Remark ≡ kind → ⊥) → line_kind line ≡ kind → games_in line ≡ []
+no-games line kind other e = no-game (is_left_out line) (is_original line) (is_omission line) line (kind_in (command_of line)) kind other e
 
 -- ---- a line that is answered opens no file
 

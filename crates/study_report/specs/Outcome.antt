@@ -12,7 +12,7 @@ use Rattle.study_script.specs.declared.running.RunFault.TheVariants.{ReadDevice,
 use Rattle.study_script.specs.State.{State, empty}
 use Rattle.study_material.specs.declared.class.Class.{Class}
 use Rattle.study_script.specs.Outcome.{AreShort, AreLeft, Shape as ScriptShape}
-use Rattle.study_report.specs.Told.{Point, Added, IsAdded, refusal_count, studies_in}
+use Rattle.study_report.specs.Told.{Point, Added, IsAdded, refusal_count, Entry, entries_in}
 
 -- no study and no start; the tables of these classes are loaded and may fail in any way; nothing is known of files
 abbrev pub over_tables : List Class → Bool → State
@@ -64,10 +64,10 @@ module _ (tells : Plainly → ℕ → List ℕ → Type 0) (refusal : ℕ → Li
   IsFollowed first script old new HoldsIt = (added : List Added) × AreAdded (begun first) (script_lines script) added
       × Appends old new (report_text added) × HoldsIt (point_after (begun first) added).state
 
-  -- the text of all lines of a script is written, and this is true of the studies that they reported
-  abbrev pub AreListed : State → List ℕ → Option (List ℕ) → Option (List ℕ) → (List (Plainly × ℕ) → Type 0) → Type 0
+  -- the text of all lines of a script is written, and this is true of their entries
+  abbrev pub AreListed : State → List ℕ → Option (List ℕ) → Option (List ℕ) → (List Entry → Type 0) → Type 0
   AreListed first script old new Lists = (added : List Added) × AreAdded (begun first) (script_lines script) added
-      × Appends old new (report_text added) × Lists (studies_in added)
+      × Appends old new (report_text added) × Lists (entries_in (script_lines script) added)
 
   -- the text of the first n lines is written, and the run stopped for this fault after them; if the writer failed, a prefix of the text of the next line
   -- is written too
@@ -79,11 +79,11 @@ module _ (tells : Plainly → ℕ → List ℕ → Type 0) (refusal : ℕ → Li
   StoppedAfter p lines n added old new TooManyLines = (n ≡ 100000) × Appends old new (report_text added)
   StoppedAfter p lines n added old new fault = Appends old new (report_text added)
 
-  -- after a run that stopped for this fault: this is true of the studies that the lines before the stop reported
-  abbrev pub AreListedBefore : State → List ℕ → Option (List ℕ) → Option (List ℕ) → (List (Plainly × ℕ) → Type 0) → RunFault → Type 0
+  -- after a run that stopped for this fault: this is true of the entries of the lines before the stop
+  abbrev pub AreListedBefore : State → List ℕ → Option (List ℕ) → Option (List ℕ) → (List Entry → Type 0) → RunFault → Type 0
   AreListedBefore first script old new Lists fault = (n : ℕ) × (n ≤ length (script_lines script)) × (added : List Added)
       × AreAdded (begun first) (take n (script_lines script)) added
-      × StoppedAfter (begun first) (script_lines script) n added old new fault × Lists (studies_in added)
+      × StoppedAfter (begun first) (script_lines script) n added old new fault × Lists (entries_in (take n (script_lines script)) added)
 
   -- the state at the beginning, the bytes of a script, what the reader has left of them, what the writer had and has, and the result
   abbrev pub Outcome : State → List ℕ → Option (List ℕ) → Option (List ℕ) → Option (List ℕ) → Result Summary RunFault → Type 0

@@ -18,7 +18,7 @@ use Rattle.study_report.specs.declared.kind.Kind.TheVariants.{Remark, PassedOver
 use Rattle.study_report.specs.declared.told.Place.{Place}
 use Rattle.study_report.specs.declared.told.Told.{Told}
 use Rattle.study_report.specs.declared.told.Told.TheVariants.{Nothing, Study as AStudy, Refusal as ARefusal}
-use Rattle.study_report.specs.Remarks.{is_remark}
+use Rattle.study_report.specs.Remarks.{is_remark, is_left_out}
 
 -- ---- the kinds of lines
 
@@ -93,22 +93,32 @@ lacks_study empty = true
 lacks_study (start s) = true
 lacks_study (study plain) = false
 
+-- an entry of a report: a study with its number, or the remark of a game that was left out
+pub data Entry : Type 0 where
+  study_entry : Plainly → ℕ → Entry
+  game_entry : List ℕ → Entry
+
 -- the study in a document with its number, if there is one
-abbrev pub studies_on : Document → ℕ → List (Plainly × ℕ)
+abbrev pub studies_on : Document → ℕ → List Entry
 studies_on empty number = []
 studies_on (start s) number = []
-studies_on (study plain) number = (plain, number) ∷ []
+studies_on (study plain) number = study_entry plain number ∷ []
 
--- the study that a line reported, if it is in this document
-abbrev pub listed_in : Told → Document → ℕ → List (Plainly × ℕ)
-listed_in Nothing document number = []
-listed_in AStudy document number = studies_on document number
-listed_in ARefusal document number = []
+-- the game that was left out, if the line is its remark
+abbrev pub games_in : List ℕ → List Entry
+games_in line = if is_left_out line then game_entry line ∷ [] else []
 
--- the studies that lines reported, each with its number
-abbrev pub studies_in : List Added → List (Plainly × ℕ)
-studies_in [] = []
-studies_in (a ∷ more) = listed_in a.told a.after.state.document a.after.studies ++ studies_in more
+-- the study that a line reported, if it is in this document; without a study or a refusal, the game that was left out
+abbrev pub listed_in : List ℕ → Told → Document → ℕ → List Entry
+listed_in line Nothing document number = games_in line
+listed_in line AStudy document number = studies_on document number
+listed_in line ARefusal document number = []
+
+-- the entries of lines, in their order
+abbrev pub entries_in : List (List ℕ) → List Added → List Entry
+entries_in [] added = []
+entries_in (line ∷ lines) [] = []
+entries_in (line ∷ lines) (a ∷ more) = listed_in line a.told a.after.state.document a.after.studies ++ entries_in lines more
 
 module _ (tells : Plainly → ℕ → List ℕ → Type 0) (refusal : ℕ → List ℕ → List ℕ → List ℕ) (remark : List ℕ → List ℕ) where
   -- the line is refused: it uses no number of a study

@@ -9,7 +9,7 @@ ghost use Rattle.study_script.specs.State.{State, study};
 ghost use Rattle.study_script.specs.Held.{Holds, document_seen};
 ghost use Rattle.study_script.specs.Session.{SessionHolds};
 ghost use Rattle.study_script.specs.Stores.{HonestOn, IsTrusted};
-ghost use Rattle.study_report.specs.Told.{Point, line_kind, IsAdded, IsAddedAs, IsAt, IsStudyTold, study_count, listed_in};
+ghost use Rattle.study_report.specs.Told.{Point, line_kind, IsAdded, IsAddedAs, IsAt, IsStudyTold, study_count, Entry, games_in, listed_in};
 ghost use Rattle.study_report.specs.Written.{none_trusted, Adds, StopsIn, Stops, IsReplied};
 ghost use Rattle.study_report.specs.Parts.{IsReplyPiece, IsPart, IsPartAs, WritesPart};
 
@@ -66,7 +66,7 @@ fn add_refusal<'a, A: Allocator, W: Write, T: Report>(
     ensures ok { IfOk result (λ told. (told ≡ Told.Refusal)
         × Appends (W.contents out.old) (W.contents out.new) (T.refusal number line.now reply.now)) }
     ensures err { IfErr result (StopsIn (T.refusal number line.now reply.now) (W.contents out.old) (W.contents out.new)) }
-    ensures listed { (told : List (Plainly × ℕ)) → T.lists report.old told → T.lists report.new told }
+    ensures listed { (told : List Entry) → T.lists report.old told → T.lists report.new told }
     ensures stops { IfErr result (λ e. (e ≡ WriteDevice) ⊎ (e ≡ OutOfMemory)) }
 {
     match report.add_refusal(alloc, number, line, reply, out) {
@@ -89,7 +89,7 @@ fn refuse_line<'a, A: Allocator, W: Write, T: Report>(
         × Appends (W.contents out.old) (W.contents out.new) (T.refusal number line.now (reply_line (codes "error ") (words_of refusal)))) }
     ensures err { IfErr result (StopsIn (T.refusal number line.now (reply_line (codes "error ") (words_of refusal)))
         (W.contents out.old) (W.contents out.new)) }
-    ensures listed { (told : List (Plainly × ℕ)) → T.lists report.old told → T.lists report.new told }
+    ensures listed { (told : List Entry) → T.lists report.old told → T.lists report.new told }
     ensures stops { IfErr result (λ e. (e ≡ WriteDevice) ⊎ (e ≡ OutOfMemory)) }
 {
     let mut reply = MemoryWriter::new(alloc);
@@ -108,7 +108,9 @@ fn add_remark<'a, A: Allocator, W: Write, T: Report>(
 ) -> Result<Told, RunFault>
     ensures ok { IfOk result (λ told. (told ≡ Told.Nothing) × Appends (W.contents out.old) (W.contents out.new) (T.remark line.now)) }
     ensures err { IfErr result (StopsIn (T.remark line.now) (W.contents out.old) (W.contents out.new)) }
-    ensures listed { (told : List (Plainly × ℕ)) → T.lists report.old told → T.lists report.new told }
+    ensures listed { (told : List Entry) → T.lists report.old told
+        → IfOk result (λ t. T.lists report.new (told ++ games_in line.now)) }
+    ensures unlisted { (told : List Entry) → T.lists report.old told → IfErr result (λ e. T.lists report.new told) }
     ensures stops { IfErr result (λ e. (e ≡ WriteDevice) ⊎ (e ≡ OutOfMemory)) }
 {
     match report.add_remark(alloc, line, out) {
@@ -139,7 +141,7 @@ fn add_checked<'a, 's, S: TableStore, A: Allocator, W: Write, T: Report>(
         session.old.document session.old.tables session.old.store.now p.state
         → number ≡ suc p.lines
         → IfErr result (Stops (IsAddedAs T.tells T.refusal T.remark Kind.Checked p line.now) (W.contents out.old) (W.contents out.new)) }
-    ensures listed { (told : List (Plainly × ℕ)) → T.lists report.old told → T.lists report.new told }
+    ensures listed { (told : List Entry) → T.lists report.old told → T.lists report.new told }
     ensures told_none { IfOk result (λ t. study_count t ≡ 0) }
     ensures written { (next : ℕ) → IfOk result (WritesPart (IsPartAs T.form T.refusal T.remark Kind.Checked number next line.now)
         (W.contents out.old) (W.contents out.new)) }
@@ -171,9 +173,9 @@ fn tell_study<'a, P: PageSource, A: Allocator, W: Write, T: Report>(
     ensures err { (p : Point) (s : State) (plain : Plainly) → Holds P.honest P.gives document.now tables.old s → s.document ≡ study plain
         → IsAt p at
         → IfErr result (Stops (IsStudyTold T.tells T.refusal T.remark p s line.now) (W.contents out.old) (W.contents out.new)) }
-    ensures listed { (s : State) (told : List (Plainly × ℕ)) → Holds P.honest P.gives document.now tables.old s → T.lists report.old told
-        → IfOk result (λ t. T.lists report.new (told ++ listed_in t s.document (at.studies + 1))) }
-    ensures unlisted { (told : List (Plainly × ℕ)) → T.lists report.old told → IfErr result (λ e. T.lists report.new told) }
+    ensures listed { (s : State) (told : List Entry) → Holds P.honest P.gives document.now tables.old s → T.lists report.old told
+        → IfOk result (λ t. T.lists report.new (told ++ listed_in line.now t s.document (at.studies + 1))) }
+    ensures unlisted { (told : List Entry) → T.lists report.old told → IfErr result (λ e. T.lists report.new told) }
     ensures written { IfOk result (WritesPart (IsPartAs T.form T.refusal T.remark Kind.Study at.line (at.studies + 1) line.now)
         (W.contents out.old) (W.contents out.new)) }
     ensures stops { IfErr result (λ e. (e ≡ WriteDevice) ⊎ (e ≡ OutOfMemory)) }
@@ -215,12 +217,12 @@ fn add_pgn<'a, 's, S: TableStore, A: Allocator, W: Write, T: Report>(
         session.old.document session.old.tables session.old.store.now p.state
         → IsAt p at
         → IfErr result (Stops (IsAddedAs T.tells T.refusal T.remark Kind.Study p line.now) (W.contents out.old) (W.contents out.new)) }
-    ensures listed { (p : Point) (told : List (Plainly × ℕ)) → line_kind line.now ≡ Kind.Study →
+    ensures listed { (p : Point) (told : List Entry) → line_kind line.now ≡ Kind.Study →
         SessionHolds S.Pages.honest S.Pages.gives (HonestOn none_trusted S.honest) S.files S.headers S.faults
         session.old.document session.old.tables session.old.store.now p.state
         → T.lists report.old told
-        → IfOk result (λ t. T.lists report.new (told ++ listed_in t (document_seen session.new.document) (at.studies + 1))) }
-    ensures unlisted { (told : List (Plainly × ℕ)) → T.lists report.old told → IfErr result (λ e. T.lists report.new told) }
+        → IfOk result (λ t. T.lists report.new (told ++ listed_in line.now t (document_seen session.new.document) (at.studies + 1))) }
+    ensures unlisted { (told : List Entry) → T.lists report.old told → IfErr result (λ e. T.lists report.new told) }
     ensures written { IfOk result (WritesPart (IsPartAs T.form T.refusal T.remark Kind.Study at.line (at.studies + 1) line.now)
         (W.contents out.old) (W.contents out.new)) }
     ensures stops { IfErr result (λ e. (e ≡ WriteDevice) ⊎ (e ≡ OutOfMemory)) }
@@ -264,12 +266,12 @@ pub fn add_line<'a, 's, S: TableStore, A: Allocator, W: Write, T: Report>(
         session.old.document session.old.tables session.old.store.now p.state
         → IsAt p at
         → IfErr result (Stops (IsAdded T.tells T.refusal T.remark p line.now) (W.contents out.old) (W.contents out.new)) }
-    ensures listed { (p : Point) (told : List (Plainly × ℕ)) →
+    ensures listed { (p : Point) (told : List Entry) →
         SessionHolds S.Pages.honest S.Pages.gives (HonestOn none_trusted S.honest) S.files S.headers S.faults
         session.old.document session.old.tables session.old.store.now p.state
         → T.lists report.old told
-        → IfOk result (λ t. T.lists report.new (told ++ listed_in t (document_seen session.new.document) (at.studies + 1))) }
-    ensures unlisted { (told : List (Plainly × ℕ)) → T.lists report.old told → IfErr result (λ e. T.lists report.new told) }
+        → IfOk result (λ t. T.lists report.new (told ++ listed_in line.now t (document_seen session.new.document) (at.studies + 1))) }
+    ensures unlisted { (told : List Entry) → T.lists report.old told → IfErr result (λ e. T.lists report.new told) }
     ensures written { IfOk result (WritesPart (IsPart T.form T.refusal T.remark at.line (at.studies + 1) line.now)
         (W.contents out.old) (W.contents out.new)) }
     ensures stops { IfErr result (λ e. (e ≡ WriteDevice) ⊎ (e ≡ OutOfMemory)) }

@@ -8,6 +8,7 @@ ghost use Rattle.study_script.specs.Session.{SessionHolds};
 ghost use Rattle.study_script.specs.Stores.{HonestOn};
 ghost use Rattle.study_report.specs.Outcome.{IsFollowed, AreListed, AreListedBefore, Outcome, Shape, over_tables};
 ghost use Rattle.study_report.specs.Parts.{Fits};
+ghost use Rattle.study_report.specs.Told.{Entry};
 ghost use Rattle.study_report.specs.Written.{none_trusted};
 
 use crate::adding::add_line;
@@ -40,12 +41,12 @@ pub fn follow<'a, 's, R: Read, W: Write, S: TableStore, A: Allocator, T: Report>
         → OnOk result (IfSome (R.remaining script.old) (λ bytes. IsFollowed T.tells T.refusal T.remark first bytes (W.contents out.old) (W.contents out.new)
         (SessionHolds S.Pages.honest S.Pages.gives (HonestOn none_trusted S.honest) S.files S.headers S.faults
         session.new.document session.new.tables session.new.store.now))) }
-    ensures listed { (first : State) (told : List (Plainly × ℕ)) → SessionHolds S.Pages.honest S.Pages.gives (HonestOn none_trusted S.honest)
+    ensures listed { (first : State) (told : List Entry) → SessionHolds S.Pages.honest S.Pages.gives (HonestOn none_trusted S.honest)
         S.files S.headers S.faults session.old.document session.old.tables session.old.store.now first
         → T.lists report.old told
         → OnOk result (IfSome (R.remaining script.old) (λ bytes. AreListed T.tells T.refusal T.remark first bytes (W.contents out.old) (W.contents out.new)
         (λ more. T.lists report.new (told ++ more)))) }
-    ensures listed_before { (first : State) (told : List (Plainly × ℕ)) → SessionHolds S.Pages.honest S.Pages.gives (HonestOn none_trusted S.honest)
+    ensures listed_before { (first : State) (told : List Entry) → SessionHolds S.Pages.honest S.Pages.gives (HonestOn none_trusted S.honest)
         S.files S.headers S.faults session.old.document session.old.tables session.old.store.now first
         → T.lists report.old told
         → IfErr result (λ fault. IfSome (R.remaining script.old) (λ bytes. AreListedBefore T.tells T.refusal T.remark first bytes
@@ -97,11 +98,11 @@ pub fn follow_script<'a, R: Read, W: Write, P: PageSource, A: Allocator, T: Repo
         → IfSome (R.remaining script.old)
         (λ bytes. Outcome T.tells T.refusal T.remark (over_tables classes (are_paged tables.entry)) bytes (R.remaining script.new)
         (W.contents out.old) (W.contents out.new) result) }
-    ensures listed { (classes : List AClass) (told : List (Plainly × ℕ)) → tables_honest P.honest tables.entry
+    ensures listed { (classes : List AClass) (told : List Entry) → tables_honest P.honest tables.entry
         → ((c : AClass) → tables_held tables.entry c ≡ is_among classes c) → T.lists report.old told
         → OnOk result (IfSome (R.remaining script.old) (λ bytes. AreListed T.tells T.refusal T.remark (over_tables classes (are_paged tables.entry)) bytes
         (W.contents out.old) (W.contents out.new) (λ more. T.lists report.new (told ++ more)))) }
-    ensures listed_before { (classes : List AClass) (told : List (Plainly × ℕ)) → tables_honest P.honest tables.entry
+    ensures listed_before { (classes : List AClass) (told : List Entry) → tables_honest P.honest tables.entry
         → ((c : AClass) → tables_held tables.entry c ≡ is_among classes c) → T.lists report.old told
         → IfErr result (λ fault. IfSome (R.remaining script.old) (λ bytes. AreListedBefore T.tells T.refusal T.remark (over_tables classes (are_paged
         tables.entry))
@@ -127,12 +128,12 @@ pub fn follow_over<'a, R: Read, W: Write, S: TableStore, A: Allocator, T: Report
         Document.Empty tables.entry store.old first
         → IfSome (R.remaining script.old)
         (λ bytes. Outcome T.tells T.refusal T.remark first bytes (R.remaining script.new) (W.contents out.old) (W.contents out.new) result) }
-    ensures listed { (first : State) (told : List (Plainly × ℕ)) → SessionHolds S.Pages.honest S.Pages.gives (HonestOn none_trusted S.honest)
+    ensures listed { (first : State) (told : List Entry) → SessionHolds S.Pages.honest S.Pages.gives (HonestOn none_trusted S.honest)
         S.files S.headers S.faults Document.Empty tables.entry store.old first
         → T.lists report.old told
         → OnOk result (IfSome (R.remaining script.old) (λ bytes. AreListed T.tells T.refusal T.remark first bytes (W.contents out.old) (W.contents out.new)
         (λ more. T.lists report.new (told ++ more)))) }
-    ensures listed_before { (first : State) (told : List (Plainly × ℕ)) → SessionHolds S.Pages.honest S.Pages.gives (HonestOn none_trusted S.honest)
+    ensures listed_before { (first : State) (told : List Entry) → SessionHolds S.Pages.honest S.Pages.gives (HonestOn none_trusted S.honest)
         S.files S.headers S.faults Document.Empty tables.entry store.old first
         → T.lists report.old told
         → IfErr result (λ fault. IfSome (R.remaining script.old) (λ bytes. AreListedBefore T.tells T.refusal T.remark first bytes

@@ -8,6 +8,7 @@ ghost use Rattle.study_marks.specs.BenchState.{marked, IsKeptRight};
 ghost use Rattle.study_marks.specs.Study.{plain_study};
 ghost use Rattle.study_facts.specs.Asked.{within};
 ghost use Rattle.study_facts.specs.Order.{HasReviewed};
+ghost use Rattle.study_report.specs.Told.{Entry, study_entry, games_in};
 
 use std::alloc::Allocator;
 use std::io::Write;
@@ -51,8 +52,9 @@ pub trait Report {
     /// The report of a remark.
     ghost remark: { List ℕ → List ℕ };
 
-    /// The summary that the report keeps for its end lists these studies, each with its number, in the order in which they were reported.
-    ghost lists: { Self → List (Plainly × ℕ) → Type 0 };
+    /// The summary that the report keeps for its end lists these entries: studies, each with its number, and games that were left out, in the order
+    /// in which they were reported.
+    ghost lists: { Self → List Entry → Type 0 };
 
     /// Reports the study of this number. Nothing is written before its last value was probed.
     fn add_study<'a, 'b, A: Allocator, B: Allocator, V: Values, W: Write>(
@@ -70,9 +72,9 @@ pub trait Report {
             × tells (plain_study (marked bench.now)) number text × TakesPrefix (W.contents out.old) (W.contents out.new) text }
         ensures memory { result ≡ Err ReviewFault.OutOfMemory → out.new ≡ out.old }
         ensures untold { (fault : AProbeFault) → result ≡ Err (ReviewFault.Values fault) → out.new ≡ out.old }
-        ensures listed { (told : List (Plainly × ℕ)) → V.is_honest values.old → IsKeptRight bench.now → lists self.old told
-            → OnOk result (lists self.new (told ++ (plain_study (marked bench.now), number) ∷ [])) }
-        ensures unlisted { (told : List (Plainly × ℕ)) → lists self.old told → OnErr result (lists self.new told) }
+        ensures listed { (told : List Entry) → V.is_honest values.old → IsKeptRight bench.now → lists self.old told
+            → OnOk result (lists self.new (told ++ study_entry (plain_study (marked bench.now)) number ∷ [])) }
+        ensures unlisted { (told : List Entry) → lists self.old told → OnErr result (lists self.new told) }
         ensures asked { HasReviewed V.held (within (marked bench.now).start.position V.gives)
             V.may_fail V.asked_of V.failed_of V.is_honest values.old result values.new };
 
@@ -88,7 +90,7 @@ pub trait Report {
         ensures told { OnOk result (Appends (W.contents out.old) (W.contents out.new) (refusal number line.now reply.now)) }
         ensures device { result ≡ Err NotTold.Device → TakesPrefix (W.contents out.old) (W.contents out.new) (refusal number line.now reply.now) }
         ensures memory { result ≡ Err NotTold.OutOfMemory → out.new ≡ out.old }
-        ensures listed { (told : List (Plainly × ℕ)) → lists self.old told → lists self.new told };
+        ensures listed { (told : List Entry) → lists self.old told → lists self.new told };
 
     /// Reports a remark: a comment that says why a game is left out, or that has the original text of a tag.
     fn add_remark<'a, A: Allocator, W: Write>(
@@ -100,5 +102,6 @@ pub trait Report {
         ensures told { OnOk result (Appends (W.contents out.old) (W.contents out.new) (remark line.now)) }
         ensures device { result ≡ Err NotTold.Device → TakesPrefix (W.contents out.old) (W.contents out.new) (remark line.now) }
         ensures memory { result ≡ Err NotTold.OutOfMemory → out.new ≡ out.old }
-        ensures listed { (told : List (Plainly × ℕ)) → lists self.old told → lists self.new told };
+        ensures listed { (told : List Entry) → lists self.old told → OnOk result (lists self.new (told ++ games_in line.now)) }
+        ensures unlisted { (told : List Entry) → lists self.old told → OnErr result (lists self.new told) };
 }

@@ -10,7 +10,7 @@ ghost use Rattle.study_marks.specs.BenchState.{marked, IsKeptRight};
 ghost use Rattle.study_marks.specs.Study.{plain_study};
 ghost use Rattle.study_script.specs.State.{State, study};
 ghost use Rattle.study_script.specs.Held.{Holds, document_seen, tables_honest, tables_held, tables_may_fail, are_paged};
-ghost use Rattle.study_report.specs.Told.{IsUntoldBy, IsUntoldIn, lacks_study, studies_on};
+ghost use Rattle.study_report.specs.Told.{IsUntoldBy, IsUntoldIn, lacks_study, Entry, study_entry, studies_on};
 ghost use Rattle.study_report.specs.Written.{IsSection, IsSectionPart};
 
 use crate::report::Report;
@@ -38,9 +38,9 @@ pub fn add_study<'a, P: PageSource, A: Allocator, W: Write, T: Report>(
         × T.tells (plain_study (marked bench.now)) number text × TakesPrefix (W.contents out.old) (W.contents out.new) text }
     ensures memory { result ≡ Err ReviewFault.OutOfMemory → out.new ≡ out.old }
     ensures untold { (fault : AProbeFault) → result ≡ Err (ReviewFault.Values fault) → out.new ≡ out.old }
-    ensures listed { (told : List (Plainly × ℕ)) → tables_honest P.honest tables.old → IsKeptRight bench.now → T.lists report.old told
-        → OnOk result (T.lists report.new (told ++ (plain_study (marked bench.now), number) ∷ [])) }
-    ensures unlisted { (told : List (Plainly × ℕ)) → T.lists report.old told → OnErr result (T.lists report.new told) }
+    ensures listed { (told : List Entry) → tables_honest P.honest tables.old → IsKeptRight bench.now → T.lists report.old told
+        → OnOk result (T.lists report.new (told ++ study_entry (plain_study (marked bench.now)) number ∷ [])) }
+    ensures unlisted { (told : List Entry) → T.lists report.old told → OnErr result (T.lists report.new told) }
     ensures why { (fault : AProbeFault) → tables_honest P.honest tables.old → result ≡ Err (ReviewFault.Values fault)
         → IsUntoldBy (tables_held tables.old) (are_paged tables.old) (tables_may_fail P.gives tables.old) (marked bench.now).start.position fault }
     ensures honest { tables_honest P.honest tables.old → tables_honest P.honest tables.new }
@@ -72,9 +72,9 @@ pub fn add_section<'a, P: PageSource, A: Allocator, W: Write, T: Report>(
         → IsSectionPart T.tells s.document number (W.contents out.old) (W.contents out.new) }
     ensures memory { result ≡ Err ReviewFault.OutOfMemory → out.new ≡ out.old }
     ensures untold { (fault : AProbeFault) → result ≡ Err (ReviewFault.Values fault) → out.new ≡ out.old }
-    ensures listed { (s : State) (told : List (Plainly × ℕ)) → Holds P.honest P.gives document.now tables.old s → T.lists report.old told
+    ensures listed { (s : State) (told : List Entry) → Holds P.honest P.gives document.now tables.old s → T.lists report.old told
         → OnOk result (T.lists report.new (told ++ studies_on s.document number)) }
-    ensures unlisted { (told : List (Plainly × ℕ)) → T.lists report.old told → OnErr result (T.lists report.new told) }
+    ensures unlisted { (told : List Entry) → T.lists report.old told → OnErr result (T.lists report.new told) }
     ensures why { (s : State) (plain : Plainly) (fault : AProbeFault) → Holds P.honest P.gives document.now tables.old s → s.document ≡ study plain
         → result ≡ Err (ReviewFault.Values fault) → IsUntoldIn s plain.start.position fault }
     ensures holds { (s : State) → Holds P.honest P.gives document.now tables.old s → Holds P.honest P.gives document.now tables.new s }

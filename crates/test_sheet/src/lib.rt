@@ -1,7 +1,9 @@
-//! Tests of sheets of diagrams, of lists, and of the remarks on printed pages. The expected texts are laid out by hand, by their description in
-//! docs/REPORT.md; the drawing of a board is that of an independent program's pages. Only tests call these functions.
+//! Tests of sheets of diagrams, of lists, and of the remarks and the list of entries on printed pages. The expected texts are laid out by hand, by
+//! their description in docs/REPORT.md; the drawing of a board is that of an independent program's pages. Only tests call these functions.
 #![tactic(auto)]
 
+#[cfg(test)]
+mod entries;
 #[cfg(test)]
 mod kings;
 #[cfg(test)]

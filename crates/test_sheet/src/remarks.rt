@@ -34,10 +34,15 @@ const REMARKS: &str =
 <p class=\"warn\">Line 8 was refused: <code>delete 7</code> <b>NoStudy</b>: no stipulation yet</p>\
 <p class=\"warn\">No page for game 2, line 31: left out: 7 men</p>\
 <p class=\"warn\">No page for game 3, line 52, column 17: NoSuchMove at Kb6</p>\
-<p class=\"warn\">No page for game 4, line 60: NoStipulation</p></body></html>\n";
+<p class=\"warn\">No page for game 4, line 60: NoStipulation</p>\
+<article class=\"sum\"><header><h1>Entries and verdicts</h1></header><table><thead><tr><th>No.</th><th>Title</th><th>Author</th>\
+<th>Stipulation</th><th>Verdict</th></tr></thead><tbody>\
+<tr><td></td><td>game 2, line 31</td><td></td><td></td><td>left out: 7 men</td></tr>\
+<tr><td></td><td>game 3, line 52, column 17</td><td></td><td></td><td>NoSuchMove at Kb6</td></tr>\
+<tr><td></td><td>game 4, line 60</td><td></td><td></td><td>NoStipulation</td></tr></tbody></table></article></body></html>\n";
 
 /// The pages that are written to this writer, and the result.
-fn pages_to<'a>(
+pub fn pages_to<'a>(
     rt: &impl Abort,
     alloc: &'a Global,
     script: &[u8],
@@ -86,7 +91,7 @@ fn an_original_may_be_latin_1(rt: HostRuntime) -> Result<(), Fail> {
 fn a_full_writer_has_the_front_of_the_pages(rt: HostRuntime) -> Result<(), Fail> {
     let alloc = rt.alloc();
     let (whole, _) = pages_to(&rt, &alloc, SCRIPT.as_bytes(), MemoryWriter::new(&alloc));
-    for left in [REMARKS.len() - 30, 100, 1] {
+    for left in [REMARKS.len() - 30, 700, 100, 1] {
         let room = whole.len().saturating_sub(left);
         let writer = MemoryWriter::with_room(&alloc, room, WhenFull::Fail);
         let (text, answer) = pages_to(&rt, &alloc, SCRIPT.as_bytes(), writer);

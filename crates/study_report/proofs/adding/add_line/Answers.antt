@@ -1,4 +1,4 @@
-use Rattle.std.proofs.Common.{◌≡◌, ◌+◌, refl, sym, subst, ◌∙◌}
+use Rattle.std.proofs.Common.{◌≡◌, ◌+◌, List, ◌++◌, refl, sym, subst, ◌∙◌}
 use Rattle.std.specs.Prelude.{codes}
 use Rattle.std.proofs.KnownBytes.{Appends-nil}
 use Rattle.study_reply.specs.Names.{words_of}
@@ -11,10 +11,10 @@ use Rattle.study_script.specs.Held.{document_seen}
 use Rattle.study_script.specs.Session.{SessionHolds}
 use Rattle.study_script.specs.Stores.{HonestOn}
 use Rattle.study_report.specs.Written.{none_trusted}
-use Rattle.study_report.specs.Told.{line_kind, IsAdded, IsAddedAs, nothing_added, refusal_added, remark_added}
-use Rattle.study_report.proofs.LineKinds.{trusted-checked}
-use Rattle.study_report.proofs.LineAdds.{remark-adds, remark-stops, remark-none, refusal-adds, refusal-stops}
-use Rattle.study_report.proofs.LineAdds.{adds-weaker, stops-weaker, refusal-none, none-listed, nothing-listed}
+use Rattle.study_report.specs.Told.{line_kind, Entry, IsAdded, IsAddedAs, nothing_added, refusal_added, remark_added}
+use Rattle.study_report.proofs.LineKinds.{trusted-checked, no-games}
+use Rattle.study_report.proofs.LineAdds.{remark-adds, remark-stops, remark-listed, refusal-adds, refusal-stops}
+use Rattle.study_report.proofs.LineAdds.{adds-weaker, stops-weaker, none-listed, nothing-listed, refusal-listed}
 use Rattle.study_report.proofs.PartsWritten.{on-err, remark-part, passed-part, no-class-part, part-of-kind}
 use Rattle.study_report.proofs.adding.add_line.Goals as goal
 
@@ -40,8 +40,8 @@ returns-in-Remark-clause-err g c = λ p held at.
 
 pub returns-in-Remark-clause-listed : goal.returns-in-Remark-clause-listed
 returns-in-Remark-clause-listed g c = λ p told held kept.
-    none-listed (g.T.Report.lists c.add_remark.new.report) c.add_remark.result told (document_seen c.args.session.now.document) (c.args.at.studies + 1)
-    (remark-none c.add_remark.result _ (g.W.Write.contents _) (g.W.Write.contents c.add_remark.new.out) c.add_remark.ensures.ok)
+    remark-listed (g.T.Report.lists c.add_remark.new.report) c.add_remark.result told c.args.line.now (document_seen c.args.session.now.document)
+    (c.args.at.studies + 1) _ (g.W.Write.contents _) (g.W.Write.contents c.add_remark.new.out) c.add_remark.ensures.ok
     (c.add_remark.ensures.listed told kept)
 
 pub returns-in-Remark-clause-written : goal.returns-in-Remark-clause-written
@@ -49,9 +49,6 @@ returns-in-Remark-clause-written g c =
     remark-part g.T.Report.form g.T.Report.refusal g.T.Report.remark (line_kind c.args.line.now) c.args.line.now c.args.at.line (c.args.at.studies + 1)
     c.add_remark.result (g.W.Write.contents c.args.out.now) (g.W.Write.contents c.add_remark.new.out) (sym c.in-Remark.is ∙ c.kind_of.ensures)
     c.add_remark.ensures.ok
-
-pub returns-in-Remark-clause-unlisted : goal.returns-in-Remark-clause-unlisted
-returns-in-Remark-clause-unlisted g c = λ told kept. on-err c.add_remark.result _ (c.add_remark.ensures.listed told kept)
 
 pub returns-in-PassedOver-clause-ok : goal.returns-in-PassedOver-clause-ok
 returns-in-PassedOver-clause-ok g c = λ p held at.
@@ -131,12 +128,15 @@ returns-in-Checked-clause-err g c = λ p held at.
     (c.add_checked.ensures.err p (trusted-checked c.args.line.now (sym kind)) held at.0)
 
 pub returns-in-PassedOver-clause-listed : goal.returns-in-PassedOver-clause-listed
-returns-in-PassedOver-clause-listed g c = λ p told held kept. nothing-listed (g.T.Report.lists c.args.report.now) told kept
+returns-in-PassedOver-clause-listed g c = λ p told held kept.
+    let kind : line_kind c.args.line.now ≡ PassedOver = sym (sym c.in-PassedOver.is ∙ c.kind_of.ensures) in
+    subst (λ (x : List Entry). g.T.Report.lists c.args.report.now (told ++ x)) (sym (no-games c.args.line.now PassedOver (λ e. absurd cc) kind))
+    (nothing-listed (g.T.Report.lists c.args.report.now) told kept)
 
 pub returns-in-NoClass-clause-listed : goal.returns-in-NoClass-clause-listed
 returns-in-NoClass-clause-listed g c = λ p told held kept.
-    none-listed (g.T.Report.lists c.refuse_line.new.report) c.refuse_line.result told (document_seen c.args.session.now.document) (c.args.at.studies + 1)
-    (refusal-none c.refuse_line.result _ (g.W.Write.contents _) (g.W.Write.contents c.refuse_line.new.out) c.refuse_line.ensures.ok)
+    refusal-listed (g.T.Report.lists c.refuse_line.new.report) c.refuse_line.result told c.args.line.now (document_seen c.args.session.now.document)
+    (c.args.at.studies + 1) _ (g.W.Write.contents _) (g.W.Write.contents c.refuse_line.new.out) c.refuse_line.ensures.ok
     (c.refuse_line.ensures.listed told kept)
 
 pub returns-in-Study-clause-listed : goal.returns-in-Study-clause-listed
@@ -146,8 +146,9 @@ returns-in-Study-clause-listed g c = λ p told held kept.
 
 pub returns-in-Checked-clause-listed : goal.returns-in-Checked-clause-listed
 returns-in-Checked-clause-listed g c = λ p told held kept.
-    none-listed (g.T.Report.lists c.add_checked.new.report) c.add_checked.result told (document_seen c.add_checked.new.session.document)
-    (c.args.at.studies + 1)
+    let kind : line_kind c.args.line.now ≡ Checked = sym (sym c.in-Checked.is ∙ c.kind_of.ensures) in
+    none-listed (g.T.Report.lists c.add_checked.new.report) c.add_checked.result told c.args.line.now (document_seen c.add_checked.new.session.document)
+    (c.args.at.studies + 1) (no-games c.args.line.now Checked (λ e. absurd cc) kind)
     c.add_checked.ensures.told_none (c.add_checked.ensures.listed told kept)
 
 pub returns-in-PassedOver-clause-written : goal.returns-in-PassedOver-clause-written

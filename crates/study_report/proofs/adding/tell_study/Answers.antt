@@ -7,7 +7,7 @@ use Rattle.study_script.specs.Held.{Holds}
 use Rattle.study_script.specs.Replies.{refused}
 use Rattle.study_report.specs.Told.{IsStudyTold}
 use Rattle.study_report.specs.Written.{StopsIn}
-use Rattle.study_report.proofs.LineAdds.{RefusalWritten, refusal-adds, refusal-stops, section-adds, section-stops, left-out, refusal-none, none-listed}
+use Rattle.study_report.proofs.LineAdds.{RefusalWritten, refusal-adds, refusal-stops, section-adds, section-stops, left-out, refusal-listed}
 use Rattle.study_report.proofs.PartsWritten.{on-err, no-study, refusal-part, study-in, left-out-part}
 use Rattle.study_script.specs.Held.{document_seen}
 use Rattle.study_reply.specs.declared.refusal.Refusal.TheVariants.{NoStudy}
@@ -79,15 +79,14 @@ returns-in-Err-Values-clause-err g c = λ p s plain held b at.
 
 pub returns-in-Err-OutOfMemory-clause-listed : goal.returns-in-Err-OutOfMemory-clause-listed
 returns-in-Err-OutOfMemory-clause-listed g c s told held kept =
-    none-listed (g.T.Report.lists c.refuse_line-in-Err-OutOfMemory.new.report) c.refuse_line-in-Err-OutOfMemory.result told s.document (c.args.at.studies + 1)
-    (refusal-none c.refuse_line-in-Err-OutOfMemory.result _ (g.W.Write.contents _) (g.W.Write.contents c.refuse_line-in-Err-OutOfMemory.new.out) c.refuse_line-in-Err-OutOfMemory.ensures.ok)
+    refusal-listed (g.T.Report.lists c.refuse_line-in-Err-OutOfMemory.new.report) c.refuse_line-in-Err-OutOfMemory.result told c.args.line.now s.document (c.args.at.studies + 1) _
+    (g.W.Write.contents _) (g.W.Write.contents c.refuse_line-in-Err-OutOfMemory.new.out) c.refuse_line-in-Err-OutOfMemory.ensures.ok
     (c.refuse_line-in-Err-OutOfMemory.ensures.listed told (c.in-Err-OutOfMemory.ensures.unlisted told kept))
 
 pub returns-in-Err-Values-clause-listed : goal.returns-in-Err-Values-clause-listed
 returns-in-Err-Values-clause-listed g c s told held kept =
-    none-listed (g.T.Report.lists c.refuse_line-in-Err-Values.new.report) c.refuse_line-in-Err-Values.result told s.document (c.args.at.studies + 1)
-    (refusal-none c.refuse_line-in-Err-Values.result _ (g.W.Write.contents _) (g.W.Write.contents c.refuse_line-in-Err-Values.new.out)
-    c.refuse_line-in-Err-Values.ensures.ok)
+    refusal-listed (g.T.Report.lists c.refuse_line-in-Err-Values.new.report) c.refuse_line-in-Err-Values.result told c.args.line.now s.document (c.args.at.studies + 1) _
+    (g.W.Write.contents _) (g.W.Write.contents c.refuse_line-in-Err-Values.new.out) c.refuse_line-in-Err-Values.ensures.ok
     (c.refuse_line-in-Err-Values.ensures.listed told (c.in-Err-Values.ensures.unlisted told kept))
 
 pub returns-then-lacks_study-clause-ok : goal.returns-then-lacks_study-clause-ok
@@ -100,8 +99,8 @@ returns-then-lacks_study-clause-err g c = λ p s plain held b at.
 
 pub returns-then-lacks_study-clause-listed : goal.returns-then-lacks_study-clause-listed
 returns-then-lacks_study-clause-listed g c s told held kept =
-    none-listed (g.T.Report.lists c.refuse_line.new.report) c.refuse_line.result told s.document (c.args.at.studies + 1)
-    (refusal-none c.refuse_line.result _ (g.W.Write.contents _) (g.W.Write.contents c.refuse_line.new.out) c.refuse_line.ensures.ok)
+    refusal-listed (g.T.Report.lists c.refuse_line.new.report) c.refuse_line.result told c.args.line.now s.document (c.args.at.studies + 1) _
+    (g.W.Write.contents _) (g.W.Write.contents c.refuse_line.new.out) c.refuse_line.ensures.ok
     (c.refuse_line.ensures.listed told kept)
 
 pub returns-then-lacks_study-clause-written : goal.returns-then-lacks_study-clause-written

@@ -4,13 +4,12 @@ use Rattle.std.proofs.KnownBytes.{Consumes-nil, Consumes-kept}
 use Rattle.study_command.specs.Lines.{GaveFeeds}
 use Rattle.study_command.proofs.LineTaken.{has_more, has_none, gave-more, gave-same}
 use Rattle.study_script.proofs.FirstLines.{Gone, gone_none, gone_ends, gone_long, gone_many, gone_more, gone_read}
-use Rattle.study_marks.specs.Edits.{Plainly}
 use Rattle.study_script.specs.declared.running.RunFault.TheVariants.{ReadDevice, LineTooLong, TooManyLines}
 use Rattle.study_script.specs.Held.{document_seen}
 use Rattle.study_script.specs.Session.{SessionHolds}
 use Rattle.study_script.specs.Stores.{HonestOn}
 use Rattle.study_report.specs.Outcome.{begun}
-use Rattle.study_report.specs.Told.{IsAdded, listed_in}
+use Rattle.study_report.specs.Told.{IsAdded, Entry, listed_in}
 use Rattle.study_report.specs.Written.{none_trusted, Adds, Stops}
 use Rattle.study_report.proofs.FirstAdded.{HasTold, ToldOn-more, few-told, told_none, told_after, told_listed, listed-before}
 use Rattle.study_report.proofs.FirstAdded.{told_ends, told_long, told_many, told_read, told_stops, gone_stops}
@@ -63,7 +62,7 @@ returns-in-Ok-false-clause-listed g c = λ first before h kept.
     let none = rw c.in-Ok-false.field-0-test at c.in-Ok-false.ensures.line in
     listed-before g.T.Report.tells g.T.Report.refusal g.T.Report.remark (g.T.Report.lists c.args.report.now) (g.T.Report.lists c.loop-n.report) before kept
     (g.R.Read.remaining c.args.script.now) first (g.W.Write.contents c.args.out.now) (g.W.Write.contents c.loop-n.out)
-    (told_listed g.T.Report.tells g.T.Report.refusal g.T.Report.remark (λ more. (told : List (Plainly × ℕ))
+    (told_listed g.T.Report.tells g.T.Report.refusal g.T.Report.remark (λ more. (told : List Entry)
     → g.T.Report.lists c.args.report.now told → g.T.Report.lists c.loop-n.report (told ++ more))
     (g.R.Read.remaining c.args.script.now) (g.R.Read.remaining c.loop-n.script) (g.R.Read.remaining c.read.new.script)
     (g.W.Write.contents c.args.out.now) (g.W.Write.contents c.loop-n.out) first on.point c.read.new.self
@@ -76,7 +75,7 @@ returns-in-Ok-None-clause-listed g c = λ first before h kept.
     let now = g.R.Read.remaining c.loop-n.script in
     listed-before g.T.Report.tells g.T.Report.refusal g.T.Report.remark (g.T.Report.lists c.args.report.now) (g.T.Report.lists c.loop-n.report) before kept
     (g.R.Read.remaining c.args.script.now) first (g.W.Write.contents c.args.out.now) (g.W.Write.contents c.loop-n.out)
-    (told_listed g.T.Report.tells g.T.Report.refusal g.T.Report.remark (λ more. (told : List (Plainly × ℕ))
+    (told_listed g.T.Report.tells g.T.Report.refusal g.T.Report.remark (λ more. (told : List Entry)
     → g.T.Report.lists c.args.report.now told → g.T.Report.lists c.loop-n.report (told ++ more))
     (g.R.Read.remaining c.args.script.now) now (g.R.Read.remaining c.read_byte.new.script)
     (g.W.Write.contents c.args.out.now) (g.W.Write.contents c.loop-n.out) first on.point [] c.loop-n.n c.loop-n.refused on.told
@@ -101,7 +100,7 @@ returns-in-Ok-None-clause-outcome g c = λ first h.
     let old = g.W.Write.contents c.args.out.now in
     let new = g.W.Write.contents c.loop-n.out in
     let at : c.loop-n.n ≡ 100000 = omega arith in
-    let told = subst (λ k. HasTold g.T.Report.tells g.T.Report.refusal g.T.Report.remark (λ more. (before : List (Plainly × ℕ))
+    let told = subst (λ k. HasTold g.T.Report.tells g.T.Report.refusal g.T.Report.remark (λ more. (before : List Entry)
     → g.T.Report.lists c.args.report.now before → g.T.Report.lists c.loop-n.report (before ++ more))
     script now old new first on.point k c.loop-n.refused) at on.told in
     told_ends g.T.Report.tells g.T.Report.refusal g.T.Report.remark (g.R.Read.remaining c.read_byte.new.script) script now
@@ -117,7 +116,7 @@ returns-in-Ok-Some-clause-outcome g c = λ first h.
     let old = g.W.Write.contents c.args.out.now in
     let new = g.W.Write.contents c.loop-n.out in
     let at : c.loop-n.n ≡ 100000 = omega arith in
-    let told = subst (λ k. HasTold g.T.Report.tells g.T.Report.refusal g.T.Report.remark (λ more. (before : List (Plainly × ℕ))
+    let told = subst (λ k. HasTold g.T.Report.tells g.T.Report.refusal g.T.Report.remark (λ more. (before : List Entry)
     → g.T.Report.lists c.args.report.now before → g.T.Report.lists c.loop-n.report (before ++ more))
     script now old new first on.point k c.loop-n.refused) at on.told in
     told_many g.T.Report.tells g.T.Report.refusal g.T.Report.remark (g.R.Read.remaining c.read_byte.new.script) script now old new first on.point
@@ -197,9 +196,9 @@ pub loop-n-init : goal.loop-n-init
 loop-n-init g c = (
   λ first h. record {
     point = begun first;
-    told = told_none g.T.Report.tells g.T.Report.refusal g.T.Report.remark (λ more. (told : List (Plainly × ℕ))
+    told = told_none g.T.Report.tells g.T.Report.refusal g.T.Report.remark (λ more. (told : List Entry)
         → g.T.Report.lists c.args.report.now told → g.T.Report.lists c.args.report.now (told ++ more))
-        (λ told kept. subst (λ (l : List (Plainly × ℕ)). g.T.Report.lists c.args.report.now l) (sym (append-nil told)) kept)
+        (λ told kept. subst (λ (l : List Entry). g.T.Report.lists c.args.report.now l) (sym (append-nil told)) kept)
         (g.R.Read.remaining c.args.script.now) (g.W.Write.contents c.args.out.now) first;
     held = h;
     lines_are = refl;
@@ -236,17 +235,17 @@ loop-n-preserved g c =
           g.S.TableStore.headers g.S.TableStore.faults c.loop-n.session.document c.loop-n.session.tables c.loop-n.session.store.now)
           (SessionHolds g.S.Pages.PageSource.honest g.S.Pages.PageSource.gives (HonestOn none_trusted g.S.TableStore.honest) g.S.TableStore.files
           g.S.TableStore.headers g.S.TableStore.faults c.add_line.new.session.document c.add_line.new.session.tables c.add_line.new.session.store.now)
-          (λ more. (told : List (Plainly × ℕ)) → g.T.Report.lists c.args.report.now told → g.T.Report.lists c.loop-n.report (told ++ more))
-          (λ more. (told : List (Plainly × ℕ)) → g.T.Report.lists c.args.report.now told → g.T.Report.lists c.add_line.new.report (told ++ more))
+          (λ more. (told : List Entry) → g.T.Report.lists c.args.report.now told → g.T.Report.lists c.loop-n.report (told ++ more))
+          (λ more. (told : List Entry) → g.T.Report.lists c.args.report.now told → g.T.Report.lists c.add_line.new.report (told ++ more))
           (document_seen c.add_line.new.session.document)
           (g.R.Read.remaining c.args.script.now) (g.R.Read.remaining c.loop-n.script) (g.R.Read.remaining c.read.new.script)
           (g.W.Write.contents c.args.out.now) mid new first line c.loop-n.n c.loop-n.refused _ c.loop-n.studies _ told on some
           c.in-Ok-true.ensures.short said (ap (λ i. c.loop-n.refused + i) counted) (ap (λ i. c.loop-n.studies + i) numbered)
           (λ s after. after.held.document)
           (λ more kept before have.
-          subst (λ (l : List (Plainly × ℕ)). g.T.Report.lists c.add_line.new.report l)
-          (append_assoc before more (listed_in told (document_seen c.add_line.new.session.document) (c.loop-n.studies + 1)))
-          (c.in-Ok.ensures.listed on.point (before ++ more) on.held (kept before have))),
+          subst (λ (l : List Entry). g.T.Report.lists c.add_line.new.report l)
+          (append_assoc before more (listed_in line told (document_seen c.add_line.new.session.document) (c.loop-n.studies + 1)))
+          (rw c.as_slice.ensures at (c.in-Ok.ensures.listed on.point (before ++ more) on.held (kept before have)))),
       omega (arith, counted, some-more),
       omega (arith, numbered, one-more),
       gave-more (g.R.Read.remaining c.args.script.now) (g.R.Read.remaining c.loop-n.script)

@@ -5,7 +5,7 @@ use Rattle.study_marks.specs.BenchState.{marked}
 use Rattle.study_marks.specs.Study.{plain_study}
 use Rattle.study_script.specs.Held.{document_seen, IsMarked, tables_held, are_paged, tables_may_fail}
 use Rattle.study_script.specs.State.{Document, empty, start, study, is_among}
-use Rattle.study_report.specs.Told.{IsUntoldBy, studies_on}
+use Rattle.study_report.specs.Told.{IsUntoldBy, Entry, studies_on}
 use Rattle.study_report.specs.Written.{IsSection, IsSectionPart}
 use Rattle.study_report.proofs.Reviewed.{untold-same}
 use Rattle.study_report.proofs.section.add_section.Goals as goal
@@ -66,10 +66,10 @@ pub returns-in-Empty-clause-listed : goal.returns-in-Empty-clause-listed
 returns-in-Empty-clause-listed g c s told h kept =
     let seen : empty ≡ s.document = sym (ap document_seen c.in-Empty.is) ∙ h.document in
     subst (λ (b : Document). g.T.Report.lists c.args.report.now (told ++ studies_on b c.args.number)) seen
-    (subst (λ (l : List (Plainly × ℕ)). g.T.Report.lists c.args.report.now l) (sym (append-nil told)) kept)
+    (subst (λ (l : List Entry). g.T.Report.lists c.args.report.now l) (sym (append-nil told)) kept)
 
 pub returns-in-Start-clause-listed : goal.returns-in-Start-clause-listed
 returns-in-Start-clause-listed g c s told h kept =
     let seen : start c.in-Start.field-0 ≡ s.document = sym (ap document_seen c.in-Start.is) ∙ h.document in
     subst (λ (b : Document). g.T.Report.lists c.args.report.now (told ++ studies_on b c.args.number)) seen
-    (subst (λ (l : List (Plainly × ℕ)). g.T.Report.lists c.args.report.now l) (sym (append-nil told)) kept)
+    (subst (λ (l : List Entry). g.T.Report.lists c.args.report.now l) (sym (append-nil told)) kept)

@@ -1,5 +1,7 @@
-use Rattle.std.proofs.Common.{rules}
+use Rattle.std.proofs.Common.{refl, rules}
 use Rattle.study_marks.specs.BenchState.{marked}
+use Rattle.study_marks.specs.Study.{plain_study}
+use Rattle.study_report.specs.Told.{study_entry}
 use Rattle.study_print.proofs.EntriesGrow.{entries_after}
 use Rattle.study_print.proofs.PageTold.{told_plain}
 use Rattle.study_print.proofs.pages.PagesReport.add_study.Goals as goal
@@ -12,5 +14,7 @@ returns-in_err-rows-clause-device g c honest right h =
 pub returns-clause-listed : goal.returns-clause-listed
 returns-clause-listed g c told honest right listed =
     let next = c.next-self in
-    entries_after told c.args.self.now.count next.result c.args.self.now.rows c.in_ok-rows.rows (marked c.args.bench.now) c.args.number listed
-    right.marks (c.in_ok-rows.ensures.rows honest) next.ensures.nothing next.ensures.one next.ensures.several
+    let s = marked c.args.bench.now in
+    let row = c.in_ok-rows.ensures.rows honest in
+    entries_after told c.args.self.now.count next.result c.args.self.now.rows c.in_ok-rows.rows (study_entry (plain_study s) c.args.number) listed
+    (row.0, (s, refl, right.marks, row.1), row.2) next.ensures.nothing next.ensures.one next.ensures.several

@@ -1,0 +1,54 @@
+//! The rows of games that were left out.
+ghost use Rattle.std.specs.Prelude.{◌≡◌, ◌++◌, IfOk, IfErr};
+ghost use Rattle.study_print.specs.Entries.{left_out_row};
+
+use std::alloc::{AllocError, Allocator};
+use study_html::{Element, Html, put_words};
+use study_report::{NotTold, statement, subject};
+
+/// The row of a game that was left out.
+#[tactic(auto, unfolding(crate::specs::Entries::left_out_row))]
+fn left_out_row<'a, A: Allocator>(alloc: &'a A, line: &[u8]) -> Result<Html<'a, A>, AllocError>
+    ensures { IfOk result (λ html. html ≡ left_out_row line.now) }
+{
+    let mut html = Html::new(alloc);
+    let mut row = Html::new(alloc);
+    let nothing = Html::new(alloc);
+    row.put(Element::Cell, &nothing)?;
+    put_words(alloc, &mut row, Element::Cell, subject(line))?;
+    row.put(Element::Cell, &nothing)?;
+    row.put(Element::Cell, &nothing)?;
+    put_words(alloc, &mut row, Element::Cell, statement(line))?;
+    html.put(Element::Row, &row)?;
+    Ok(html)
+}
+
+/// The rows of the list with one more, of a game that was left out.
+fn rows_with<'s, S: Allocator>(
+    alloc: &'s S,
+    rows: &Html<'_, S>,
+    line: &[u8],
+) -> Result<Html<'s, S>, AllocError>
+    ensures { IfOk result (λ more. more ≡ rows.now ++ left_out_row line.now) }
+{
+    let mut more = Html::new(alloc);
+    let row = left_out_row(alloc, line)?;
+    more.append(rows)?;
+    more.append(&row)?;
+    Ok(more)
+}
+
+/// The rows of the list with one more, of a game that was left out, before its paragraph is written.
+pub fn with_left_out<'s, S: Allocator>(
+    alloc: &'s S,
+    rows: &Html<'_, S>,
+    line: &[u8],
+) -> Result<Html<'s, S>, NotTold>
+    ensures ok { IfOk result (λ more. more ≡ rows.now ++ left_out_row line.now) }
+    ensures err { IfErr result (λ e. e ≡ NotTold.OutOfMemory) }
+{
+    match rows_with(alloc, rows, line) {
+        Ok(more) => Ok(more),
+        Err(_) => Err(NotTold::OutOfMemory),
+    }
+}
