@@ -7,6 +7,7 @@ mod head;
 mod known;
 mod words;
 
+pub use counts::add_counts;
 pub use diagram::{draw_board, draw_mini};
 pub use head::{moves_first, put_figure, put_head, title_words};
 pub use known::known_tag;

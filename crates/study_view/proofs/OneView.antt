@@ -18,12 +18,11 @@ use Rattle.study_marks.specs.Study.{Study, position_at}
 use Rattle.study_marks.specs.Trial.{IsMarkOf}
 use Rattle.study_marks.proofs.OneAnnotation.{one-value, one-list}
 use Rattle.study_marks.proofs.PathRenewed.{spot-there}
-use Rattle.study_review.specs.Review.{stipulation_line}
 use Rattle.study_facts.specs.Order.{written_order}
 use Rattle.study_facts.specs.Zugzwang.{ZugzwangLines}
 use Rattle.study_facts.proofs.OneFacts.{one-each, zugzwang-once}
-use Rattle.study_view.specs.Words.{study_line, at_line, move_line}
-use Rattle.study_view.specs.View.{start_to, node_line, AreMoveLines, ViewsAreUnique}
+use Rattle.study_view.specs.Words.{at_line, move_line}
+use Rattle.study_view.specs.View.{start_to, node_line, head_lines, AreMoveLines, ViewsAreUnique}
 
 pub one-mark : EachHasAtMostOneValue → (a : Aim) (d : ℕ) (p : Position) (v w u : Value) (o q : Option MoveMark) → w ≡ u
     → ((mark : MoveMark) × (o ≡ Some mark) × IsMoveMark a d p v w mark) → ((mark : MoveMark) × (q ≡ Some mark) × IsMoveMark a d p v u mark) → o ≡ q
@@ -50,7 +49,7 @@ pub one-view : EachHasAtMostOneValue → ViewsAreUnique
 one-view law s path t u h j =
     let spot = spot-there s.tree path h.2 in
     let p = position_at s path in
-    h.5 ∙ ap (λ (m : List ℕ). study_line s.start ++ (stipulation_line s ++ (flat_map (node_line s) (written_order s) ++ (at_line path p ++ (m ++ h.1)))))
+    h.5 ∙ ap (λ (m : List ℕ). head_lines s ++ (flat_map (node_line s) (written_order s) ++ (at_line path p ++ (m ++ h.1))))
     (lines-once law s path spot.0 spot.1 (legal_list p) h.0 j.0 h.3 j.3)
-    ∙ ap (λ (z : List ℕ). study_line s.start ++ (stipulation_line s ++ (flat_map (node_line s) (written_order s) ++ (at_line path p ++ (j.0 ++ z)))))
+    ∙ ap (λ (z : List ℕ). head_lines s ++ (flat_map (node_line s) (written_order s) ++ (at_line path p ++ (j.0 ++ z))))
     (one-each (ZugzwangLines s) (zugzwang-once law s) (written_order s) h.1 j.1 h.4 j.4) ∙ sym j.5

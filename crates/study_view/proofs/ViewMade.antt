@@ -13,12 +13,11 @@ use Rattle.study_marks.specs.Study.{Study, position_at}
 use Rattle.study_facts.specs.declared.continuation.Continuation.{Continuation}
 use Rattle.study_facts.specs.Continuations.{AreChosen, each_after}
 use Rattle.study_facts.specs.Nodes.{value_at}
-use Rattle.study_review.specs.Review.{stipulation_line}
 use Rattle.study_facts.specs.Order.{LinesOfEach, written_order}
 use Rattle.study_facts.specs.Zugzwang.{ZugzwangLines}
 use Rattle.study_view.specs.Marking.{holding_count, told_line}
-use Rattle.study_view.specs.View.{start_to, node_line, IsView, asked_at}
-use Rattle.study_view.specs.Words.{study_line, at_line}
+use Rattle.study_view.specs.View.{start_to, node_line, head_lines, IsView, asked_at}
+use Rattle.study_view.specs.Words.{at_line}
 use Rattle.study_view.proofs.MovesTold.{moves-told}
 use Rattle.study_view.proofs.StartsAt.{position-of}
 
@@ -30,8 +29,8 @@ pub view-is : (s : Study Mark) (path : List ℕ) (here : Start) (a : Aim) (d : �
     (nodes zugzwangs text : List ℕ) → IsTrue (has_spot s.tree path) → here ≡ start_to s path → a ≡ aim_of s → d ≡ length path → before ≡ value_at s path
     → AreChosen (λ v. true) here.position (legal_list here.position) list
     → nodes ≡ flat_map (node_line s) (written_order s) → LinesOfEach (ZugzwangLines s) (written_order s) zugzwangs
-    → text ≡ study_line s.start ++ (stipulation_line s ++ (nodes ++ (at_line path here.position
-    ++ (flat_map (told_line a d here before (holding_count a d list)) list ++ zugzwangs))))
+    → text ≡ head_lines s ++ (nodes ++ (at_line path here.position
+    ++ (flat_map (told_line a d here before (holding_count a d list)) list ++ zugzwangs)))
     → IsView s path text
 view-is s path here a d before list nodes zugzwangs text found e ea ed ev chosen en zs h =
     let p : here.position ≡ position_at s path = position-of s path here e in
@@ -41,6 +40,6 @@ view-is s path here a d before list nodes zugzwangs text found e ea ed ev chosen
       found,
       moves-told s path a d here before list ea ed e ev (subst (λ (q : Position). AreChosen (λ v. true) q (legal_list q) list) p chosen),
       zs,
-      h ∙ ap (λ (t : List ℕ). study_line s.start ++ (stipulation_line s ++ (t ++ (at_line path here.position ++ (lines ++ zugzwangs))))) en
-          ∙ ap (λ q. study_line s.start ++ (stipulation_line s ++ (flat_map (node_line s) (written_order s) ++ (at_line path q ++ (lines ++ zugzwangs))))) p,
+      h ∙ ap (λ (t : List ℕ). head_lines s ++ (t ++ (at_line path here.position ++ (lines ++ zugzwangs)))) en
+          ∙ ap (λ q. head_lines s ++ (flat_map (node_line s) (written_order s) ++ (at_line path q ++ (lines ++ zugzwangs)))) p,
     )

@@ -16,7 +16,7 @@ use Rattle.study_facts.specs.Nodes.{front_of}
 use Rattle.study_review.specs.Review.{stipulation_line}
 use Rattle.study_facts.specs.Order.{LinesOfEach, written_order}
 use Rattle.study_facts.specs.Zugzwang.{ZugzwangLines}
-use Rattle.study_view.specs.Words.{study_line, node_words, at_line, move_line}
+use Rattle.study_view.specs.Words.{start_lines, node_words, at_line, move_line}
 
 -- the start, with its counts, at the node of the path
 abbrev pub start_to : {L : Type 0} → Study L → List ℕ → Start
@@ -33,6 +33,10 @@ AreMoveLines s path (m ∷ ms) text =
     (mark : Mark) × (rest : List ℕ) × IsMarkOf s path m mark × AreMoveLines s path ms rest
     × (text ≡ move_line (start_to s path) m mark.value mark.on_move ++ rest)
 
+-- the start with its counts of men, and the verdict
+unfoldable pub head_lines : Study Mark → List ℕ
+head_lines s = start_lines s.start ++ stipulation_line s
+
 -- The view of an annotated study at the path of a node: its start, its verdict, each node, then the number of legal moves at the path, and each of them.
 abbrev pub IsView : Study Mark → List ℕ → List ℕ → Type 0
 IsView s path text =
@@ -40,8 +44,8 @@ IsView s path text =
     × IsTrue (has_spot s.tree path)
     × AreMoveLines s path (legal_list (position_at s path)) moves
     × LinesOfEach (ZugzwangLines s) (written_order s) zugzwangs
-    × (text ≡ study_line s.start ++ (stipulation_line s ++ (flat_map (node_line s) (written_order s)
-    ++ (at_line path (position_at s path) ++ (moves ++ zugzwangs)))))
+    × (text ≡ head_lines s ++ (flat_map (node_line s) (written_order s)
+    ++ (at_line path (position_at s path) ++ (moves ++ zugzwangs))))
 
 -- a study has exactly one view at a path
 abbrev pub ViewsAreUnique : Type 0

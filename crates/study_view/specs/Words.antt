@@ -14,6 +14,7 @@ use Rattle.study_tree.specs.Tree.{Spot}
 use Rattle.study_marks.specs.declared.mark.Mark.{Mark}
 use Rattle.study_marks.specs.declared.mark.MoveMark.{MoveMark}
 use Rattle.study_marks.specs.Marks.{on_move_text}
+use Rattle.study_head.specs.Counts.{counts_words}
 use Rattle.study_facts.specs.Words.{value_words, front_words}
 
 -- a small letter
@@ -41,6 +42,14 @@ mark_words v mark = value_words v ++ (codes " " ++ on_move_text mark)
 -- `study 8/8/1KP5/3r4/8/8/8/k7 w - - 0 1`
 unfoldable pub study_line : Start → List ℕ
 study_line start = codes "study " ++ (fen_text start ++ codes "\n")
+
+-- `counts 2 + 2, 0300.10 b6a1`: how many men each side has, and the code of Guy, Blandford and Roycroft
+unfoldable pub counts_line : Position → List ℕ
+counts_line p = codes "counts " ++ (counts_words p.men ++ codes "\n")
+
+-- the start of the study, and its counts of men
+unfoldable pub start_lines : Start → List ℕ
+start_lines start = study_line start ++ counts_line start.position
 
 -- `loss 50 only faults 3 8/2P5/1K6/3r4/8/8/8/k7 b - - 0 1`, and the end of the line
 unfoldable pub shown_words : Mark → Start → List ℕ

@@ -27,3 +27,4 @@ pub use passed::passed_squares;
 pub use squares::{Question, Standing, Stood, survey};
 pub use survey_text::write_survey;
 pub use view::write_view;
+pub use words::add_start;

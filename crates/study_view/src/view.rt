@@ -10,19 +10,18 @@ ghost use Rattle.study_marks.specs.BenchState.{marked, IsKeptRight};
 ghost use Rattle.study_marks.specs.Study.{plain_study};
 ghost use Rattle.study_values.specs.declared.values.ProbeFault.{ProbeFault as AProbeFault};
 ghost use Rattle.study_facts.specs.Asked.{within};
-ghost use Rattle.study_review.specs.Review.{stipulation_line};
 ghost use Rattle.study_facts.specs.Order.{LinesOfEach, written_order};
 ghost use Rattle.study_facts.specs.Zugzwang.{ZugzwangLines};
 ghost use Rattle.study_view.specs.Asked.{HasViewed, HasWalked};
 ghost use Rattle.study_view.specs.Marking.{holding_count, told_line};
-ghost use Rattle.study_view.specs.View.{start_to, node_line, IsView, IsViewOf, asked_at};
-ghost use Rattle.study_view.specs.Words.{study_line, at_line};
+ghost use Rattle.study_view.specs.View.{start_to, node_line, head_lines, IsView, IsViewOf, asked_at};
+ghost use Rattle.study_view.specs.Words.{at_line};
 
 use crate::asking::ask_moves;
 use crate::fault::ViewFault;
 use crate::marking::{Here, add_moves};
 use crate::nodes::{Lines, add_nodes};
-use crate::words::{add_at, add_study};
+use crate::words::{add_at, add_start};
 use std::alloc::{AllocError, Allocator};
 use std::io::Write;
 use study_facts::{Continuation, Node, value_at};
@@ -35,14 +34,15 @@ use study_text::{Text, write_text};
 use study_tree::Path;
 use study_values::Values;
 
-/// The start and the verdict.
+/// The start with its counts of men, and the verdict.
+#[tactic(auto, unfolding(crate::specs::View::head_lines))]
 fn add_head<'b, A: Allocator, B: Allocator>(
     text: &mut Text<'_, A>,
     bench: &Bench<'b, B>,
 ) -> Result<(), AllocError>
-    ensures { OnOk result (text.new ≡ text.old ++ (study_line (marked bench.now).start ++ stipulation_line (marked bench.now))) }
+    ensures { OnOk result (text.new ≡ text.old ++ head_lines (marked bench.now)) }
 {
-    add_study(text, bench.start())?;
+    add_start(text, bench.start())?;
     add_stipulation_line(text, bench, root_mark(bench))
 }
 
@@ -81,10 +81,10 @@ fn text_of<'a, 'b, A: Allocator, B: Allocator>(
     requires depth { here.now.depth ≡ length steps.now }
     requires few { length list.now ≤ MAX_MOVES }
     requires legal { All (λ x. is_legal here.now.start.now.position x.played ≡ true) list.now }
-    ensures { IfOk result (λ text. text ≡ study_line (marked bench.now).start ++ (stipulation_line (marked bench.now)
+    ensures { IfOk result (λ text. text ≡ head_lines (marked bench.now)
         ++ (lines.now.nodes ++ (at_line steps.now here.now.start.now.position
         ++ (flat_map (told_line here.now.aim.now here.now.depth here.now.start.now here.now.value
-        (holding_count here.now.aim.now here.now.depth list.now)) list.now ++ lines.now.zugzwangs))))) }
+        (holding_count here.now.aim.now here.now.depth list.now)) list.now ++ lines.now.zugzwangs)))) }
 {
     let mut text = Text::new(alloc);
     add_head(&mut text, bench)?;

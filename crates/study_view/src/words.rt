@@ -5,12 +5,13 @@ ghost use Rattle.study_moves.specs.Rules.{is_legal};
 ghost use Rattle.study_notation.specs.FenSpelling.{fen_text, square_text};
 ghost use Rattle.study_marks.specs.Marks.{on_move_text};
 ghost use Rattle.study_marks.specs.Bench.{node_seen};
-ghost use Rattle.study_view.specs.Words.{promoted_text, squares_text, moved_words, led_words, mark_words, study_line};
+ghost use Rattle.study_view.specs.Words.{promoted_text, squares_text, moved_words, led_words, mark_words, study_line, counts_line, start_lines};
 ghost use Rattle.study_view.specs.Words.{shown_words, node_words, count_words, at_line, reached_words, move_line};
 
 use std::alloc::{AllocError, Allocator};
 use study_board::{Kind, Position, Square};
 use study_facts::{add_counted, add_front, add_value};
+use study_head::add_counts;
 use study_marks::{Mark, MoveMark, Shown};
 use study_moves::{Move, in_check, legal_moves};
 use study_notation::{Start, write_fen};
@@ -125,12 +126,32 @@ fn add_fen<A: Allocator>(text: &mut Text<'_, A>, start: &Start) -> Result<(), Al
 
 /// The line with the start of the study.
 #[tactic(auto, unfolding(crate::specs::Words::study_line))]
-pub fn add_study<A: Allocator>(text: &mut Text<'_, A>, start: &Start) -> Result<(), AllocError>
+fn add_study<A: Allocator>(text: &mut Text<'_, A>, start: &Start) -> Result<(), AllocError>
     ensures { OnOk result (text.new ≡ text.old ++ study_line start.now) }
 {
     text.add(b"study ")?;
     add_fen(text, start)?;
     text.add(b"\n")
+}
+
+/// The line with the counts of men and the code of the material.
+#[tactic(auto, unfolding(crate::specs::Words::counts_line))]
+fn add_counts_line<A: Allocator>(text: &mut Text<'_, A>, p: &Position) -> Result<(), AllocError>
+    ensures { OnOk result (text.new ≡ text.old ++ counts_line p.now) }
+{
+    text.add(b"counts ")?;
+    add_counts(text, p)?;
+    text.add(b"\n")
+}
+
+/// Adds the lines of a start: the line `study` with its FEN, and the line `counts` with the number of men of each side and the code of Guy,
+/// Blandford and Roycroft.
+#[tactic(auto, unfolding(crate::specs::Words::start_lines))]
+pub fn add_start<A: Allocator>(text: &mut Text<'_, A>, start: &Start) -> Result<(), AllocError>
+    ensures { OnOk result (text.new ≡ text.old ++ start_lines start.now) }
+{
+    add_study(text, start)?;
+    add_counts_line(text, &start.position)
 }
 
 /// The part of a node's line from its value to its end.

@@ -15,7 +15,7 @@ use Rattle.study_report.specs.Lines.{refusal_line, no_remark}
 use Rattle.study_report.specs.Outcome.{AreAdded, begun, point_after, report_text}
 use Rattle.study_report.specs.Told.{Added, IsUntoldIn}
 use Rattle.study_view.specs.View.{IsViewOf}
-use Rattle.study_view.specs.Words.{study_line}
+use Rattle.study_view.specs.Words.{start_lines}
 use Rattle.study_web.specs.declared.spans.Span.{Span}
 use Rattle.study_web.specs.Opened.{AreHandedIn, IsHeldAs}
 use Rattle.study_web.specs.Spans.{file_in, file_faults}
@@ -28,10 +28,10 @@ refused_line number line reply = refusal_line number reply
 abbrev pub tells_nothing : Plainly → ℕ → List ℕ → Type 0
 tells_nothing plain number text = text ≡ []
 
--- the view of a study at a path; for a start without a stipulation its line, and for nothing no line; these two have only a root
+-- the view of a study at a path; for a start without a stipulation its lines, and for nothing no line; these two have only a root
 abbrev pub IsDocumentView : Document → List ℕ → List ℕ → Type 0
 IsDocumentView empty path text = (path ≡ []) × (text ≡ [])
-IsDocumentView (start s) path text = (path ≡ []) × (text ≡ study_line s)
+IsDocumentView (start s) path text = (path ≡ []) × (text ≡ start_lines s)
 IsDocumentView (study plain) path text = IsViewOf plain path text
 
 -- no study and no start; the tables of these classes are read by pages, from files with this content

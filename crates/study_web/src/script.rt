@@ -10,7 +10,7 @@ ghost use Rattle.study_prober.specs.PagedTables.{held_of, SourcesAreRight, MayFa
 ghost use Rattle.study_script.specs.Held.{document_seen, tables_honest, IsMarked, Holds};
 ghost use Rattle.study_script.specs.State.{State, is_among, study};
 ghost use Rattle.study_view.specs.View.{IsViewOf};
-ghost use Rattle.study_view.specs.Words.{study_line};
+ghost use Rattle.study_view.specs.Words.{start_lines};
 ghost use Rattle.study_web.specs.Answers.{MayEnd, IsNever, IsOwnEnd, IsReviewOver, IsUnread, IsViewDenial};
 ghost use Rattle.study_web.specs.Opened.{IsOfTables};
 ghost use Rattle.study_web.specs.Views.{IsDocumentView, IsLeft, IsUntoldOver, IsViewOver, LacksNode, LacksNodeOver, OverStore, IsViewUntold, StudyStopped};
@@ -20,18 +20,18 @@ use crate::ended::{Ended, own_end, own_fault};
 use crate::refusals::Refusals;
 use crate::reply::NoText;
 use crate::tables::open_tables;
-use std::alloc::Allocator;
+use std::alloc::{AllocError, Allocator};
 use study_command::{Line, read_path};
 use study_marks::Bench;
-use study_notation::{Start, write_fen};
+use study_notation::Start;
 use study_prober::PagedTables;
-use study_reply::{Refusal, of_probe, put_line};
+use study_reply::{Refusal, of_probe};
 use study_report::{Lines, follow, follow_over};
 use study_script::{Document, RunFault, Session, TableStore, Tables};
 use study_tablefile::PageSource;
-use study_text::write_text;
+use study_text::{Text, write_text};
 use study_values::Values;
-use study_view::{ViewFault, write_view};
+use study_view::{ViewFault, add_start, write_view};
 
 /// The review of a script's studies, over all files of a store.
 pub fn review_of<'a, S: TableStore, A: Allocator>(
@@ -95,15 +95,24 @@ fn bench_view<'a, A: Allocator, V: Values>(
     }
 }
 
-/// The line of a start without a stipulation.
-#[tactic(auto, unfolding(study_view::specs::Words::study_line))]
+/// The lines of a start.
+fn lines_of<'a, A: Allocator>(alloc: &'a A, start: &Start) -> Result<Vec<u8, &'a A>, AllocError>
+    ensures { IfOk result (λ text. text.items ≡ start_lines start.now) }
+{
+    let mut lines = Text::new(alloc);
+    let mut text = Vec::new(alloc);
+    add_start(&mut lines, start)?;
+    text.extend_from_slice(lines.as_slice())?;
+    Ok(text)
+}
+
+/// The view of a start without a stipulation.
 fn start_view<'a, A: Allocator>(alloc: &'a A, start: &Start) -> Result<Vec<u8, &'a A>, NoText>
     ensures none { IfErr result (λ why. why ≡ NoText.Denied (Denial.Refused Refusal.OutOfMemory)) }
-    ensures text { IfOk result (λ text. text.items ≡ study_line start.now) }
+    ensures text { IfOk result (λ text. text.items ≡ start_lines start.now) }
 {
-    let mut text = Vec::new(alloc);
-    match put_line(&mut text, b"study ", write_fen(start).as_str().as_bytes()) {
-        Ok(()) => Ok(text),
+    match lines_of(alloc, start) {
+        Ok(text) => Ok(text),
         Err(_) => Err(NoText::Denied(Denial::Refused(Refusal::OutOfMemory))),
     }
 }
@@ -121,7 +130,7 @@ fn at_root(path: &[u8]) -> Result<(), NoText>
     }
 }
 
-/// The view of a document at a path: for a start its one line, for nothing no line.
+/// The view of a document at a path: for a start its lines, for nothing no line.
 fn document_view<'a, A: Allocator, V: Values>(
     alloc: &'a A,
     document: &Document<'a, A>,
