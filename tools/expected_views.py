@@ -1,12 +1,14 @@
 #!/usr/bin/env python3
 """Writes which views and surveys crates/gallery makes, and what they have to be, from the files of an independent program:
 FOLDER/NAME.views, where each view follows a line `# view PATH`, and FOLDER/surveys.txt, where each survey follows a line
-`# FEN | SQUARE | SIDE GOAL`. Lines of mutual zugzwangs are added to the views by the list in tools/finding. Only those are taken whose tables the program makes. That program has looked at each study where its
+`# FEN | SQUARE | SIDE GOAL`. Lines of mutual zugzwangs are added to the views by the list in tools/finding, and those of the counts of men and
+of the verdict in sentences as report_facts.py has them. Only those are taken whose tables the program makes. That program has looked at each study where its
 script first asks for the PGN, so the scripts are those of the gallery up to there.
 
     tools/expected_views.py FOLDER
-    tools/expected_views.py zugzwangs    adds these lines alone to the views that are expected
+    tools/expected_views.py lines    adds these lines alone to the views that are expected, and those two to the views in web/tests/data
 """
+import re
 import sys
 from pathlib import Path
 
@@ -14,6 +16,7 @@ import report_facts
 
 CRATES = Path(__file__).resolve().parent.parent / "crates"
 CRATE = CRATES / "gallery"
+PAGE_TESTS = CRATES.parent / "web/tests/data"
 MADE = {"KK", "KQK", "KRK", "KBK", "KNK", "KPK", "KNNK"}
 ORDER = "KQRBNP"
 
@@ -52,11 +55,29 @@ def with_zugzwangs(view):
     return "".join(line + "\n" for line in lines)
 
 
+def with_head(view):
+    """A view with the counts of men behind its first line, and the verdict in sentences behind its second."""
+    start, stipulation, *rest = [line for line in view.splitlines() if not line.startswith(("counts ", "sentence "))]
+    hero, verdict, value = re.fullmatch(r"stipulation (White|Black) to [^:]*: ([^,]*), (.*)", stipulation).groups()
+    to_move = {line.split(" ")[-5] for line in rest if line.startswith("node ") and not line.startswith("node root ")}
+    words = report_facts.sentence(verdict, ("b" if hero == "White" else "w") not in to_move, 0)
+    counts = report_facts.counts(report_facts.Position.of(start.removeprefix("study ")))
+    lines = [start, f"counts {counts}", stipulation, f"sentence {words} At the start: {value}.", *rest]
+    return "".join(line + "\n" for line in lines)
+
+
+def with_lines(view):
+    return with_head(with_zugzwangs(view))
+
+
 def stored():
     """The views and surveys that are expected, with these lines."""
+    for file in sorted(PAGE_TESTS.glob("*.views")):
+        views = parts(file.read_text(), "# ")
+        file.write_text("".join(f"# {heading}\n{with_head(view)}" for heading, view in views))
     front, rest = (CRATE / "stdout").read_text("latin-1").split("== views and surveys\n")
     views = parts(rest[:rest.index("== pages\n")], "# ")
-    text = "".join(f"# {heading}\n" + (with_zugzwangs(view) if view.startswith("study ") else view) for heading, view in views)
+    text = "".join(f"# {heading}\n" + (with_lines(view) if view.startswith("study ") else view) for heading, view in views)
     (CRATE / "stdout").write_text(front + "== views and surveys\n" + text + rest[rest.index("== pages\n"):], "latin-1")
 
 
@@ -65,7 +86,7 @@ def main(folder):
     for file in sorted(folder.glob("*.views")):
         for heading, view in parts(file.read_text(), "# "):
             if material(view.splitlines()[0].removeprefix("study ")) in MADE:
-                asked.append((file.stem, heading, with_zugzwangs(view)))
+                asked.append((file.stem, heading, with_lines(view)))
     for heading, survey in parts((folder / "surveys.txt").read_text(), "# "):
         fen, square, stipulation = heading.split(" | ")
         if material(fen) in MADE:
@@ -81,7 +102,7 @@ def main(folder):
 
 
 if __name__ == "__main__":
-    if sys.argv[1] == "zugzwangs":
+    if sys.argv[1] == "lines":
         stored()
     else:
         main(Path(sys.argv[1]))

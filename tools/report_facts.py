@@ -427,20 +427,24 @@ def stamp_of(study):
     return " ".join(waste[0]) if waste else study.verdict
 
 
-def verdict(study):
-    empty = ["empty"] in study.facts
-    stamp = study.verdict.split()[0]
-    frame = "sound" if stamp_of(study).startswith("sound") else stamp
+def sentence(verdict, empty, time):
+    """A verdict, `sound`, `wrong` or `unsound 3`, in a sentence; so many of its faults lose time alone."""
+    stamp = verdict.split()[0]
     if stamp == "wrong":
         words = "The stipulation does not hold."
     elif stamp == "sound":
         words = "The stipulation holds." if empty else "The stipulation holds, and each move of the solution is the only one."
     else:
-        n = int(study.verdict.split()[1])
-        time = time_faults([" ".join(fact) for fact in study.facts])
+        n = int(verdict.split()[1])
         lose = "" if not time else (", which" if time == n else f", of which {time}") + (" loses" if time == 1 else " lose") + " time alone"
         words = "The stipulation holds; the solution has " + ("one fault" if n == 1 else f"{n} faults") + lose + "."
-    words += " No move of the solution was given." if empty else ""
+    return words + (" No move of the solution was given." if empty else "")
+
+
+def verdict(study):
+    stamp = study.verdict.split()[0]
+    frame = "sound" if stamp_of(study).startswith("sound") else stamp
+    words = sentence(study.verdict, ["empty"] in study.facts, time_faults([" ".join(fact) for fact in study.facts]))
     return inside("section", inside("h2", inside("span", say(stamp_of(study)), f'class="stamp {frame}"')) + inside("p", say(words))
                   + inside("p", say(f"At the start: {study.start_value}.")) + faults(study), 'class="verdict"')
 

@@ -3,3 +3,4 @@ pub mod Diagram
 pub mod Known
 pub mod Counts
 pub mod Head
+pub mod Verdict

@@ -9,7 +9,7 @@ use Rattle.study_marks.specs.Annotated.{IsAnnotated}
 use Rattle.study_pgn.specs.Pgn.{stipulation_text}
 use Rattle.study_facts.specs.Order.{AreTimeFaults}
 use Rattle.study_head.specs.Known.{known}
-use Rattle.study_page.specs.Verdict.{stamp_words, judged}
+use Rattle.study_head.specs.Verdict.{stamp_words, judged}
 
 -- a comma, a quotation mark or an end of line: a field with one of them stands in quotation marks
 abbrev pub is_special : ℕ → Bool

@@ -9,7 +9,7 @@ use Rattle.study_html.specs.Escape.{said}
 use Rattle.study_html.specs.Elements.{inside}
 use Rattle.study_head.specs.Known.{known}
 use Rattle.study_head.specs.Head.{title_words}
-use Rattle.study_page.specs.Verdict.{stamp_words, judged}
+use Rattle.study_head.specs.Verdict.{stamp_words, judged}
 
 -- a refused line: its number, its text, the name of the refusal, and the reason in words
 unfoldable pub refusal_part : ℕ → List ℕ → List ℕ → List ℕ → List ℕ

@@ -9,7 +9,8 @@ use Rattle.study_html.specs.Escape.{said}
 use Rattle.study_html.specs.Elements.{inside}
 use Rattle.study_html.specs.Markup.{IsWellNested}
 use Rattle.study_head.specs.Head.{head, figure}
-use Rattle.study_page.specs.Verdict.{verdict_part, judged}
+use Rattle.study_head.specs.Verdict.{judged}
+use Rattle.study_page.specs.Verdict.{verdict_part}
 use Rattle.study_page.specs.Tree.{solution_words}
 use Rattle.study_page.specs.Lists.{summary_row}
 use Rattle.study_page.specs.Rows.{FaultItems, Cards, TryRows, ZugzwangRows, DefenceRows, EndRows}

@@ -1,27 +1,13 @@
 -- The part of a page with the verdict.
-use Rattle.std.specs.Prelude.{ℕ, ◌==◌, Bool, List, [], ◌++◌, length, if◌then◌else◌, codes, decimal}
-use Rattle.study_board.specs.declared.men.Side.{Side}
-use Rattle.study_values.specs.declared.value.Value.{Value}
-use Rattle.study_marks.specs.declared.mark.Mark.{Mark}
-use Rattle.study_marks.specs.Study.{Study}
-use Rattle.study_marks.specs.Goals.{aim_of}
-use Rattle.study_marks.specs.Verdict.{Verdict, wrong, sound, unsound, verdict}
-use Rattle.study_pgn.specs.Values.{value_text}
-use Rattle.study_facts.specs.Order.{is_empty}
-use Rattle.study_facts.specs.Words.{alone_words, time_verdict}
+use Rattle.std.specs.Prelude.{ℕ, ◌==◌, List, [], ◌++◌, length, if◌then◌else◌}
+use Rattle.study_head.specs.declared.verdict.Stamp.{Stamp}
+use Rattle.study_head.specs.declared.verdict.Stamp.TheVariants.{Wrong, Sound, Holds, Unsound}
+use Rattle.study_head.specs.declared.verdict.Judged.{Judged}
+use Rattle.study_head.specs.Verdict.{stamp_words, sentence, start_words}
 use Rattle.study_html.specs.declared.element.Element.{Element}
 use Rattle.study_html.specs.declared.element.Element.TheVariants as element
 use Rattle.study_html.specs.Escape.{said}
 use Rattle.study_html.specs.Elements.{inside}
-use Rattle.study_page.specs.declared.verdict.Stamp.{Stamp}
-use Rattle.study_page.specs.declared.verdict.Stamp.TheVariants.{Wrong, Sound, Holds, Unsound}
-use Rattle.study_page.specs.declared.verdict.Judged.{Judged}
-
--- by whether the solution has no move of the hero, and how many of its faults lose time alone
-abbrev pub stamp_of : Verdict → Bool → ℕ → Stamp
-stamp_of wrong e time = Wrong
-stamp_of sound e time = if e then Holds else Sound
-stamp_of (unsound faults) e time = Unsound faults time
 
 -- a study that is sound but for loss of time is framed as a sound one
 abbrev pub stamp_element : Stamp → Element
@@ -30,53 +16,8 @@ stamp_element Sound = element.Sound
 stamp_element Holds = element.Sound
 stamp_element (Unsound faults time) = if time == faults then element.Sound else element.Unsound
 
--- `sound`, `holds`, `unsound 3`, `unsound 5, 4 lose time alone`, `sound but for loss of time`, `wrong`
-abbrev pub stamp_words : Stamp → List ℕ
-stamp_words Wrong = codes "wrong"
-stamp_words Sound = codes "sound"
-stamp_words Holds = codes "holds"
-stamp_words (Unsound faults time) = if time == 0 then codes "unsound " ++ decimal faults else time_verdict faults time
-
 unfoldable pub stamp_part : Stamp → List ℕ
 stamp_part v = inside element.Heading (inside (stamp_element v) (said (stamp_words v)))
-
-abbrev pub holds_words : Stamp → List ℕ
-holds_words Wrong = codes "The stipulation does not hold."
-holds_words Sound = codes "The stipulation holds, and each move of the solution is the only one."
-holds_words Holds = codes "The stipulation holds."
-holds_words (Unsound faults time) = codes "The stipulation holds; the solution has "
-
-abbrev pub number_words : ℕ → List ℕ
-number_words n = if n == 1 then codes "one fault" else (decimal n ++ codes " faults")
-
--- `, which lose time alone`, `, of which 4 lose time alone`
-abbrev pub which_words : ℕ → ℕ → List ℕ
-which_words faults time = if time == faults then codes ", which" else (codes ", of which " ++ decimal time)
-
-abbrev pub lost_words : ℕ → ℕ → List ℕ
-lost_words faults time = if time == 0 then [] else (which_words faults time ++ alone_words time)
-
-abbrev pub faults_words : ℕ → ℕ → List ℕ
-faults_words faults time = number_words faults ++ (lost_words faults time ++ codes ".")
-
-abbrev pub count_words : Stamp → List ℕ
-count_words Wrong = []
-count_words Sound = []
-count_words Holds = []
-count_words (Unsound faults time) = faults_words faults time
-
--- where the solution has no move of the hero
-abbrev pub none_given : Bool → List ℕ
-none_given e = if e then codes " No move of the solution was given." else []
-
-unfoldable pub sentence : Bool → Stamp → List ℕ
-sentence e v = holds_words v ++ (count_words v ++ none_given e)
-
-unfoldable pub at_start : List ℕ
-at_start = codes "At the start: "
-
-unfoldable pub start_words : Side → Value → List ℕ
-start_words side v = at_start ++ (value_text side v ++ codes ".")
 
 abbrev pub fault_list : List ℕ → List ℕ
 fault_list items = if length items == 0 then [] else inside element.Faults items
@@ -86,12 +27,3 @@ unfoldable pub verdict_part : Judged → List ℕ → List ℕ
 verdict_part j faults =
     inside element.Verdict (stamp_part j.stamp ++ (inside element.Paragraph (said (sentence j.empty j.stamp))
     ++ (inside element.Paragraph (said (start_words j.first j.value)) ++ fault_list faults)))
-
--- what a judge reads of a study of whose faults so many lose time alone
-abbrev pub judged : Study Mark → ℕ → Judged
-judged s time = record {
-  stamp = stamp_of (verdict s) (is_empty (aim_of s).hero_first s.tree.below) time;
-  empty = is_empty (aim_of s).hero_first s.tree.below;
-  first = s.start.position.to_move;
-  value = s.tree.label.value;
-}

@@ -10,14 +10,13 @@ ghost use Rattle.study_html.specs.Elements.{inside};
 ghost use Rattle.study_html.specs.Escape.{said};
 ghost use Rattle.study_head.specs.Known.{known};
 ghost use Rattle.study_head.specs.Head.{title_words};
-ghost use Rattle.study_page.specs.Verdict.{stamp_words, judged};
+ghost use Rattle.study_head.specs.Verdict.{stamp_words, judged};
 ghost use Rattle.study_page.specs.Lists.{refusal_part, summary_row, two_heads, three_heads, summary_heads, summary_part};
 
 use crate::fault::PageFault;
-use crate::verdict::{add_stamp_words, judge};
 use std::alloc::{AllocError, Allocator};
 use std::io::Write;
-use study_head::{known_tag, title_words};
+use study_head::{add_stamp_words, judge, known_tag, title_words};
 use study_html::{Element, Html, put_words};
 use study_marks::{Bench, TagName};
 use study_pgn::add_stipulation;

@@ -19,12 +19,12 @@ ghost use Rattle.study_page.specs.Page.{solution_part, duals_title, duals_note, 
 use crate::draft::Parts;
 use crate::lists::add_entry;
 use crate::tree::put_following;
-use crate::verdict::{judge, put_verdict};
+use crate::verdict::put_verdict;
 use crate::walk::add_each;
 use std::alloc::{AllocError, Allocator};
 use std::io::Write;
 use study_facts::{Made, NotMade, ReviewFault};
-use study_head::{put_figure, put_head};
+use study_head::{judge, put_figure, put_head};
 use study_html::{Element, Html, put_words};
 use study_marks::Bench;
 use study_text::write_text;

@@ -1,53 +1,11 @@
-//! The verdict, and what it rests on.
+//! The part of a page with the verdict.
 ghost use Rattle.std.specs.Prelude.{◌≡◌, ◌++◌, OnOk};
-ghost use Rattle.study_marks.specs.BenchState.{marked};
-ghost use Rattle.study_marks.specs.Verdict.{verdict};
-ghost use Rattle.study_marks.specs.Study.{Study};
-ghost use Rattle.study_marks.specs.declared.mark.Mark.{Mark as AMark};
-ghost use Rattle.study_facts.specs.Order.{is_empty};
-ghost use Rattle.study_page.specs.Verdict.{stamp_of, stamp_element, stamp_words, stamp_part, none_given, number_words, which_words, lost_words, faults_words};
-ghost use Rattle.study_page.specs.Verdict.{holds_words, count_words, sentence, at_start, start_words, fault_list, verdict_part, judged};
+ghost use Rattle.study_page.specs.Verdict.{stamp_element, stamp_part, fault_list, verdict_part};
 
 use std::alloc::{AllocError, Allocator};
-use study_board::Side;
-use study_facts::{add_alone, add_time_verdict, is_empty};
+use study_head::{Judged, Stamp, add_sentence, add_stamp_words, add_start_value};
 use study_html::{Element, Html, put_words};
-use study_marks::{Bench, Mark, Stipulation};
-use study_pgn::{add_value, is_right, root_mark};
 use study_text::Text;
-use study_values::Value;
-
-/// The verdict on a study: wrong, sound, that it holds, where no move of the hero was given, or unsound with so many faults, of
-/// which so many lose time alone.
-#[derive(Clone, Copy)]
-pub enum Stamp {
-    Wrong,
-    Sound,
-    Holds,
-    Unsound(u32, u32),
-}
-
-/// The verdict on a study in which this side moves first, by whether no move of the hero was given, and how many faults lose time alone.
-pub fn stamp_of(
-    stipulation: &Stipulation,
-    first: Side,
-    root: &Mark,
-    empty: bool,
-    time: u32,
-) -> Stamp
-    ensures { (s : Study AMark) → s.stipulation ≡ stipulation.now → s.start.position.to_move ≡ first → s.tree.label ≡ root.now
-        → result ≡ stamp_of (verdict s) empty time }
-{
-    if !is_right(stipulation.goal, stipulation.hero == first, root.value) {
-        Stamp::Wrong
-    } else if root.faults != 0 {
-        Stamp::Unsound(root.faults, time)
-    } else if empty {
-        Stamp::Holds
-    } else {
-        Stamp::Sound
-    }
-}
 
 fn stamp_element(stamp: Stamp) -> Element
     ensures { result ≡ stamp_element stamp }
@@ -61,24 +19,6 @@ fn stamp_element(stamp: Stamp) -> Element
             } else {
                 Element::Unsound
             }
-        }
-    }
-}
-
-/// `sound`, `holds`, `unsound 3`, `unsound 5, 4 lose time alone`, `sound but for loss of time`, `wrong`.
-pub fn add_stamp_words<A: Allocator>(text: &mut Text<'_, A>, stamp: Stamp) -> Result<(), AllocError>
-    ensures { OnOk result (text.new ≡ text.old ++ stamp_words stamp) }
-{
-    match stamp {
-        Stamp::Wrong => text.add(b"wrong"),
-        Stamp::Sound => text.add(b"sound"),
-        Stamp::Holds => text.add(b"holds"),
-        Stamp::Unsound(faults, time) => {
-            if time != 0 {
-                return add_time_verdict(text, faults, time);
-            }
-            text.add(b"unsound ")?;
-            text.add_number(faults)
         }
     }
 }
@@ -98,115 +38,6 @@ fn put_stamp<'a, A: Allocator>(
     html.put(Element::Heading, &within)
 }
 
-fn none_given(empty: bool) -> &'static [u8]
-    ensures { result.now ≡ none_given empty }
-{
-    if empty {
-        b" No move of the solution was given."
-    } else {
-        b""
-    }
-}
-
-fn add_number<A: Allocator>(text: &mut Text<'_, A>, faults: u32) -> Result<(), AllocError>
-    ensures { OnOk result (text.new ≡ text.old ++ number_words faults) }
-{
-    if faults == 1 {
-        return text.add(b"one fault");
-    }
-    text.add_number(faults)?;
-    text.add(b" faults")
-}
-
-fn add_which<A: Allocator>(text: &mut Text<'_, A>, faults: u32, time: u32) -> Result<(), AllocError>
-    ensures { OnOk result (text.new ≡ text.old ++ which_words faults time) }
-{
-    if time == faults {
-        return text.add(b", which");
-    }
-    text.add(b", of which ")?;
-    text.add_number(time)
-}
-
-/// How many of so many faults lose time alone.
-fn add_lost<A: Allocator>(text: &mut Text<'_, A>, faults: u32, time: u32) -> Result<(), AllocError>
-    ensures { OnOk result (text.new ≡ text.old ++ lost_words faults time) }
-{
-    if time == 0 {
-        return Ok(());
-    }
-    add_which(text, faults, time)?;
-    add_alone(text, time)
-}
-
-fn add_faults<A: Allocator>(
-    text: &mut Text<'_, A>,
-    faults: u32,
-    time: u32,
-) -> Result<(), AllocError>
-    ensures { OnOk result (text.new ≡ text.old ++ faults_words faults time) }
-{
-    add_number(text, faults)?;
-    add_lost(text, faults, time)?;
-    text.add(b".")
-}
-
-/// How the sentence begins.
-fn holds_words(stamp: Stamp) -> &'static [u8]
-    ensures { result.now ≡ holds_words stamp }
-{
-    match stamp {
-        Stamp::Wrong => b"The stipulation does not hold.",
-        Stamp::Sound => b"The stipulation holds, and each move of the solution is the only one.",
-        Stamp::Holds => b"The stipulation holds.",
-        Stamp::Unsound(_, _) => b"The stipulation holds; the solution has ",
-    }
-}
-
-fn add_count<A: Allocator>(text: &mut Text<'_, A>, stamp: Stamp) -> Result<(), AllocError>
-    ensures { OnOk result (text.new ≡ text.old ++ count_words stamp) }
-{
-    match stamp {
-        Stamp::Unsound(faults, time) => add_faults(text, faults, time),
-        _ => Ok(()),
-    }
-}
-
-/// The verdict in a sentence.
-#[tactic(auto, unfolding(crate::specs::Verdict::sentence))]
-fn add_sentence<A: Allocator>(
-    text: &mut Text<'_, A>,
-    empty: bool,
-    stamp: Stamp,
-) -> Result<(), AllocError>
-    ensures { OnOk result (text.new ≡ text.old ++ sentence empty stamp) }
-{
-    text.add(holds_words(stamp))?;
-    add_count(text, stamp)?;
-    text.add(none_given(empty))
-}
-
-#[tactic(auto, unfolding(crate::specs::Verdict::at_start))]
-fn at_start() -> &'static [u8]
-    ensures { result.now ≡ at_start }
-{
-    b"At the start: "
-}
-
-/// The value of the start.
-#[tactic(auto, unfolding(crate::specs::Verdict::start_words))]
-fn add_start<A: Allocator>(
-    text: &mut Text<'_, A>,
-    side: Side,
-    value: Value,
-) -> Result<(), AllocError>
-    ensures { OnOk result (text.new ≡ text.old ++ start_words side value) }
-{
-    text.add(at_start())?;
-    add_value(text, side, value)?;
-    text.add(b".")
-}
-
 fn put_faults<A: Allocator>(html: &mut Html<'_, A>, faults: &Html<'_, A>) -> Result<(), AllocError>
     ensures { OnOk result (html.new ≡ html.old ++ fault_list faults.now) }
 {
@@ -214,15 +45,6 @@ fn put_faults<A: Allocator>(html: &mut Html<'_, A>, faults: &Html<'_, A>) -> Res
         return Ok(());
     }
     html.put(Element::Faults, faults)
-}
-
-/// What a judge reads of a stamp.
-#[derive(Clone, Copy)]
-pub struct Judged {
-    pub stamp: Stamp,
-    pub empty: bool,
-    pub first: Side,
-    pub value: Value,
 }
 
 /// The part with the verdict: the stamp, what it says, the value of the start, and these faults.
@@ -241,42 +63,8 @@ pub fn put_verdict<'a, A: Allocator>(
     put_stamp(alloc, &mut part, judged.stamp)?;
     add_sentence(&mut says, judged.empty, judged.stamp)?;
     put_words(alloc, &mut part, Element::Paragraph, says.as_slice())?;
-    add_start(&mut start, judged.first, judged.value)?;
+    add_start_value(&mut start, judged.first, judged.value)?;
     put_words(alloc, &mut part, Element::Paragraph, start.as_slice())?;
     put_faults(&mut part, faults)?;
     html.put(Element::Verdict, &part)
-}
-
-fn stamp_in<'b, B: Allocator>(bench: &Bench<'b, B>, root: &Mark, empty: bool, time: u32) -> Stamp
-    requires { root.now ≡ (marked bench.now).tree.label }
-    ensures { result ≡ stamp_of (verdict (marked bench.now)) empty time }
-{
-    stamp_of(
-        &bench.stipulation(),
-        bench.start().position.to_move(),
-        root,
-        empty,
-        time,
-    )
-}
-
-fn judged_at<'b, B: Allocator>(bench: &Bench<'b, B>, root: &Mark, time: u32) -> Judged
-    requires { root.now ≡ (marked bench.now).tree.label }
-    ensures { result ≡ judged (marked bench.now) time }
-{
-    let first = bench.start().position.to_move();
-    let empty = is_empty(bench);
-    Judged {
-        stamp: stamp_in(bench, root, empty, time),
-        empty,
-        first,
-        value: root.value,
-    }
-}
-
-/// What a judge reads of the study, of whose faults so many lose time alone.
-pub fn judge<'b, B: Allocator>(bench: &Bench<'b, B>, time: u32) -> Judged
-    ensures { result ≡ judged (marked bench.now) time }
-{
-    judged_at(bench, &root_mark(bench), time)
 }

@@ -14,9 +14,10 @@ use Rattle.study_marks.specs.Trial.{IsMarkOf}
 use Rattle.study_facts.specs.Continuations.{each_after}
 use Rattle.study_facts.specs.Nodes.{front_of}
 use Rattle.study_review.specs.Review.{stipulation_line}
+use Rattle.study_head.specs.Verdict.{judged}
 use Rattle.study_facts.specs.Order.{LinesOfEach, written_order}
 use Rattle.study_facts.specs.Zugzwang.{ZugzwangLines}
-use Rattle.study_view.specs.Words.{start_lines, node_words, at_line, move_line}
+use Rattle.study_view.specs.Words.{start_lines, sentence_line, node_words, at_line, move_line}
 
 -- the start, with its counts, at the node of the path
 abbrev pub start_to : {L : Type 0} → Study L → List ℕ → Start
@@ -33,9 +34,9 @@ AreMoveLines s path (m ∷ ms) text =
     (mark : Mark) × (rest : List ℕ) × IsMarkOf s path m mark × AreMoveLines s path ms rest
     × (text ≡ move_line (start_to s path) m mark.value mark.on_move ++ rest)
 
--- the start with its counts of men, and the verdict
+-- the start with its counts of men, and the verdict, as one word and in sentences, which do not say how many faults lose time alone
 unfoldable pub head_lines : Study Mark → List ℕ
-head_lines s = start_lines s.start ++ stipulation_line s
+head_lines s = start_lines s.start ++ (stipulation_line s ++ sentence_line (judged s 0))
 
 -- The view of an annotated study at the path of a node: its start, its verdict, each node, then the number of legal moves at the path, and each of them.
 abbrev pub IsView : Study Mark → List ℕ → List ℕ → Type 0

@@ -15,6 +15,8 @@ use Rattle.study_marks.specs.declared.mark.Mark.{Mark}
 use Rattle.study_marks.specs.declared.mark.MoveMark.{MoveMark}
 use Rattle.study_marks.specs.Marks.{on_move_text}
 use Rattle.study_head.specs.Counts.{counts_words}
+use Rattle.study_head.specs.Verdict.{verdict_words}
+use Rattle.study_head.specs.declared.verdict.Judged.{Judged}
 use Rattle.study_facts.specs.Words.{value_words, front_words}
 
 -- a small letter
@@ -50,6 +52,10 @@ counts_line p = codes "counts " ++ (counts_words p.men ++ codes "\n")
 -- the start of the study, and its counts of men
 unfoldable pub start_lines : Start → List ℕ
 start_lines start = study_line start ++ counts_line start.position
+
+-- `sentence The stipulation does not hold. At the start: draw.`
+unfoldable pub sentence_line : Judged → List ℕ
+sentence_line j = codes "sentence " ++ (verdict_words j ++ codes "\n")
 
 -- `loss 50 only faults 3 8/2P5/1K6/3r4/8/8/8/k7 b - - 0 1`, and the end of the line
 unfoldable pub shown_words : Mark → Start → List ℕ

@@ -21,10 +21,11 @@ use crate::asking::ask_moves;
 use crate::fault::ViewFault;
 use crate::marking::{Here, add_moves};
 use crate::nodes::{Lines, add_nodes};
-use crate::words::{add_at, add_start};
+use crate::words::{add_at, add_sentence_line, add_start};
 use std::alloc::{AllocError, Allocator};
 use std::io::Write;
 use study_facts::{Continuation, Node, value_at};
+use study_head::judge;
 use study_marks::{Bench, aim_of};
 use study_moves::MAX_MOVES;
 use study_notation::Start;
@@ -34,7 +35,7 @@ use study_text::{Text, write_text};
 use study_tree::Path;
 use study_values::Values;
 
-/// The start with its counts of men, and the verdict.
+/// The start with its counts of men, and the verdict, as one word and in sentences.
 #[tactic(auto, unfolding(crate::specs::View::head_lines))]
 fn add_head<'b, A: Allocator, B: Allocator>(
     text: &mut Text<'_, A>,
@@ -43,7 +44,8 @@ fn add_head<'b, A: Allocator, B: Allocator>(
     ensures { OnOk result (text.new ≡ text.old ++ head_lines (marked bench.now)) }
 {
     add_start(text, bench.start())?;
-    add_stipulation_line(text, bench, root_mark(bench))
+    add_stipulation_line(text, bench, root_mark(bench))?;
+    add_sentence_line(text, &judge(bench, 0))
 }
 
 /// The lines of all nodes.

@@ -6,12 +6,12 @@ ghost use Rattle.study_notation.specs.FenSpelling.{fen_text, square_text};
 ghost use Rattle.study_marks.specs.Marks.{on_move_text};
 ghost use Rattle.study_marks.specs.Bench.{node_seen};
 ghost use Rattle.study_view.specs.Words.{promoted_text, squares_text, moved_words, led_words, mark_words, study_line, counts_line, start_lines};
-ghost use Rattle.study_view.specs.Words.{shown_words, node_words, count_words, at_line, reached_words, move_line};
+ghost use Rattle.study_view.specs.Words.{sentence_line, shown_words, node_words, count_words, at_line, reached_words, move_line};
 
 use std::alloc::{AllocError, Allocator};
 use study_board::{Kind, Position, Square};
 use study_facts::{add_counted, add_front, add_value};
-use study_head::add_counts;
+use study_head::{Judged, add_counts, add_verdict_words};
 use study_marks::{Mark, MoveMark, Shown};
 use study_moves::{Move, in_check, legal_moves};
 use study_notation::{Start, write_fen};
@@ -152,6 +152,19 @@ pub fn add_start<A: Allocator>(text: &mut Text<'_, A>, start: &Start) -> Result<
 {
     add_study(text, start)?;
     add_counts_line(text, &start.position)
+}
+
+/// The line with the verdict in sentences.
+#[tactic(auto, unfolding(crate::specs::Words::sentence_line))]
+pub fn add_sentence_line<A: Allocator>(
+    text: &mut Text<'_, A>,
+    judged: &Judged,
+) -> Result<(), AllocError>
+    ensures { OnOk result (text.new ≡ text.old ++ sentence_line judged.now) }
+{
+    text.add(b"sentence ")?;
+    add_verdict_words(text, judged)?;
+    text.add(b"\n")
 }
 
 /// The part of a node's line from its value to its end.

@@ -1,6 +1,6 @@
 use Rattle.std.proofs.Common.{sym, ap, ◌∙◌}
 use Rattle.study_marks.specs.BenchState.{marked}
-use Rattle.study_page.proofs.verdict.stamp_in.Goals as goal
+use Rattle.study_head.proofs.verdict.stamp_in.Goals as goal
 
 pub returns : goal.returns
 returns g c =
