@@ -1,6 +1,6 @@
 // @ts-check
 // What is done to the document, one action after the other.
-import {linesToRun, repliesTo, reviewOf, viewOf} from './answer_cache.js';
+import {countsOf, linesToRun, repliesTo, reviewOf, viewOf} from './answer_cache.js';
 import {advance, redo as redone, replace, undo as undone} from './history.js';
 import {editsTo, fensOf, isEdit, toText, overLimit, readScript, repliesOf, wordsOf} from './script.js';
 import {nodeAt} from './parse_answers.js';
@@ -272,11 +272,13 @@ export async function arrive(wanted, note = null) {
     next = replace(next, {...next.now, path: 'root'});
     view = await viewOf(text, 'root');
   }
+  const counts = typeof view === 'string' || !view ? s ? await countsOf(s.fen) : '' : view.counts;
   Object.assign(app, {
     history: next,
     chosen: null,
     say: note,
     view: typeof view === 'string' ? null : view,
+    counts,
     noView: typeof view === 'string'        ? view
       : judged || halted.id !== next.now.id ? ''
                                             : halted.why,

@@ -1,6 +1,6 @@
 // @ts-check
 // What the program has answered, kept by the text of its script: replies, views and reviews.
-import {readReview, readView, refusalIn} from './parse_answers.js';
+import {countsIn, readReview, readView, refusalIn} from './parse_answers.js';
 import {fensOf, toRun} from './script.js';
 import {PAGES, app, services} from './state.js';
 import {reason} from './words.js';
@@ -98,6 +98,14 @@ export async function viewOf(text, path) {
   if (!view) return reason(refusalIn(answer));
   remember(views, keyOf(text, path), view);
   return view;
+}
+
+/**
+ * The men of each side and the code of Guy, Blandford and Roycroft. The core needs no tables for them.
+ * @param {string} fen
+ */
+export async function countsOf(fen) {
+  return countsIn((await services.core.answer('view root', `position ${fen}\n`, PAGES)).text);
 }
 
 // ---- reviews

@@ -116,18 +116,6 @@ export function typedFen(text, mover) {
 }
 
 /**
- * Count of men and the code of EG, `2 + 2 · 0300.10 b6a1`.
- * @param {string} fen
- */
-export function gbr(fen) {
-  const men = Object.entries(menOf(fen)), white = men.filter(x => isWhite(x[1])).length;
-  const count = (/** @type {string} */ c) => men.filter(x => x[1] === c).length;
-  const king = (/** @type {string} */ c) => men.filter(x => x[1] === c).map(x => squareName(Number(x[0]))).join('');
-  const pieces = [...'QRBN'].map(c => count(c) + 3 * count(c.toLowerCase())).join('');
-  return `${white} + ${men.length - white} · ${pieces}.${count('P')}${count('p')} ${king('K')}${king('k')}`;
-}
-
-/**
  * What a screen reader hears of a move: `white rook c8, check`.
  * @param {string} before
  * @param {{san: string, to: number}} move

@@ -1,7 +1,6 @@
 // @ts-check
 // The head of a study: title, stipulation, tags.
 import {h} from './dom.js';
-import {gbr} from './fen.js';
 import {change} from './actions.js';
 import {app, services, say} from './state.js';
 import {isDate, isKnown, setTag, stipulate, wholeDate} from './edits.js';
@@ -45,7 +44,7 @@ export function headView(s) {
       aimView(s.aim,
         words => change(now => (now.studies[now.at] ? stipulate(now.lines, now.studies[now.at], words) : null), 'head'),
         'aim'),
-      h('span', {class: 'note'}, gbr(s.fen))),
+      h('span', {class: 'note'}, app.counts)),
     messageAt('head'),
     h('details', {
       id: 'tags',

@@ -52,12 +52,27 @@ export function refusalIn({text, ended}) {
 }
 
 /**
+ * `2 + 2, 0300.10 b6a1`, of a view or of a position without a stipulation.
+ * @param {string} text
+ */
+export const countsIn = text => (/^counts (.*)$/m.exec(text) || ['', ''])[1];
+/**
  * @param {string} text
  * @returns {View | null}
  */
 export function readView(text) {
   const view = /** @type {View} */ (
-    /** @type {unknown} */ ({fen: '', verdict: '', start: '', aim: null, path: 'root', over: '', moves: []}));
+    /** @type {unknown} */ ({
+      fen: '',
+      counts: countsIn(text),
+      verdict: '',
+      start: '',
+      sentence: '',
+      aim: null,
+      path: 'root',
+      over: '',
+      moves: []
+    }));
   const nodes = /** @type {Map<string, TreeNode>} */ (new Map());
   for (const line of text.split('\n')) {
     if (line.startsWith('node ')) {
@@ -66,6 +81,7 @@ export function readView(text) {
     }
     const row = line.split(' ');
     if (row[0] === 'study') view.fen = row.slice(1).join(' ');
+    else if (row[0] === 'sentence') view.sentence = line.slice('sentence '.length);
     else if (row[0] === 'stipulation') Object.assign(view, readStipulation(row.slice(1).join(' ')));
     else if (row[0] === 'at')
       [view.path, view.over] = [row[1], /^\d/.test(row[2]) ? '' : /** @type {View['over']} */ (row[2])];

@@ -21,7 +21,7 @@ export const blank = {
 };
 
 /**
- * @type {{history: import('./history.js').History<Doc>, view: import('./types.js').View | null, noView: string,
+ * @type {{history: import('./history.js').History<Doc>, view: import('./types.js').View | null, counts: string, noView: string,
  *   review: import('./types.js').Review | null, noReview: string, say: Say | null, chosen: number | null,
  *   flip: boolean, setup: import('./setup.js').Draft | null, progress: import('./tables.js').Progress | null,
  *   stamp: number}}
@@ -29,6 +29,7 @@ export const blank = {
 export const app = {
   history: begin(blank),
   view: null,
+  counts: '',
   noView: '',
   review: null,
   noReview: '',

@@ -1,5 +1,6 @@
 // @ts-check
 // Values, verdicts and refusals in the words of the printed page.
+import {AT_START, LOST, REASONS} from './core_words.js';
 import {moveNumber, other, sideOf} from './fen.js';
 /** @typedef {import('./types.js').Value} Value @typedef {import('./types.js').Side} Side */
 /** @typedef {import('./types.js').Aim} Aim */
@@ -81,23 +82,18 @@ export function numberedLine(fen, sans) {
     .join(' ');
 }
 
-const SENTENCES = /** @type {Record<string, string>} */ ({
-  sound: 'The stipulation holds, and each move of the solution is the only one.',
-  holds: 'The stipulation holds. No move of the solution was given.',
-  time: 'The stipulation holds, and each other move that holds loses time alone.',
-  wrong: 'The stipulation does not hold.',
-  'not read': 'A line of this study was refused, so it is not stamped; the refused lines are listed below.'
-});
 /**
- * What the stamp says, as a sentence.
- * @param {{verdict: string, start: string}} view
+ * The verdict and the value of the start: the core's sentences, with what its printed page says of faults that all lose
+ * time alone, which only the review knows.
+ * @param {import('./types.js').View} view
  * @param {string} kind      of the stamp
  */
 export function verdictSentence(view, kind) {
-  const [, n] = view.verdict.split(' ');
-  const unsound = `The stipulation holds; the solution has ${n === '1' ? 'one fault' : n + ' faults'}.`;
-  return `${kind === 'unsound' ? unsound : SENTENCES[kind] || ''} At the start: ${view.start}.`;
+  const [, faults] = view.verdict.split(' ');
+  if (kind === 'not read') return `${NOT_READ} ${AT_START}${view.start}.`;
+  return kind === 'time' ? view.sentence.replace('.', `${LOST[faults === '1' ? 0 : 1]}.`) : view.sentence;
 }
+const NOT_READ = 'A line of this study was refused, so it is not stamped; the refused lines are listed below.';
 /** @param {{mark: string}} move */
 export const markSign = ({mark}) => (mark === 'only' ? '!' : mark === 'mistake' ? '?' : '');
 /**
@@ -152,50 +148,29 @@ export function otherAims(aim, verdict, mover, value, duals) {
   return duals && aim.goal === 'win' && movesTo(value) <= 127 ? [mate] : [];
 }
 
-const REASONS = /** @type {Record<string, string>} */ ({
-  BadByte: 'a letter that is not plain ASCII: write names without accents',
-  UnknownCommand: 'the first word is no command',
-  BadArguments: 'a word too few or too many, or a path or a number that is not of its form',
-  UnknownStipulation: 'no stipulation: write white or black, then win, draw, or mate and a number from 1 to 127',
-  UnknownTag: 'not one of the six tags',
-  NoPosition: 'there is no position yet',
-  NoStudy: 'no stipulation is chosen yet',
-  NoSuchNode: 'no move stands at this place of the tree',
+/** Of requests of the board alone. */
+const OWN_REASONS = /** @type {Record<string, string>} */ ({
   PagedMode: 'it wants whole tables, and the board reads them by pages',
-  NotAClass: 'there is no such material',
-  FieldCount: 'a FEN has six fields, or four',
-  Placement: 'the first field does not fill the eight ranks',
-  TooManyMen: 'more than four men; the tables go up to four, kings included',
-  KingCount: 'each side needs exactly one king',
-  PawnOnEndRank: 'a pawn stands on the first or last rank',
-  SideField: 'the side to move is w or b',
-  OpponentInCheck: 'the side that is not to move is in check',
-  Castling: 'castling is left out: write -',
-  EnPassantField: 'the en passant square is a square or -',
-  EnPassantImpossible: 'no pawn can just have jumped over that square',
-  Clock: 'the half-move count has one to four digits',
-  MoveNumber: 'the move number has one to four digits',
-  NotSan: 'not the text of a move, as Kb6 or c8=R, without its number',
-  CastlingLeftOut: 'castling is left out',
-  NoSuchMove: 'not legal here',
-  Ambiguous: 'two men can make this move: add the file or rank of the origin',
-  RootNotAllowed: 'the start can be neither deleted nor promoted',
-  AlreadyFirst: 'it is the first already',
-  AlreadyThere: 'the move stands there already',
-  TooDeep: 'more than 256 plies',
-  TreeFull: 'more than 4096 nodes',
-  TagText: 'a text has at most 60 characters',
   NoFile: 'there is no file of this table',
   Cut: 'the file is cut short',
   NotATable: 'the file is no table',
   HeaderDamaged: 'the head of the file is damaged',
   TrailingBytes: 'the file is too long',
-  OutOfMemory: 'no memory is left',
   NoMan: 'no man stands there',
   Device: 'it could not be written',
   NoSuchTheme: 'no such theme',
   NoSuchFilter: 'a word that names no square of a man: write Kf7, or Pa2-h4 for any square between',
   NoKeyMove: 'positions of this theme have no one first move',
+});
+/** What to write instead, where a reason of the core does not say it. */
+const ADVICE = /** @type {Record<string, string>} */ ({
+  BadByte: 'write names without accents',
+  UnknownStipulation: 'write white or black, then win, draw, or mate and a number from 1 to 127',
+  NotSan: 'write Kb6 or c8=R',
+  Ambiguous: 'add the file or rank of the origin',
+  EnPassantField: 'the square that a pawn has passed is the fourth field',
+  Clock: 'the half-move clock is the fifth field',
+  MoveNumber: 'the number of the move is the sixth field',
 });
 /**
  * A reply `error NAME ARGUMENT` as words.
@@ -204,12 +179,13 @@ const REASONS = /** @type {Record<string, string>} */ ({
 export function reason(reply) {
   const [, name = '', ...rest] = reply.split(' '), argument = rest.join(' ');
   if (/^K[QRBNP]*K[QRBNP]*$/.test(name)) return `the file of the table ${name} is damaged (${argument})`;
-  if (name === 'ShiftBroken') return `the move at ${argument} is not legal from the new position`;
   if (name === 'NoTable' || name === 'MissingTable') return `the table ${argument} is not there`;
   if (name === 'AlreadyHeld') return `the table ${argument} is there already`;
   if (name === 'OtherClass') return `the file holds the table ${argument}`;
-  if (name === 'PageDamaged' || name === 'TableRead') return `a table's file is damaged (${argument})`;
-  return REASONS[name] || reply.replace(/^error /, '');
+  if (name === 'PageDamaged') return `a table's file is damaged (${argument})`;
+  if (name === 'ShiftBroken' || name === 'TableRead') return `${REASONS[name]} (${argument})`;
+  const why = REASONS[name] || OWN_REASONS[name] || reply.replace(/^error /, '');
+  return ADVICE[name] ? `${why}: ${ADVICE[name]}` : why;
 }
 /**
  * Why a whole run ended.
@@ -219,5 +195,5 @@ export function endedReason(ended) {
   const [name, line] = ended.split(' ');
   if (name === 'LineTooLong') return `line ${line} has more than 1024 characters`;
   if (name === 'TooManyLines') return 'more than 100,000 lines';
-  return name === 'OutOfMemory' ? 'no memory is left' : ended;
+  return name === 'OutOfMemory' ? REASONS[name] : ended;
 }

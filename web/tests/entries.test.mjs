@@ -31,7 +31,7 @@ test('each entry has a row and a stamp', () => {
   const rows = entriesOf(d, [review]);
   assert.deepEqual(rows.map(r => [r.kind, r.title, r.author, r.stamp]), [
     ['time', 'A, "first"', 'Reti', 'sound but for loss of time'], ['holds', 'B', 'Reti', 'holds'],
-    ['left out', '', 'Kasparyan, G.', 'left out: a FEN has six fields, or four'],
+    ['left out', '', 'Kasparyan, G.', 'left out: not six fields, and not four'],
     ['left out', 'game 9 of the PGN, line 3', '', 'left out: 7 men'], ['not read', 'B', 'Reti', 'not read: Kz9']
   ]);
   assert.deepEqual(countsOf(rows), [['time', 1], ['holds', 1], ['not read', 1], ['left out', 2]]);
@@ -48,7 +48,7 @@ test('a game that was left out has its title and its author, where remarks behin
     entriesOf({...readScript(lines, [], []), at: 0, path: 'root', name: '', id: 'x', note: '', judged: true});
   assert.deepEqual(rows.map(r => [r.title, r.author, r.stamp]), [
     ['A "prize" (game 2 of the PGN, line 9)', 'Kasparyan, G.', 'left out: 7 men'],
-    ['game 3 of the PGN, line 20', 'Réti', 'left out: Kh9: not legal here'],
+    ['game 3 of the PGN, line 20', 'Réti', 'left out: Kh9: no legal move of this position'],
     ['game 4 of the PGN, line 31', '', 'left out: 6 men']
   ]);
 });

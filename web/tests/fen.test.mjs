@@ -1,7 +1,7 @@
 // Placement, control lines and codes of positions. Expected texts are from the PGN Standard, EG's code, and by hand.
 import test from 'node:test';
 import assert from 'node:assert/strict';
-import {control, fromControl, gbr, menOf, placement, spokenMove, squareAt, squareName, typedFen} from '../src/fen.js';
+import {control, fromControl, menOf, placement, spokenMove, squareAt, squareName, typedFen} from '../src/fen.js';
 
 const SAAVEDRA = '8/8/1KP5/3r4/8/8/8/k7 w - - 0 1';
 test('a placement is read and written', () => {
@@ -14,7 +14,6 @@ test('squares count from a1', () => {
 });
 test('control line and code', () => {
   assert.equal(control(SAAVEDRA), 'Kb6 Pc6 / Ka1 Rd5');
-  assert.equal(gbr(SAAVEDRA), '2 + 2 · 0300.10 b6a1');
   assert.equal(fromControl('Kb6 Pc6 / Ka1 Rd5'), SAAVEDRA.split(' ')[0]);
   assert.equal(fromControl('white kb6 pc6 black ka1 rd5'), SAAVEDRA.split(' ')[0]);
   assert.equal(fromControl('white Kb6 Sc6 black Ka1'), '8/8/1KN5/8/8/8/8/k7');

@@ -34,8 +34,8 @@ test('a file is UTF-8, else Latin 1', () => {
   assert.equal(decode(Uint8Array.from([82, 0xe9, 116, 105])), 'Réti');
 });
 test('games that were left out, and why', () => {
-  assert.deepEqual(
-    leftOut(LINES).map(whyLeftOut), ['7 men', 'Kb6: not legal here', 'it does not say what is to be done']);
+  assert.deepEqual(leftOut(LINES).map(whyLeftOut),
+    ['7 men', 'Kb6: no legal move of this position', 'it does not say what is to be done']);
   assert.deepEqual(leftOut(LINES)[1], {game: 3, line: 31, column: 17, author: '', why: 'NoSuchMove', text: 'Kb6'});
   const named = '# game 5, line 40, column 4 (Kasparyan, G.): NoSuchMove at Kb6';
   assert.deepEqual(
@@ -46,7 +46,7 @@ test('games that were left out, and why', () => {
     leftOut(['# game 6, line 60, column 8: NullMove']).map(whyLeftOut), ['a null move in the main line']);
   assert.equal(withoutAim(LINES), 1);
   assert.equal(importNote(LINES),
-    '5 games, 2 studies. Left out: game 2, line 14: 7 men; game 3, line 31, column 17: Kb6: not legal here; ' +
+    '5 games, 2 studies. Left out: game 2, line 14: 7 men; game 3, line 31, column 17: Kb6: no legal move of this position; ' +
       'game 4, line 40: it does not say what is to be done.');
   assert.equal(
     importNote(['# game 1, line 1: stipulated by its result', '', '# games 1, studies 1']), '1 game, 1 study.');

@@ -19,7 +19,10 @@ const valueWords = v => (v.kind === 'draw' ? 'draw' : `${v.kind} ${v.n}`),
       markWords = m => (m.mark === 'dual' ? `dual ${m.duals}` : m.mark);
 const squares = m => (m.from < 0 ? '-' : squareName(m.from) + squareName(m.to) + m.promoted.toLowerCase());
 function viewText(view) {
-  const rows = [`study ${view.fen}`, `stipulation ${aimText(view.aim)}: ${view.verdict}, ${view.start}`];
+  const rows = [
+    `study ${view.fen}`, `counts ${view.counts}`, `stipulation ${aimText(view.aim)}: ${view.verdict}, ${view.start}`,
+    `sentence ${view.sentence}`
+  ];
   for (const n of allNodes(view.root))
     rows.push(
       `node ${n.path} ${n.san} ${squares(n)} ${valueWords(n.value)} ${markWords(n)} faults ${n.faults} ${n.fen}`);
@@ -47,6 +50,9 @@ test('values in words', () => {
   assert.equal(valueText('White', view.root.value), view.start);
   assert.equal(verdictSentence(view, 'unsound'),
     'The stipulation holds; the solution has 3 faults. At the start: White mates in 26.');
+  assert.equal(verdictSentence(view, 'time'),
+    'The stipulation holds; the solution has 3 faults, which lose time alone. At the start: White mates in 26.');
+  assert.equal(view.counts, '2 + 2, 0300.10 b6a1');
   assert.equal(valueSign('White', 'Black', {kind: 'loss', n: 0}), '#');
   assert.equal(valueSign('White', 'White', {kind: 'loss', n: 6}), '−3');
   assert.equal(valueSign('White', 'Black', {kind: 'draw', n: 0}), '=');

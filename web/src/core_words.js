@@ -1,0 +1,45 @@
+// @ts-check
+// Words of the core, from the byte strings of its crates: tools/write_core_words.py writes this file.
+
+/** Why a line is refused, by the name of the refusal, as the printed page has it. */
+export const REASONS = /** @type {Record<string, string>} */ ({
+  BadByte: 'a letter outside plain ASCII',
+  UnknownCommand: 'the first word is no command',
+  BadArguments: 'a word too few or too many, or a path or number not of its form',
+  UnknownStipulation: 'no stipulation of a known form',
+  UnknownTag: 'not one of the six tags',
+  TagText: 'more than 60 characters',
+  NoPosition: 'no position yet',
+  NoStudy: 'no stipulation yet',
+  NoSuchNode: 'no move stands at this place of the tree',
+  NotSan: 'not the text of a move, which stands without its number',
+  CastlingLeftOut: 'castling is left out',
+  NoSuchMove: 'no legal move of this position',
+  Ambiguous: 'several men can make this move',
+  AlreadyThere: 'the move stands there already',
+  RootNotAllowed: 'the start can be neither deleted nor promoted',
+  AlreadyFirst: 'it is the first already',
+  TooDeep: 'more than 256 plies below the start',
+  TreeFull: 'more than 4,096 nodes',
+  ShiftBroken: 'a move of the tree is not legal from the new start',
+  FieldCount: 'not six fields, and not four',
+  Placement: 'the first field does not fill eight ranks of eight squares',
+  TooManyMen: 'more than four men',
+  KingCount: 'not one king each',
+  PawnOnEndRank: 'a pawn on the first or last rank',
+  SideField: 'neither w nor b is to move',
+  OpponentInCheck: 'the side that is not to move is in check',
+  Castling: 'castling is left out: write -',
+  EnPassantField: 'neither a square nor -',
+  EnPassantImpossible: 'no pawn can just have passed over that square',
+  Clock: 'not one to four digits',
+  MoveNumber: 'not one to four digits',
+  NotAClass: 'no such material, or its men in another order',
+  NoTable: 'the table of this material is not in the folder',
+  TableRead: 'the file of a table could not be read',
+  OutOfMemory: 'no memory is left',
+});
+/** What the sentence of a verdict says of the one fault if it loses time alone, and of several that do. */
+export const LOST = [', which loses time alone', ', which lose time alone'];
+/** What the value of the start follows. */
+export const AT_START = 'At the start: ';
