@@ -1,7 +1,6 @@
 //! A report over a whole script.
-ghost use Rattle.std.specs.Prelude.{◌≡◌, ℕ, List, ◌++◌, IfSome, IfErr, OnOk};
+ghost use Rattle.std.specs.Prelude.{◌≡◌, List, ◌++◌, IfSome, IfErr, OnOk};
 ghost use Rattle.study_material.specs.declared.class.Class.{Class as AClass};
-ghost use Rattle.study_marks.specs.Edits.{Plainly};
 ghost use Rattle.study_script.specs.State.{State, is_among};
 ghost use Rattle.study_script.specs.Held.{tables_honest, tables_held, are_paged};
 ghost use Rattle.study_script.specs.Session.{SessionHolds};

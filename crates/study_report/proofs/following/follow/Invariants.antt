@@ -1,4 +1,4 @@
-use Rattle.std.proofs.Common.{◌≤◌, ℕ, List, ◌++◌}
+use Rattle.std.proofs.Common.{◌≤◌, List, ◌++◌}
 use Rattle.study_command.specs.Lines.{GaveFeeds}
 use Rattle.study_script.specs.State.{State}
 use Rattle.study_script.specs.Session.{SessionHolds}
