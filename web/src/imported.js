@@ -40,6 +40,7 @@ const FAULTS = /** @type {Record<string, string>} */ ({
   OpenString: 'a tag whose text is not closed in its line',
   TagInMoves: 'a tag among the moves',
   NullMove: 'a null move in the main line',
+  BehindResult: 'moves behind the result',
   Byte: 'a letter that begins no move',
   OpenComment: 'a comment that is not closed',
   NoMoveBefore: 'a variation before the first move',

@@ -44,6 +44,8 @@ test('games that were left out, and why', () => {
     importNote([named, '# games 5, studies 4']), /Left out: game 5 \(Kasparyan, G\.\), line 40, column 4: Kb6/);
   assert.deepEqual(
     leftOut(['# game 6, line 60, column 8: NullMove']).map(whyLeftOut), ['a null move in the main line']);
+  assert.deepEqual(
+    leftOut(['# game 7, line 66, column 17 (Kling, J.): BehindResult']).map(whyLeftOut), ['moves behind the result']);
   assert.equal(withoutAim(LINES), 1);
   assert.equal(importNote(LINES),
     '5 games, 2 studies. Left out: game 2, line 14: 7 men; game 3, line 31, column 17: Kb6: no legal move of this position; ' +

@@ -24,6 +24,7 @@ mod TagsTrimmed
 mod Soundness
 mod Placed
 mod Whole
+pub mod NoneBehind
 pub mod TailFound
 mod AllRead
 mod Blanks

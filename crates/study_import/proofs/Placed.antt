@@ -35,7 +35,9 @@ use Rattle.study_import.specs.Taken.{Taken, going_on, on_line, cut_line, on_move
 use Rattle.study_import.specs.Notes.{GameRead, GameTaken, is_header_tag, noted, noted_on, game_taken}
 use Rattle.study_import.specs.Blocks.{no_moves, game_read}
 use Rattle.study_import.specs.Laws.{IsListed, AreListed}
+use Rattle.study_import.specs.Movetext.{read_moves}
 use Rattle.study_import.proofs.Kept.{stops}
+use Rattle.study_import.proofs.NoneBehind.{stops_at_end}
 
 abbrev Plain : Type 0
 Plain = Forest (Unit {0})
@@ -333,4 +335,6 @@ at_root start = (refl, omega arith)
 
 pub listed : AreListed
 unfolding game_read
-listed text start fault e = stops Placed step IsListed tt (λ why. tt) taking (length text) true text (no_moves start) fault (at_root start) e
+listed text start fault e =
+    stops_at_end IsListed tt (read_moves (length text) true text (no_moves start)) fault
+    (λ f is. stops Placed step IsListed tt (λ why. tt) taking (length text) true text (no_moves start) f (at_root start) is) e

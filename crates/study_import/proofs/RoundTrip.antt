@@ -54,6 +54,7 @@ use Rattle.study_import.specs.declared.notes.Notes.{Notes}
 use Rattle.study_import.specs.Taken.{taken_symbol}
 use Rattle.study_import.specs.Notes.{GameRead, GameTaken, none_yet, with_comment, with_said, with_result, noted_on, game_taken}
 use Rattle.study_import.specs.Movetext.{Ended, goes_on, on_token}
+use Rattle.study_import.specs.Behind.{moves_or, moves_left, moves_in, ended_unless, to_the_end}
 use Rattle.study_import.specs.Blocks.{no_moves, game_read, fen_in, printed, tag_text, tag_value_text, text_or_unknown as import_text, aim_of_game}
 use Rattle.study_import.specs.Meant.{tag_texts, study_aimed, study_read, study_begun, study_with_fen, study_behind_header, study_in}
 use Rattle.study_import.specs.Laws.{IsCounted}
@@ -312,16 +313,17 @@ symbol_lexed fresh b w rest begins all stops = lexed_is (lexed fresh b (w ++ res
     lexed_is : (x y : Lexed) → Some x ≡ Some y → x ≡ y
     lexed_is x y e = cc
 
--- the reading ends with this tree and this stipulation
+-- the reading ends with this tree and this stipulation, and there are no moves behind the result
 record EndsWith (x : Result Ended MovesFault) (s : Plainly) (o : Option Stipulation) : Type 0 where
   ended_by : Ended
   is : x ≡ Ok ended_by
   study : ended_by.game.reading.study ≡ s
   opening : ended_by.game.notes.opening ≡ o
+  quiet : moves_in ended_by.behind ≡ None
 
 result_ends : (s : Plainly) (path : List ℕ) (o : Option Stipulation) (g : GameRead) → At s path 0 [] o g → (w : List ℕ) → IsResult w → (b : ℕ) (rest : List ℕ) → IsGap b
-    → (fresh : Bool) → EndsWith (reads fresh (w ++ (b ∷ rest)) g) s o
-result_ends s path o g at w r b rest gap fresh =
+    → moves_in (b ∷ rest) ≡ None → (fresh : Bool) → EndsWith (reads fresh (w ++ (b ∷ rest)) g) s o
+result_ends s path o g at w r b rest gap quiet fresh =
     let waits = not (length g.reading.lines.waiting == 0) in
     let n = with_result g.notes waits r.outcome in
     let none : (length g.reading.lines.waiting == 0) ≡ true = ap (λ (l : Lines). length l.waiting == 0) at.lines in
@@ -337,7 +339,24 @@ result_ends s path o g at w r b rest gap fresh =
           ∙ ap (λ (x : Result GameTaken Reason). goes_on (λ h. reads (r.first == 10) (b ∷ rest) h) (length (r.first ∷ bs)) (b ∷ rest) x) takes;
       study = at.study;
       opening = at.opening;
+      quiet = quiet;
     }
+
+-- two gaps, as they are behind the result
+space_is : (fresh : Bool) (bs : List ℕ) → lexed fresh 32 bs ≡ Ok (blank, bs)
+unfolding lexed
+space_is true bs = refl
+space_is false bs = refl
+
+gap_lexed : (b : ℕ) (bs : List ℕ) → IsGap b → (fresh : Bool) → lexed fresh b bs ≡ Ok (blank, bs)
+gap_lexed b bs (inl e) fresh = subst (λ (x : ℕ). lexed fresh x bs ≡ Ok (blank, bs)) (sym e) (space_is fresh bs)
+gap_lexed b bs (inr e) fresh = subst (λ (x : ℕ). lexed fresh x bs ≡ Ok (blank, bs)) (sym e) (feed_lexed bs fresh)
+
+gaps_quiet : (b c : ℕ) → IsGap b → IsGap c → moves_in (b ∷ c ∷ []) ≡ None
+unfolding moves_in
+gaps_quiet b c first second =
+    ap (moves_or (moves_left 1 (b == 10)) (b ∷ c ∷ [])) (gap_lexed b (c ∷ []) first false)
+    ∙ ap (moves_or (moves_left 0 (c == 10)) (c ∷ [])) (gap_lexed c [] second (b == 10))
 
 -- ---- the movetext
 
@@ -366,22 +385,25 @@ tree_ends s c o t h g at fresh =
     let gap = gap_step made f.way 0 [] o reached.next reached.at a.byte a.back a.gap in
     let first = reached.goes fresh in
     let second = gap.goes first.0 in
-    let last = result_ends made f.way o gap.next gap.at result r e.0 e.1 e.3 second.0 in
+    let last = result_ends made f.way o gap.next gap.at result r e.0 e.1 e.3 e.4 second.0 in
     record {
       ended_by = last.ended_by;
       is = first.1 ∙ ap (λ (x : List ℕ). reads first.0 x reached.next) a.text ∙ second.1
           ∙ ap (λ (x : List ℕ). reads second.0 x gap.next) (w.text ∙ ap (λ (x : List ℕ). result ++ x) e.2) ∙ last.is;
       study = last.study;
       opening = last.opening;
+      quiet = last.quiet;
     }
   where
     feed_gap : (y : ℕ) → SameByte 10 y → IsGap y
     feed_gap y (inl e) = inr e
     feed_gap y (inr e) = inr e.1
 
-    last_gap : (t : List ℕ) → Same (10 ∷ 10 ∷ []) t → (b : ℕ) × (bs : List ℕ) × (t ≡ b ∷ bs) × IsGap b
+    last_gap : (t : List ℕ) → Same (10 ∷ 10 ∷ []) t → (b : ℕ) × (bs : List ℕ) × (t ≡ b ∷ bs) × IsGap b × (moves_in (b ∷ bs) ≡ None)
     last_gap [] h = absurd h
-    last_gap (b ∷ bs) h = (b, bs, refl, feed_gap b h.0)
+    last_gap (b ∷ []) h = absurd h.1
+    last_gap (b ∷ c ∷ []) h = (b, c ∷ [], refl, feed_gap b h.0, gaps_quiet b c (feed_gap b h.0) (feed_gap c h.1.0))
+    last_gap (b ∷ c ∷ d ∷ ds) h = absurd h.1.1
 
 -- the opening comment, cut into lines, and the rest
 pub record Opened (s : Study Mark) (t : List ℕ) : Type 0 where
@@ -432,6 +454,7 @@ moves_end s c fresh =
           ∙ on_step true 123 bs g (comment o.words) o.back next (lexed_brace bs true ∙ comment_is o.words o.back o.inside) refl ∙ tree.is;
       study = tree.study;
       opening = tree.opening;
+      quiet = tree.quiet;
     }
 
 -- ---- no fault of the header
@@ -440,17 +463,8 @@ symbol_fault : (fresh : Bool) (b : ℕ) (w rest : List ℕ) → begins_symbol b 
     → fault_from fresh (b ∷ (w ++ rest)) ≡ None
 symbol_fault fresh b w rest begins all stops = fault_step fresh b (w ++ rest) rest (symbol (b ∷ w)) header_ended (symbol_lexed fresh b w rest begins all stops) refl
 
-space_is : (fresh : Bool) (bs : List ℕ) → lexed fresh 32 bs ≡ Ok (blank, bs)
-unfolding lexed
-space_is true bs = refl
-space_is false bs = refl
-
 gap_fault : (fresh : Bool) (b : ℕ) (bs : List ℕ) → IsGap b → (f : Bool) × (fault_from fresh (b ∷ bs) ≡ fault_from f bs)
 gap_fault fresh b bs gap = (b == 10, fault_step fresh b bs bs blank (on None bs) (gap_lexed b bs gap fresh) refl)
-  where
-    gap_lexed : (b : ℕ) (bs : List ℕ) → IsGap b → (fresh : Bool) → lexed fresh b bs ≡ Ok (blank, bs)
-    gap_lexed b bs (inl e) fresh = subst (λ (x : ℕ). lexed fresh x bs ≡ Ok (blank, bs)) (sym e) (space_is fresh bs)
-    gap_lexed b bs (inr e) fresh = subst (λ (x : ℕ). lexed fresh x bs ≡ Ok (blank, bs)) (sym e) (feed_lexed bs fresh)
 
 digits_fault : (fresh : Bool) (ds rest : List ℕ) → list_all is_digit ds ≡ true → 0 < length ds → Stops is_symbol_byte rest → fault_from fresh (ds ++ rest) ≡ None
 digits_fault fresh [] rest h some stops = absurd (omega arith)
@@ -539,7 +553,9 @@ read_back s c =
     let fault : header_fault (pgn_text s) ≡ None = ap (fault_from true) text ∙ lines.fault ∙ lines_fault s c lines.then_fresh in
     let tags : tags_of (pgn_text s) ≡ pairs_of (header_of s) ++ tags_from lines.then_fresh (text_behind s) = ap (tags_from true) text ∙ lines.tags in
     let moves = moves_end s c lines.then_fresh in
-    let read : game_read (pgn_text s) s.start ≡ Ok moves.ended_by = ap (λ (t : List ℕ). reads true t (no_moves s.start)) text ∙ lines.moves refl ∙ moves.is in
+    let read : game_read (pgn_text s) s.start ≡ Ok moves.ended_by =
+    ap (λ (t : List ℕ). to_the_end (reads true t (no_moves s.start))) text ∙ ap to_the_end (lines.moves refl ∙ moves.is)
+    ∙ ap (ended_unless moves.ended_by) moves.quiet in
     let start : start_of (fen_in (flat_map escaped (fen_text s.start))) ≡ Ok s.start = ap start_of (fen_again s c) ∙ start_again s.start c.valid c.clock c.positive c.number in
     let all = pairs_of (header_of s) ++ tags_from lines.then_fresh (text_behind s) in
     ap (study_behind_header None (pgn_text s)) fault

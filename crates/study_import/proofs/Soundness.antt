@@ -36,7 +36,7 @@ use Rattle.study_games.specs.Header.{Pair, tags_of, header_fault, value_of}
 use Rattle.study_games.specs.declared.header.HeaderFault.{HeaderFault}
 use Rattle.study_import.specs.declared.aims.Aim.{Aim}
 use Rattle.study_import.specs.declared.movetext.MovesFault.{MovesFault}
-use Rattle.study_import.specs.Movetext.{Ended}
+use Rattle.study_import.specs.Movetext.{Ended, read_moves}
 use Rattle.study_import.specs.Reading.{insert_line}
 use Rattle.study_import.specs.Insertions.{Insertion, made_by, AllAccepted, AllReadAgain, lines_for}
 use Rattle.study_import.specs.Blocks.{Entry, Block, no_study, left_out, token_name, Told, told_of, head_line, remark_lines, position_line, stipulation_line, tag_line, tag_value_text, six_names, study_lines, block_lines, aim_of_game, aimed_block, stopped_block, read_block, no_moves, game_read, fen_in, start_block, fen_block, header_block, sized_block, block_of, tail_of, tail_line, under_remark, block_or_tail, block_by, place_in, last_line, is_chosen, Tally, tallied, told_text, blocks}
@@ -50,6 +50,7 @@ use Rattle.study_import.proofs.PathAgain.{path_again}
 use Rattle.study_import.proofs.Narrow.{IsOpen, IsNarrow, is_open, narrow_inserted, open_few}
 use Rattle.study_import.proofs.TextAgain.{valid_along, read_again}
 use Rattle.study_import.proofs.Made.{moves_lead}
+use Rattle.study_import.proofs.NoneBehind.{end_is}
 use Rattle.study_import.proofs.TagsTaken.{taken}
 use Rattle.study_import.proofs.TagsTrimmed.{text_trimmed, text_prints, text_few}
 use Rattle.study_import.proofs.AimsCounted.{aim_counted}
@@ -472,8 +473,9 @@ module _ (given : Option Stipulation) (g : IsGiven given) (e : Entry) where
   unfolding game_read
   aimed_reads start x None r is a = remarks_read (left_out e (codes "NoStipulation")) (left_out_is e (codes "NoStipulation") (record { shown = refl; few = omega arith }))
   aimed_reads start x (Some aim) r is a =
-      let l = moves_lead (Unit {0}) (length e.text) true e.text (no_moves start) x is in
-      let counted = aim_counted given (tags_of e.text) start.position.to_move x.game.notes aim g (opening_given (length e.text) true e.text (no_moves start) x tt is) a in
+      let read = end_is (read_moves (length e.text) true e.text (no_moves start)) x is in
+      let l = moves_lead (Unit {0}) (length e.text) true e.text (no_moves start) x read in
+      let counted = aim_counted given (tags_of e.text) start.position.to_move x.game.notes aim g (opening_given (length e.text) true e.text (no_moves start) x tt read) a in
       block_reads e start aim (told_of x) l.insertions x.game.reading.study r counted l.accepted
       (read_again (Unit {0}) (no_moves start).reading.study l.insertions r.valid tt l.accepted) l.study l.lines
 

@@ -17,7 +17,7 @@ abbrev pub Within : ℕ → Lexed → Type 0
 Within n (Err fault) = Unit {0}
 Within n (Ok x) = length x.1 ≤ n
 
-behind_le : (p : ℕ → Bool) (text : List ℕ) → length (behind p text) ≤ length text
+pub behind_le : (p : ℕ → Bool) (text : List ℕ) → length (behind p text) ≤ length text
 behind_le p text = omega (arith, length-drop (prefix_len p text) text)
 
 within_if : (b : Bool) (n : ℕ) (x y : Lexed) → (b ≡ true → Within n x) → Within n y → Within n (if b then x else y)

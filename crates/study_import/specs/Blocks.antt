@@ -51,6 +51,7 @@ use Rattle.study_import.specs.Aims.{from_source, or_aim, aim_of_result, aim_of_t
 use Rattle.study_import.specs.Notes.{GameRead, none_yet}
 use Rattle.study_import.specs.Taken.{reading_of}
 use Rattle.study_import.specs.Movetext.{Ended, read_moves}
+use Rattle.study_import.specs.Behind.{to_the_end}
 use Rattle.study_import.specs.Tails.{Tail, position_text, tail_in}
 
 -- ---- places
@@ -111,6 +112,7 @@ abbrev pub stop_name : Stop → List ℕ
 stop_name (stop.Token fault) = token_name fault
 stop_name (stop.Taking why) = reason_name why
 stop_name stop.OpenVariation = codes "OpenVariation"
+stop_name stop.BehindResult = codes "BehindResult"
 
 -- a move that cannot be read is reported with its symbol, 40 bytes at most
 abbrev pub symbol_words : Stop → List ℕ → List ℕ
@@ -215,7 +217,7 @@ unfoldable pub counted_words : Notes → ℕ → ℕ → List ℕ
 counted_words n tags repeated =
     counts_words true ((codes "comments", n.comments) ∷ (codes "NAGs", n.asides) ∷ (codes "tags", tags) ∷ move_counts n repeated)
 
--- text after the result is ignored, and reported by its place
+-- text after the result, if it has no moves, is ignored, and reported by its place
 unfoldable pub behind_line : Entry → List ℕ → List ℕ
 behind_line e text =
     if length (behind is_blank text) == 0 then []
@@ -354,8 +356,9 @@ no_moves start = record {
   notes = none_yet;
 }
 
+-- up to the result, behind which there are no moves
 unfoldable pub game_read : List ℕ → Start → Result Ended MovesFault
-game_read text start = read_moves (length text) true text (no_moves start)
+game_read text start = to_the_end (read_moves (length text) true text (no_moves start))
 
 -- the number of men that a FEN places
 abbrev pub men_in : Option (List ℕ × List ℕ) → ℕ

@@ -25,6 +25,7 @@ use Rattle.study_import.specs.declared.movetext.MovesFault.{MovesFault}
 use Rattle.study_import.specs.declared.movetext.Stop.{Stop}
 use Rattle.study_import.specs.declared.movetext.Stop.TheVariants as stop
 use Rattle.study_import.specs.Movetext.{Ended, read_moves}
+use Rattle.study_import.specs.Behind.{moves_left, moves_in, to_the_end}
 use Rattle.study_import.specs.Imported.{no_game, script_of, tally_of}
 use Rattle.study_import.specs.Documents.{Document, composed, after_lines}
 use Rattle.study_import.specs.Tails.{Tail, tail_from, not_begun, tail_in}
@@ -146,9 +147,12 @@ IsListed other = Unit {0}
 abbrev pub AreListed : Type 0
 AreListed = (text : List ℕ) → (start : Start) → (fault : MovesFault) → game_read text start ≡ Err fault → IsListed fault.why
 
--- a game is read to its end: with a larger bound no more of its moves and of its header is read, and the same tail is found
+-- a game is read to its end: with a larger bound no more of its moves, of the text behind its result and of its header is read, and the same tail is
+-- found; and behind the result of a game that is read there are no moves
 pub record IsWhole (text : List ℕ) (n : ℕ) : Type 0 where
-  pub moves : (start : Start) → read_moves n true text (no_moves start) ≡ game_read text start
+  pub moves : (start : Start) → to_the_end (read_moves n true text (no_moves start)) ≡ game_read text start
+  pub behind : moves_left n false text ≡ moves_in text
+  pub ended : (start : Start) → (x : Ended) → game_read text start ≡ Ok x → moves_in x.behind ≡ None
   pub tail : tail_from n true text (not_begun []) ≡ tail_in text
   pub tags : tags_in n true text ≡ tags_of text
   pub fault : fault_in n true text ≡ header_fault text

@@ -6,6 +6,7 @@ pub mod Aims
 pub mod Notes
 pub mod Movetext
 pub mod MovesRead
+pub mod Behind
 pub mod Tails
 pub mod Masks
 pub mod Pieces

@@ -387,7 +387,7 @@ fn add_read<'a, A: Allocator>(
         (game_read setting.now.entry.text.now start.now)) }
 {
     let mut game = begin_game(alloc, start.copied())?;
-    match game.read(setting.entry.text, true) {
+    match game.read_whole(setting.entry.text) {
         Ok(behind) => {
             let told = Told {
                 notes: game.notes,

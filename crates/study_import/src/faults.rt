@@ -62,6 +62,7 @@ fn stop_name(why: Stop) -> &'static [u8]
         Stop::Taking(Reason::TagInMoves) => b"TagInMoves",
         Stop::Taking(Reason::NullMove) => b"NullMove",
         Stop::OpenVariation => b"OpenVariation",
+        Stop::BehindResult => b"BehindResult",
     }
 }
 

@@ -8,6 +8,7 @@
 #![tactic(auto)]
 
 mod aims;
+mod behind;
 mod block;
 mod counts;
 mod faults;

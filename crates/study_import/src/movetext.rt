@@ -1,12 +1,14 @@
 //! The moves of a game.
-ghost use Rattle.std.specs.Prelude.{◌≡◌, [], length};
+ghost use Rattle.std.specs.Prelude.{◌≡◌, true, [], length};
 ghost use Rattle.study_marks.specs.Study.{plain_study};
 ghost use Rattle.study_marks.specs.BenchState.{marked};
 ghost use Rattle.study_games.specs.Tokens.{token_seen};
 ghost use Rattle.study_import.specs.Notes.{game_of, is_header_tag, game_taken};
 ghost use Rattle.study_import.specs.Movetext.{at_end, read_moves};
 ghost use Rattle.study_import.specs.MovesRead.{Ends, TakesIn};
+ghost use Rattle.study_import.specs.Behind.{to_the_end};
 
+use crate::behind::moves_in;
 use crate::notes::Notes;
 use crate::reading::Reading;
 use crate::taking::Reason;
@@ -19,6 +21,8 @@ pub enum Stop {
     Token(TokenFault),
     Taking(Reason),
     OpenVariation,
+    /// There are moves behind the result.
+    BehindResult,
 }
 
 /// The first fault of the moves, and the number of bytes from its place on.
@@ -121,5 +125,26 @@ impl<'a, A: Allocator> GameReading<'a, A> {
         }
         let (_, none) = text.split_at(text.len());
         self.end_text(none)
+    }
+
+    /// Reads a game, and returns the text behind its result, which has no moves.
+    #[tactic(auto, using(crate::proofs::NoneBehind::still_reported))]
+    pub fn read_whole<'t>(&mut self, text: &'t [u8]) -> Result<&'t [u8], MovesFault>
+        ensures { let before = game_of (plain_study (marked self.old.reading.bench)) self.old.reading.lines.path.items self.old.reading.lines.begun
+            self.old.reading.lines.waiting.items self.old.reading.lines.cut self.old.reading.inserts self.old.notes in
+            let after = game_of (plain_study (marked self.new.reading.bench)) self.new.reading.lines.path.items self.new.reading.lines.begun
+            self.new.reading.lines.waiting.items self.new.reading.lines.cut self.new.reading.inserts self.new.notes in
+            Ends (λ t. t.now) result (to_the_end (read_moves (length text.now) true text.now before)) after }
+    {
+        match self.read(text, true) {
+            Ok(behind) => match moves_in(behind) {
+                None => Ok(behind),
+                Some(left) => Err(MovesFault {
+                    why: Stop::BehindResult,
+                    left,
+                }),
+            },
+            Err(fault) => Err(fault),
+        }
     }
 }

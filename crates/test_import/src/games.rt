@@ -204,6 +204,61 @@ fn a_main_line_has_no_null_move(rt: HostRuntime) -> Result<(), Fail> {
     Ok(())
 }
 
+/// Four games with text behind the result: a move, a parenthesis, a null move, and words and comments without a move.
+const BEHIND: &[u8] = b"[FEN \"8/8/8/4k3/8/4K3/4P3/8 w - - 0 1\"]
+[Result \"1-0\"]
+
+1. Kd3 1-0 1... Kd5
+
+[White \"Horwitz, B.\"]
+[FEN \"8/8/8/4k3/8/4K3/4P3/8 w - - 0 1\"]
+[Result \"1-0\"]
+
+1. Kd3 1-0 {the end}
+$1 & (
+
+[FEN \"8/8/8/4k3/8/4K3/4P3/8 w - - 0 1\"]
+[Result \"1-0\"]
+
+1. Kd3 * --
+
+[FEN \"8/8/8/4k3/8/4K3/4P3/8 w - - 0 1\"]
+[Result \"1-0\"]
+
+1. Kd3 1-0 2. Solution, $3 {Kd5} ; (Kd5
+[x {an open comment (Kd5
+";
+
+const BEHIND_TOLD: &[u8] = b"# game 1, line 4, column 17: BehindResult
+
+# game 2, line 11, column 6 (Horwitz, B.): BehindResult
+
+# game 3, line 16, column 10: BehindResult
+
+# game 4, line 18: stipulated by its tag Result
+# behind the result: line 21, column 12
+position 8/8/8/4k3/8/4K3/4P3/8 w - - 0 1
+stipulate white win
+tag Event ?
+tag Site ?
+tag Date ????.??.??
+tag Round ?
+tag White ?
+tag Black ?
+insert root Kd3
+pgn
+
+# games 4, studies 1
+";
+
+/// With a move or a parenthesis behind its result a game is left out; other text there is reported by its place.
+#[test]
+fn behind_a_result_there_are_no_moves(rt: HostRuntime) -> Result<(), Fail> {
+    let alloc = rt.alloc();
+    assert!(rt; check(&alloc, BEHIND, None, BEHIND_TOLD)?);
+    Ok(())
+}
+
 /// Whenever memory is refused, the import ends, and never returns another script.
 #[test]
 fn each_growth_may_be_refused(rt: HostRuntime) -> Result<(), Fail> {
