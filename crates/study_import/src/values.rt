@@ -1,12 +1,6 @@
 //! Values for a tree whose marks are never read.
-ghost use Rattle.std.specs.Prelude.{◌≡◌, ◌↔◌, ℕ, true, false, Ok, IfOk, IfErr, IsErrOf};
-ghost use Rattle.study_material.specs.declared.class.Class.{Class as AClass};
-ghost use Rattle.study_material.specs.Class.{IsOf};
-ghost use Rattle.study_values.specs.Game.{IsValueOf};
+ghost use Rattle.std.specs.Prelude.{◌≡◌, true, Ok};
 ghost use Rattle.study_values.specs.declared.value.Value.TheVariants.{Draw};
-ghost use Rattle.study_text.specs.Counts.{counted};
-ghost use Rattle.study_values.specs.declared.fault.SourceFault.{SourceFault as ASourceFault};
-ghost use Rattle.study_values.specs.Values.{IsNotDamage, faults_after, page_number};
 
 use study_board::Position;
 use study_material::Class;
