@@ -57,6 +57,11 @@ null_move : said_of (codes "Z0") ≡ NullMove
 unfolding said_of
 null_move = refl
 
+-- an en dash
+dash : said_of (226 ∷ 128 ∷ 147 ∷ []) ≡ NullMove
+unfolding said_of
+dash = refl
+
 glued : said_of (codes "1Kd3") ≡ Move
 unfolding said_of
 glued = refl

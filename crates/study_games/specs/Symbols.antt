@@ -43,8 +43,12 @@ letter_at [] = None
 abbrev pub is_drawn : List ℕ → Bool
 is_drawn symbol = bytes_eq symbol (codes "1/2-1/2") || bytes_eq symbol (codes "1/2")
 
+-- an en dash or an em dash, in UTF-8
+abbrev pub is_dash : List ℕ → Bool
+is_dash symbol = bytes_eq symbol (226 ∷ 128 ∷ 147 ∷ []) || bytes_eq symbol (226 ∷ 128 ∷ 148 ∷ [])
+
 abbrev pub is_null_move : List ℕ → Bool
-is_null_move symbol = bytes_eq symbol (codes "Z0") || (bytes_eq symbol (codes "null") || bytes_eq symbol (codes "pass"))
+is_null_move symbol = bytes_eq symbol (codes "Z0") || (bytes_eq symbol (codes "null") || (bytes_eq symbol (codes "pass") || is_dash symbol))
 
 -- `e.p.`, without its dots
 abbrev pub is_passing : List ℕ → Bool

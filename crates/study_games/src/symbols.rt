@@ -2,7 +2,7 @@
 ghost use Rattle.std.specs.Prelude.{◌≡◌};
 ghost use Rattle.std.specs.List.{list_all};
 ghost use Rattle.study_games.specs.Bytes.{is_digit, is_high};
-ghost use Rattle.study_games.specs.Symbols.{is_figurine, begins_figurine, has_figurine, is_drawn, is_null_move, is_passing, is_judgement, said_of};
+ghost use Rattle.study_games.specs.Symbols.{is_figurine, begins_figurine, has_figurine, is_drawn, is_dash, is_null_move, is_passing, is_judgement, said_of};
 
 use crate::bytes;
 
@@ -74,10 +74,20 @@ fn is_drawn(symbol: &[u8]) -> bool
     symbol == b"1/2-1/2".as_slice() || symbol == b"1/2".as_slice()
 }
 
+/// An en dash or an em dash, in UTF-8.
+fn is_dash(symbol: &[u8]) -> bool
+    ensures { result ≡ is_dash symbol.now }
+{
+    symbol == b"\xe2\x80\x93".as_slice() || symbol == b"\xe2\x80\x94".as_slice()
+}
+
 fn is_null_move(symbol: &[u8]) -> bool
     ensures { result ≡ is_null_move symbol.now }
 {
-    symbol == b"Z0".as_slice() || symbol == b"null".as_slice() || symbol == b"pass".as_slice()
+    symbol == b"Z0".as_slice()
+        || symbol == b"null".as_slice()
+        || symbol == b"pass".as_slice()
+        || is_dash(symbol)
 }
 
 /// `e.p.`, without its dots.

@@ -515,8 +515,9 @@ low_first (b ∷ bs) h some =
 words_none : (list_all is_text_byte (codes "1-0") ≡ false) × (list_all is_text_byte (codes "0-1") ≡ false) × (list_all is_text_byte (codes "1/2-1/2") ≡ false)
     × (list_all is_text_byte (codes "1/2") ≡ false) × (list_all is_text_byte (codes "Z0") ≡ false) × (list_all is_text_byte (codes "null") ≡ false)
     × (list_all is_text_byte (codes "pass") ≡ false) × (list_all is_text_byte (codes "p") ≡ false) × (list_all is_text_byte (codes "ep") ≡ false)
+    × (list_all is_text_byte (226 ∷ 128 ∷ 147 ∷ []) ≡ false) × (list_all is_text_byte (226 ∷ 128 ∷ 148 ∷ []) ≡ false)
 unfolding is_text_byte is_san_byte is_start
-words_none = (refl, refl, refl, refl, refl, refl, refl, refl, refl)
+words_none = (refl, refl, refl, refl, refl, refl, refl, refl, refl, refl, refl)
 
 said_by : (t : List ℕ) → list_all is_text_byte t ≡ true → 1 < length t → list_all is_digit t ≡ false → said_of t ≡ MoveSaid
 unfolding said_of
@@ -531,6 +532,8 @@ said_by t h long digits =
       unequal t (codes "Z0") h w.4,
       unequal t (codes "null") h w.5,
       unequal t (codes "pass") h w.6,
+      unequal t (226 ∷ 128 ∷ 147 ∷ []) h w.9,
+      unequal t (226 ∷ 128 ∷ 148 ∷ []) h w.10,
       longer t (codes "e") long,
       unequal t (codes "p") h w.7,
       unequal t (codes "ep") h w.8,

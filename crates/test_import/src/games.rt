@@ -157,7 +157,7 @@ pgn
     Ok(())
 }
 
-/// Three games with null moves: in variations, as a move of the main line, and behind a variation.
+/// Four games with null moves: in variations, as a move of the main line, behind a variation, and as an en dash.
 const NULL_MOVES: &[u8] = b"[FEN \"8/8/8/4k3/8/4K3/4P3/8 w - - 0 1\"]
 [Result \"1-0\"]
 
@@ -172,6 +172,11 @@ const NULL_MOVES: &[u8] = b"[FEN \"8/8/8/4k3/8/4K3/4P3/8 w - - 0 1\"]
 [Result \"1-0\"]
 
 1. Kd3 (1. Kf3) Z0 1-0
+
+[FEN \"8/8/8/4k3/8/4K3/4P3/8 w - - 0 1\"]
+[Result \"1-0\"]
+
+1. Kd3 \xe2\x80\x93 2. Kc4 1-0
 ";
 
 const NULL_MOVES_TOLD: &[u8] = b"# game 1, line 1: stipulated by its tag Result
@@ -193,7 +198,9 @@ pgn
 
 # game 3, line 14, column 17: NullMove
 
-# games 3, studies 1
+# game 4, line 19, column 8: NullMove
+
+# games 4, studies 1
 ";
 
 /// A null move ends its variation; with one in its main line a game is left out.
