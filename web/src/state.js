@@ -21,10 +21,10 @@ export const blank = {
 };
 
 /**
- * @type {{history: import('./history.js').History<Doc>, view: import('./types.js').View | null, counts: string, noView: string,
- *   review: import('./types.js').Review | null, noReview: string, say: Say | null, chosen: number | null,
- *   flip: boolean, setup: import('./setup.js').Draft | null, progress: import('./tables.js').Progress | null,
- *   stamp: number}}
+ * @type {{history: import('./history.js').History<Doc>, view: import('./types.js').View | null, counts: string,
+ *   noView: string, review: import('./types.js').Review | null, noReview: string, say: Say | null,
+ *   chosen: number | null, flip: boolean, setup: import('./setup.js').Draft | null,
+ *   progress: import('./tables.js').Progress | null, stamp: number}}
  */
 export const app = {
   history: begin(blank),

@@ -28,7 +28,7 @@
  *
  * @typedef {object} View          the answer to `view`: a study at one of its nodes
  * @property {string} fen
- * @property {string} counts       `2 + 2, 0300.10 b6a1`: the men of each side, and the code of Guy, Blandford and Roycroft
+ * @property {string} counts       `2 + 2, 0300.10 b6a1`: the men of each side, and the GBR code
  * @property {string} verdict      `sound`, `unsound 3`, `wrong`; empty without a stipulation
  * @property {string} start        the value at the root in words
  * @property {string} sentence     the verdict, and the value at the root, in sentences

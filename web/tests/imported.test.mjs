@@ -48,8 +48,8 @@ test('games that were left out, and why', () => {
     leftOut(['# game 7, line 66, column 17 (Kling, J.): BehindResult']).map(whyLeftOut), ['moves behind the result']);
   assert.equal(withoutAim(LINES), 1);
   assert.equal(importNote(LINES),
-    '5 games, 2 studies. Left out: game 2, line 14: 7 men; game 3, line 31, column 17: Kb6: no legal move of this position; ' +
-      'game 4, line 40: it does not say what is to be done.');
+    '5 games, 2 studies. Left out: game 2, line 14: 7 men; game 3, line 31, column 17: Kb6: ' +
+      'no legal move of this position; game 4, line 40: it does not say what is to be done.');
   assert.equal(
     importNote(['# game 1, line 1: stipulated by its result', '', '# games 1, studies 1']), '1 game, 1 study.');
 });
