@@ -46,14 +46,25 @@ def lost():
     return [which + alone for alone in words_in(body(source("study_facts/src/words.rt"), "add_alone"))]
 
 
+def later():
+    """How much later the hero mates by another move: as quick, longer, quicker."""
+    return [words.removeprefix(", ") for words in words_in(body(source("study_page/src/items.rt"), "add_later"))]
+
+
 def written():
     one, several = lost()
+    as_quick, longer, quicker = later()
+    stamp = words_in(body(source("study_facts/src/words.rt"), "add_time_verdict"))[0]
     at_start = words_in(body(source("study_head/src/verdict.rt"), "at_start"))[0]
     return FRONT + f"""/** Why a line is refused, by the name of the refusal, as the printed page has it. */
 export const REASONS = /** @type {{Record<string, string>}} */ ({{
 {reasons()}}});
 /** What the sentence of a verdict says of the one fault if it loses time alone, and of several that do. */
 export const LOST = [{quoted(one)}, {quoted(several)}];
+/** The stamp of a study all of whose faults lose time alone. */
+export const TIME_STAMP = {quoted(stamp)};
+/** How another move mates that mates no later, later, or earlier. */
+export const LATER = [{quoted(as_quick)}, {quoted(longer)}, {quoted(quicker)}];
 /** What the value of the start follows. */
 export const AT_START = {quoted(at_start)};
 """

@@ -41,5 +41,9 @@ export const REASONS = /** @type {Record<string, string>} */ ({
 });
 /** What the sentence of a verdict says of the one fault if it loses time alone, and of several that do. */
 export const LOST = [', which loses time alone', ', which lose time alone'];
+/** The stamp of a study all of whose faults lose time alone. */
+export const TIME_STAMP = 'sound but for loss of time';
+/** How another move mates that mates no later, later, or earlier. */
+export const LATER = ['as quick', 'longer', 'quicker'];
 /** What the value of the start follows. */
 export const AT_START = 'At the start: ';

@@ -1,5 +1,6 @@
 // @ts-check
 // The entries of a script, one a row: its studies with what is said of them, and those that were left out.
+import {TIME_STAMP} from './core_words.js';
 import {isKnown} from './edits.js';
 import {control, sideOf} from './fen.js';
 import {leftOutBy, originalsIn, whyLeftOut} from './imported.js';
@@ -151,7 +152,7 @@ export const numbersOf = doc => new Map(entriesOf(doc).map(({at}, i) => [at, i +
 const KINDS = ['sound', 'time', 'unsound', 'wrong', 'holds', 'not read', 'left out', 'not judged'];
 /** @type {Record<string, string>} */
 export const KIND_WORDS = {
-  time: 'sound but for loss of time',
+  time: TIME_STAMP,
   unsound: 'unsound'
 };
 /**

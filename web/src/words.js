@@ -1,6 +1,6 @@
 // @ts-check
 // Values, verdicts and refusals in the words of the printed page.
-import {AT_START, LOST, REASONS} from './core_words.js';
+import {AT_START, LATER, LOST, REASONS} from './core_words.js';
 import {moveNumber, other, sideOf} from './fen.js';
 /** @typedef {import('./types.js').Value} Value @typedef {import('./types.js').Side} Side */
 /** @typedef {import('./types.js').Aim} Aim */
@@ -127,7 +127,7 @@ export function zugzwangText(kind) {
 export function difference(aim, played, value) {
   if (aim.goal === 'draw' || value.kind === 'draw' || played.kind === 'draw') return '';
   const d = (value.n - played.n) / 2;
-  return d === 0 ? 'as quick' : `${counted(Math.abs(d), 'move')} ${d > 0 ? 'longer' : 'quicker'}`;
+  return d === 0 ? LATER[0] : `${counted(Math.abs(d), 'move')} ${LATER[d > 0 ? 1 : 2]}`;
 }
 /**
  * What could be said of the position instead, by its value alone: words of stipulations.
