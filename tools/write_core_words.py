@@ -48,7 +48,7 @@ def lost():
 
 def later():
     """How much later the hero mates by another move: as quick, longer, quicker."""
-    return [words.removeprefix(", ") for words in words_in(body(source("study_page/src/items.rt"), "add_later"))]
+    return [words.removeprefix(", ") for words in words_in(body(source("study_page/src/cards_and_tries.rt"), "add_longer"))]
 
 
 def written():

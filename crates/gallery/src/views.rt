@@ -4,7 +4,7 @@ use std::alloc::{Allocator, Global};
 use std::io::{ErrorKind, Write};
 use std::{fs, io};
 use study_material::Class;
-use study_web::{Ending, Reply, Span, TableFiles, answer, put_ending};
+use study_web::{Answer, Ending, FileSpan, TableFiles, answer, put_ending};
 
 /// Each after the classes that it needs.
 const MADE: [Class; 7] = [
@@ -21,7 +21,7 @@ const MADE: [Class; 7] = [
 #[derive(Drop)]
 struct Files<'a, A: Allocator> {
     bytes: Vec<u8, &'a A>,
-    spans: Vec<Span, &'a A>,
+    spans: Vec<FileSpan, &'a A>,
 }
 
 /// Answers each request, after the line of the request.
@@ -56,7 +56,7 @@ fn make<'a, A: Allocator>(alloc: &'a A, class: Class, files: &mut Files<'a, A>) 
     if made.ended != Ending::Answered {
         return Err(io::Error::from(ErrorKind::Other));
     }
-    files.spans.push(Span {
+    files.spans.push(FileSpan {
         class: class as usize,
         start: files.bytes.len(),
         length: made.text.len(),
@@ -81,7 +81,7 @@ fn ask<'a, A: Allocator>(
     request: &str,
     script: &str,
     files: &Files<'a, A>,
-) -> Reply<'a, A> {
+) -> Answer<'a, A> {
     let handed_in = TableFiles {
         spans: files.spans.as_slice(),
         bytes: files.bytes.as_slice(),

@@ -15,7 +15,7 @@ use Rattle.study_board.specs.declared.men.Kind.{Kind}
 use Rattle.study_board.specs.declared.men.Kind.TheVariants.{King, Queen, Rook, Bishop, Knight, Pawn}
 use Rattle.study_board.specs.declared.symmetry.Symmetry.{Symmetry}
 use Rattle.study_board.specs.Geometry.{rank_of, strictly_between}
-use Rattle.study_board.specs.Men.{same_side, other_side, same_kind, is_man, is_blocked, reaches, bears_on, is_attacked, is_pawn}
+use Rattle.study_board.specs.Men.{same_side, other_side, same_kind, is_man, is_blocked, reaches, attacks_square, is_attacked, is_pawn}
 use Rattle.study_board.specs.Position.{Position, IsValid, AllAbove, IsAscending, placed, man_at, is_occupied}
 use Rattle.study_board.specs.Position.{is_empty, has_man, has_square_twice, has_one_king, is_end_pawn}
 use Rattle.study_board.specs.Position.{has_end_pawn, in_check, could_be_passed, passed_possible}
@@ -274,14 +274,14 @@ module _ (s : Symmetry) where
     reaches-turned side Knight a x la lx k = knight_jump-turned s a x la lx
     reaches-turned side Pawn a x la lx k = pawn_captures-turned s (k refl) side a x la lx
 
-    pub bears_on-turned : (m : Man) (x : ℕ) → IsSeated s m → x < 64 → bears_on (turned_men s xs) (turned_man s m) (turned_square s x) ≡ bears_on xs m x
+    pub bears_on-turned : (m : Man) (x : ℕ) → IsSeated s m → x < 64 → attacks_square (turned_men s xs) (turned_man s m) (turned_square s x) ≡ attacks_square xs m x
     bears_on-turned m x k lx = rw (turned_apart s m.at x k.on lx, reaches-turned m.side m.kind m.at x k.on lx k.pawn)
 
     pub is_attacked-turned : (side : Side) (x : ℕ) → x < 64
         → is_attacked (turned_men s xs) (turned_side s.colours side) (turned_square s x) ≡ is_attacked xs side x
     unfolding is_attacked
     is_attacked-turned side x lx =
-        any_turned _ (λ m. same_side m.side side && bears_on xs m x) (λ m k. rw (same_side-turned s.colours m.side side, bears_on-turned m x k lx)) xs h
+        any_turned _ (λ m. same_side m.side side && attacks_square xs m x) (λ m k. rw (same_side-turned s.colours m.side side, bears_on-turned m x k lx)) xs h
 
     is_man-turned : (side : Side) (kind : Kind) (m : Man) → is_man (turned_side s.colours side) kind (turned_man s m) ≡ is_man side kind m
     is_man-turned side k m = rw (same_side-turned s.colours m.side side)

@@ -1,7 +1,7 @@
 //! Sets of squares as bits, the bit x for the square x.
 ghost use Rattle.std.specs.Prelude.{◌≡◌, ◌≢◌, ◌↔◌, ℕ, ◌<◌, IsTrue, count_ones, ◌&&◌, ◌||◌, ◌==◌, not, true, false};
 ghost use Rattle.study_board.specs.Geometry.{king_step, knight_jump, on_rook_line, on_bishop_line, strictly_between};
-ghost use Rattle.study_board.specs.Men.{pawn_captures, is_blocked, bears_on};
+ghost use Rattle.study_board.specs.Men.{pawn_captures, is_blocked, attacks_square};
 ghost use Rattle.study_board.specs.Rays.{direction_of, ray_of};
 ghost use Rattle.study_board.specs.Sets.{has, is_slider, is_blocked_past, bears_past};
 
@@ -212,7 +212,7 @@ pub fn shadows(men: &[Man], a: Square) -> SquareSet
 /// The squares on which the man bears, with these men on the board.
 #[inline(always)]
 pub fn attacks(men: &[Man], m: &Man) -> SquareSet
-    ensures { (x : ℕ) → x < 64 → has result x ≡ bears_on men.now m.now x }
+    ensures { (x : ℕ) → x < 64 → has result x ≡ attacks_square men.now m.now x }
 {
     let a = m.at;
     match m.kind {

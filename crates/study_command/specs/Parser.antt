@@ -26,8 +26,8 @@ use Rattle.study_command.specs.declared.command.SyntaxFault.{SyntaxFault}
 use Rattle.study_command.specs.declared.command.SyntaxFault.TheVariants.{BadByte, UnknownCommand, BadArguments, UnknownStipulation, UnknownTag}
 use Rattle.study_command.specs.declared.command.Command.{Command}
 use Rattle.study_command.specs.declared.command.Command.TheVariants as command
-use Rattle.study_command.specs.declared.command.MoveCount.{MoveCount}
-use Rattle.study_command.specs.declared.command.PathWord.{PathWord}
+use Rattle.study_command.specs.declared.command.SolveDepth.{SolveDepth}
+use Rattle.study_command.specs.declared.command.PathText.{PathText}
 use Rattle.study_command.specs.Paths.{place_told, is_path_word, steps_of}
 
 -- a command with its arguments read; a class is still a word, since the mode is checked before it
@@ -230,10 +230,10 @@ command_of line = line_asked line (words line)
 
 -- ---- a command as contracts see it
 
-abbrev pub count_seen : MoveCount → ℕ
+abbrev pub count_seen : SolveDepth → ℕ
 count_seen count = count.number
 
-abbrev pub path_seen : PathWord → List ℕ
+abbrev pub path_seen : PathText → List ℕ
 path_seen path = steps_of path.word.now
 
 abbrev pub command_seen : Command → Asked

@@ -68,7 +68,7 @@ pub enum SyntaxFault {
 
 /// The number of moves of the side to move in a forced mate: 1 to 3.
 #[derive(Clone, Copy, Debug, PartialEq, Eq)]
-pub struct MoveCount {
+pub struct SolveDepth {
     pub number: u8,
     ghost low: { 1 ≤ number },
     ghost high: { number ≤ 3 },
@@ -76,7 +76,7 @@ pub struct MoveCount {
 
 /// A path as written: `root`, or places of one to three digits joined by `.`.
 #[derive(Clone, Copy)]
-pub struct PathWord<'a> {
+pub struct PathText<'a> {
     pub word: &'a [u8],
     ghost form: { is_path_word word.now ≡ true },
 }
@@ -85,13 +85,13 @@ pub struct PathWord<'a> {
 #[derive(Clone, Copy)]
 pub enum Command<'a> {
     FromFen(FenCommand, &'a str),
-    Query(NodeQuery, PathWord<'a>),
-    Node(NodeCommand, PathWord<'a>),
+    Query(NodeQuery, PathText<'a>),
+    Node(NodeCommand, PathText<'a>),
     /// With the name of a class, which need not exist.
     Table(TableCommand, &'a str),
     Stipulate(Stipulation),
-    Insert(PathWord<'a>, &'a str),
+    Insert(PathText<'a>, &'a str),
     Tag(TagName, &'a str),
-    Solve(MoveCount, PathWord<'a>),
+    Solve(SolveDepth, PathText<'a>),
     Pgn,
 }

@@ -14,7 +14,7 @@ mod path_text;
 
 pub use arguments::{as_text, read_one_word};
 pub use command::{
-    Command, FenCommand, Keyword, MoveCount, NodeCommand, NodeQuery, PathWord, SyntaxFault,
+    Command, FenCommand, Keyword, NodeCommand, NodeQuery, PathText, SolveDepth, SyntaxFault,
     TableCommand,
 };
 pub use laws::lines_are_read_again;

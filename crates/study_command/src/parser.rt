@@ -11,7 +11,7 @@ ghost use Rattle.study_command.specs.Parser.{begins_comment, command_of, line_se
 
 use crate::arguments::{as_text, read_one_word, read_text, read_two_words};
 use crate::command::{
-    Command, FenCommand, Keyword, MoveCount, NodeCommand, NodeQuery, PathWord, SyntaxFault,
+    Command, FenCommand, Keyword, NodeCommand, NodeQuery, PathText, SolveDepth, SyntaxFault,
     TableCommand,
 };
 use crate::path_text::{read_path_word, read_place};
@@ -124,7 +124,7 @@ fn read_arguments(word: Keyword, rest: &[u8]) -> Result<Option<Command<'_>>, Syn
 }
 
 /// A path, if there is exactly one word and it is a path.
-fn read_path(rest: &[u8]) -> Option<PathWord<'_>>
+fn read_path(rest: &[u8]) -> Option<PathText<'_>>
     ensures { option_map path_seen result ≡ path_in (one_word (words rest.now)) }
 {
     read_path_word(read_one_word(rest)?)
@@ -267,11 +267,11 @@ pub fn read_mate_moves(word: &[u8]) -> Option<MateMoves>
 }
 
 /// One byte, `1`, `2` or `3`.
-fn read_count(word: &[u8]) -> Option<MoveCount>
+fn read_count(word: &[u8]) -> Option<SolveDepth>
     ensures { option_map count_seen result ≡ count_told word.now }
 {
     match word {
-        [digit @ b'1'..=b'3'] => Some(MoveCount {
+        [digit @ b'1'..=b'3'] => Some(SolveDepth {
             number: *digit - b'0',
         }),
         _ => None,

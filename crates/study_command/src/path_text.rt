@@ -6,7 +6,7 @@ ghost use Rattle.study_notation.specs.Fen.{is_digit};
 ghost use Rattle.study_command.specs.Paths.{is_place, place_told, is_path, is_path_word};
 ghost use Rattle.study_command.specs.Parser.{path_of, path_seen};
 
-use crate::command::PathWord;
+use crate::command::PathText;
 use study_notation::read_digits;
 
 /// `root`, or child places joined by `.`.
@@ -18,11 +18,11 @@ pub fn is_path_word(word: &[u8]) -> bool
 }
 
 /// A word that is a path.
-pub fn read_path_word(word: &[u8]) -> Option<PathWord<'_>>
+pub fn read_path_word(word: &[u8]) -> Option<PathText<'_>>
     ensures { option_map path_seen result ≡ path_of word.now }
 {
     if is_path_word(word) {
-        Some(PathWord { word })
+        Some(PathText { word })
     } else {
         None
     }

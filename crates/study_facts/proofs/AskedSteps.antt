@@ -10,7 +10,7 @@ use Rattle.study_values.specs.declared.values.ProbeFault.{ProbeFault}
 use Rattle.study_values.specs.declared.values.ProbeFault.TheVariants as probe
 use Rattle.study_marks.specs.Answers.{WereTold, IsFirstFault}
 use Rattle.study_marks.proofs.FaultsTold.{told-append}
-use Rattle.study_facts.specs.Asked.{HasTold}
+use Rattle.study_facts.specs.Asked.{HasProbed}
 
 module _ {V : Type 0} (gives : V → Position → ProbeAnswer → Type 0) (may_fail : V → Class → SourceFault → Type 0) (asked_of : V → ℕ) where
   -- some positions were probed, and each value was read; or each except the last
@@ -35,7 +35,7 @@ module _ {V : Type 0} (gives : V → Position → ProbeAnswer → Type 0) (may_f
   fault-then old mid new f h k = (h.0 ++ k.0, first-back old mid new h.0 k.0 f h.1 k.1)
 
   pub asked-then : {U : Type 0} (old mid new : V) (r : Result U ProbeFault) → SomeTold old mid
-      → HasTold gives may_fail asked_of mid r new → HasTold gives may_fail asked_of old r new
+      → HasProbed gives may_fail asked_of mid r new → HasProbed gives may_fail asked_of old r new
   asked-then old mid new (Ok y) h k = told-then old mid new h k
   asked-then old mid new (Err f) h k = fault-then old mid new f h k
 
@@ -43,6 +43,6 @@ module _ {V : Type 0} (gives : V → Position → ProbeAnswer → Type 0) (may_f
   pub asked-one : (old new : V) (p : Position) (r : ProbeAnswer) → IsValid p → gives old p r → asked_of new ≡ counted (asked_of old)
       → ((c : Class) (f : SourceFault) → IsOf c p → IsErrOf r (probe.TableRead f) → may_fail old c f)
       → ((c : Class) (f : SourceFault) → may_fail new c f → may_fail old c f)
-      → HasTold gives may_fail asked_of old r new
+      → HasProbed gives may_fail asked_of old r new
   asked-one old new p (Ok v) valid g n so before = (p ∷ [], (v, new, record { valid = valid; given = g; asked = n; failed_so = so; fails_as_before = before }, refl))
   asked-one old new p (Err f) valid g n so before = (p ∷ [], inl (record { valid = valid; given = g; asked = n; failed_so = so; fails_as_before = before }))

@@ -10,22 +10,22 @@ use Rattle.study_values.specs.Values.{ProbeAnswer, IsNotDamage, faults_after}
 use Rattle.study_values.specs.declared.values.ProbeFault.{ProbeFault}
 use Rattle.study_values.specs.declared.values.ProbeFault.TheVariants as probe
 use Rattle.study_marks.specs.Answers.{WereTold, IsFirstFault}
-use Rattle.study_marks.specs.Told.{failures_told}
+use Rattle.study_marks.specs.Evaluated.{failures_of}
 use Rattle.study_facts.specs.Asked.{AllTold, Stopped}
 use Rattle.study_facts.specs.Made.{HasAsked, fault_of}
 use Rattle.study_facts.specs.Order.{HasReviewed}
 use Rattle.study_facts.specs.declared.fault.ReviewFault.{ReviewFault}
 use Rattle.study_facts.specs.declared.fault.ReviewFault.TheVariants as fault
-use Rattle.study_facts.specs.declared.fault.NotMade.{NotMade}
-use Rattle.study_facts.specs.declared.fault.NotMade.TheVariants.{OutOfMemory, Untold}
+use Rattle.study_facts.specs.declared.fault.TextFault.{TextFault}
+use Rattle.study_facts.specs.declared.fault.TextFault.TheVariants.{OutOfMemory, Untold}
 use Rattle.study_facts.proofs.AskedSteps.{asked-one, told-none, told-then, fault-then}
 
-same-failures : (T U : Type 0) (f : ProbeFault) (n : ℕ) → failures_told {T = T} (Err f) n ≡ failures_told {T = U} (Err f) n
+same-failures : (T U : Type 0) (f : ProbeFault) (n : ℕ) → failures_of {T = T} (Err f) n ≡ failures_of {T = U} (Err f) n
 same-failures T U (probe.NoTable c) n = refl
 same-failures T U (probe.TableRead f) n = refl
 same-failures T U (probe.PageDamaged c k) n = refl
 
-same-faults : (n : ℕ) (f : ProbeFault) → faults_after n (Err f) ≡ failures_told {T = Value} (Err f) n
+same-faults : (n : ℕ) (f : ProbeFault) → faults_after n (Err f) ≡ failures_of {T = Value} (Err f) n
 same-faults n (probe.NoTable c) = refl
 same-faults n (probe.TableRead f) = refl
 same-faults n (probe.PageDamaged c k) = refl
@@ -38,7 +38,7 @@ module _ {V : Type 0} (held : V → Class → Bool) (gives : V → Position → 
   abbrev pub Stops : V → ProbeFault → V → Type 0
   Stops old f new = Stopped held gives may_fail asked_of failed_of is_honest old f new
 
-  abbrev pub Asks : {T : Type 0} → V → Result T NotMade → V → Type 0
+  abbrev pub Asks : {T : Type 0} → V → Result T TextFault → V → Type 0
   Asks {T = T} old r new = HasAsked held gives may_fail asked_of failed_of is_honest {T = T} old r new
 
   pub none-asked : (v : V) → Told v v
@@ -57,24 +57,24 @@ module _ {V : Type 0} (held : V → Class → Bool) (gives : V → Position → 
     told = fault-then gives may_fail asked_of old mid new f h.told k.told;
     untold = λ c e. sym (h.tables c) ∙ k.untold c e;
     no_damage = λ x. k.no_damage (h.honest x);
-    failures = subst (λ n. failed_of new ≡ failures_told {T = Unit {0}} (Err f) n) h.failures k.failures;
+    failures = subst (λ n. failed_of new ≡ failures_of {T = Unit {0}} (Err f) n) h.failures k.failures;
     honest = λ x. k.honest (h.honest x);
     tables = λ c. k.tables c ∙ h.tables c;
   }
 
-  pub asks-then : {T : Type 0} (old mid new : V) (r : Result T NotMade) → Told old mid → Asks mid r new → Asks old r new
+  pub asks-then : {T : Type 0} (old mid new : V) (r : Result T TextFault) → Told old mid → Asks mid r new → Asks old r new
   asks-then old mid new (Ok x) h k = all-then old mid new h k
   asks-then old mid new (Err OutOfMemory) h k = all-then old mid new h k
   asks-then old mid new (Err (Untold f)) h k = stops-then old mid new f h k
 
   -- an error that is passed on
-  pub same-asks : {T : Type 0} (old new : V) (r : Result T NotMade) (e : NotMade) → IsErrAnd r (λ x. x ≡ e)
+  pub same-asks : {T : Type 0} (old new : V) (r : Result T TextFault) (e : TextFault) → IsErrAnd r (λ x. x ≡ e)
       → Asks {T = T} old (Err e) new → Asks old r new
   same-asks old new (Ok x) e is h = absurd is
-  same-asks {T = T} old new (Err x) e is h = subst (λ (y : NotMade). Asks {T = T} old (Err y) new) (sym is) h
+  same-asks {T = T} old new (Err x) e is h = subst (λ (y : TextFault). Asks {T = T} old (Err y) new) (sym is) h
 
   -- want of memory after all values were read
-  pub no-memory : {T : Type 0} (old new : V) (r : Result T NotMade) → IsErrAnd r (λ x. x ≡ OutOfMemory) → Told old new → Asks old r new
+  pub no-memory : {T : Type 0} (old new : V) (r : Result T TextFault) → IsErrAnd r (λ x. x ≡ OutOfMemory) → Told old new → Asks old r new
   no-memory {T = T} old new r is h = same-asks {T = T} old new r OutOfMemory is h
 
   -- the consequences of the answers of a call
@@ -84,7 +84,7 @@ module _ {V : Type 0} (held : V → Class → Bool) (gives : V → Position → 
 
   pub of-fault : (T : Type 0) (old new : V) (f : ProbeFault) → ((asked : List Position) × IsFirstFault gives may_fail asked_of old asked f new)
       → ((c : Class) → f ≡ probe.NoTable c → held old c ≡ false) → (is_honest old → IsNotDamage f)
-      → failed_of new ≡ failures_told {T = T} (Err f) (failed_of old) → (is_honest old → is_honest new)
+      → failed_of new ≡ failures_of {T = T} (Err f) (failed_of old) → (is_honest old → is_honest new)
       → ((c : Class) → held new c ≡ held old c) → Stops old f new
   of-fault T old new f h u d n i t = record {
     told = h;
@@ -96,7 +96,7 @@ module _ {V : Type 0} (held : V → Class → Bool) (gives : V → Position → 
   }
 
   -- an error without a value
-  pub re-asks : (T U : Type 0) (old new : V) (e : NotMade) → Asks {T = T} old (Err e) new → Asks {T = U} old (Err e) new
+  pub re-asks : (T U : Type 0) (old new : V) (e : TextFault) → Asks {T = T} old (Err e) new → Asks {T = U} old (Err e) new
   re-asks T U old new OutOfMemory h = h
   re-asks T U old new (Untold f) h = h
 
@@ -108,7 +108,7 @@ module _ {V : Type 0} (held : V → Class → Bool) (gives : V → Position → 
   same-reviews old new (Ok y) x is h = absurd is
   same-reviews {T = T} old new (Err y) x is h = subst (λ (z : ReviewFault). Reviews {T = T} old (Err z) new) (sym is) h
 
-  pub review-stops : (U : Type 0) {T : Type 0} (old new : V) (r : Result T ReviewFault) (e : NotMade) → IsErrAnd r (λ x. x ≡ fault_of e)
+  pub review-stops : (U : Type 0) {T : Type 0} (old new : V) (r : Result T ReviewFault) (e : TextFault) → IsErrAnd r (λ x. x ≡ fault_of e)
       → Asks {T = U} old (Err e) new → Reviews old r new
   review-stops U old new r OutOfMemory is h = same-reviews old new r fault.OutOfMemory is h
   review-stops U old new r (Untold f) is h = same-reviews old new r (fault.Values f) is h

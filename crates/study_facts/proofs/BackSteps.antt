@@ -12,8 +12,8 @@ use Rattle.study_values.specs.declared.value.Value.{Value}
 use Rattle.study_values.specs.declared.value.Value.TheVariants.{Win, Loss, Draw}
 use Rattle.study_values.specs.Game.{IsValueOf}
 use Rattle.study_marks.specs.Goals.{hero_loses}
-use Rattle.study_facts.specs.Back.{stands_in, HasLost, IsNear, IsBack}
-use Rattle.study_facts.specs.Leads.{SomeLeads, EachLeads, AreBack, GoesBack}
+use Rattle.study_facts.specs.Repetition.{is_in_history, HasLost, IsNear, IsRepeatableWithin}
+use Rattle.study_facts.specs.Leads.{SomeLeads, EachLeads, AllWinsRepeat, MustRepeat}
 
 -- by the value
 pub lost-by : EachHasAtMostOneValue → (p : Position) (v : Value) → IsValueOf p v → (hero_loses true v ≡ true) ↔ HasLost p
@@ -51,42 +51,42 @@ each-from P q (n ∷ ms) f = (
   each-from P q ms (λ m c. f m (suc c.0, (let z : suc c.0 < length (n ∷ ms) = omega (arith, c.1) in z), c.2)),
 )
 
-pub near-by : (line : List Position) (q : Position) (ms : List Move) (b : Bool) → stands_in line q ≡ false → AreLegal q ms
-    → ((b ≡ true) ↔ SomeLeads (λ r. stands_in line r ≡ true) q ms) → (b ≡ true) ↔ IsNear line q
+pub near-by : (line : List Position) (q : Position) (ms : List Move) (b : Bool) → is_in_history line q ≡ false → AreLegal q ms
+    → ((b ≡ true) ↔ SomeLeads (λ r. is_in_history line r ≡ true) q ms) → (b ≡ true) ↔ IsNear line q
 near-by line q ms b away legal h = (
-  (λ e. let x = some-to (λ r. stands_in line r ≡ true) q ms (h.0 e) in inr (x.0, (legal x.0).0 x.1, x.2)),
+  (λ e. let x = some-to (λ r. is_in_history line r ≡ true) q ms (h.0 e) in inr (x.0, (legal x.0).0 x.1, x.2)),
   (λ n. elim n [
     | inl s ↦ absurd (false≢true (sym away ∙ s))
-    | inr y ↦ let c = (legal y.0).1 y.1 in h.1 (some-at (λ r. stands_in line r ≡ true) q ms y.0 c.0 c.1 c.2 y.2)
+    | inr y ↦ let c = (legal y.0).1 y.1 in h.1 (some-at (λ r. is_in_history line r ≡ true) q ms y.0 c.0 c.1 c.2 y.2)
   ]),
 )
 
 pub goes-by : (line : List Position) (m : ℕ) (r : Position) (ms : List Move) (b : Bool) → AreLegal r ms
-    → ((b ≡ true) ↔ AreBack line m r false ms) → (b ≡ true) ↔ GoesBack line m r
+    → ((b ≡ true) ↔ AllWinsRepeat line m r false ms) → (b ≡ true) ↔ MustRepeat line m r
 goes-by line m r ms b legal h = (
   (λ e. let x = h.0 e in (
     (elim x.0 [
       | inl e2 ↦ absurd (false≢true e2)
       | inr some ↦ let y = some-to HasLost r ms some in (y.0, ((legal y.0).0 y.1, y.2))
     ]),
-    (λ n w. let c = (legal n).1 w.0 in each-at (λ s. HasLost s → IsBack line m s) r ms x.1 n c.0 c.1 c.2 w.1),
+    (λ n w. let c = (legal n).1 w.0 in each-at (λ s. HasLost s → IsRepeatableWithin line m s) r ms x.1 n c.0 c.1 c.2 w.1),
   )),
   (λ g. h.1 (
     inr (let c = (legal g.0.0).1 g.0.1.0 in some-at HasLost r ms g.0.0 c.0 c.1 c.2 g.0.1.1),
-    each-from (λ s. HasLost s → IsBack line m s) r ms (λ n c lost. g.1 n ((legal n).0 c, lost)),
+    each-from (λ s. HasLost s → IsRepeatableWithin line m s) r ms (λ n c lost. g.1 n ((legal n).0 c, lost)),
   )),
 )
 
 pub back-by : (line : List Position) (m : ℕ) (q : Position) (ms : List Move) (b : Bool) → (IsNear line q → ⊥) → (m ≡ 0 → ⊥)
-    → AreLegal q ms → ((b ≡ true) ↔ SomeLeads (GoesBack line (m - 1)) q ms) → (b ≡ true) ↔ IsBack line m q
+    → AreLegal q ms → ((b ≡ true) ↔ SomeLeads (MustRepeat line (m - 1)) q ms) → (b ≡ true) ↔ IsRepeatableWithin line m q
 back-by line zero q ms b far some legal h = absurd (some refl)
 back-by line (suc m) q ms b far some legal h =
     let one : suc m - 1 ≡ m = omega arith in
-    let g = subst (λ k. (b ≡ true) ↔ SomeLeads (GoesBack line k) q ms) one h in (
-      (λ e. let x = some-to (GoesBack line m) q ms (g.0 e) in inr (x.0, (legal x.0).0 x.1, x.2.0, x.2.1)),
+    let g = subst (λ k. (b ≡ true) ↔ SomeLeads (MustRepeat line k) q ms) one h in (
+      (λ e. let x = some-to (MustRepeat line m) q ms (g.0 e) in inr (x.0, (legal x.0).0 x.1, x.2.0, x.2.1)),
       (λ n. elim n [
         | inl near ↦ absurd (far near)
-        | inr y ↦ let c = (legal y.0).1 y.1 in g.1 (some-at (GoesBack line m) q ms y.0 c.0 c.1 c.2 (y.2, y.3))
+        | inr y ↦ let c = (legal y.0).1 y.1 in g.1 (some-at (MustRepeat line m) q ms y.0 c.0 c.1 c.2 (y.2, y.3))
       ]),
     )
 
@@ -106,8 +106,8 @@ some-later P q m ms rest next w r e n is h g =
     )) g
 
 -- and not within m
-pub none-more : (line : List Position) (q : Position) (m : ℕ) (b : Bool) → ((k : ℕ) → k < m → ¬ (IsBack line k q)) → b ≡ false
-    → ((b ≡ true) ↔ IsBack line m q) → (k : ℕ) → k < m + 1 → ¬ (IsBack line k q)
+pub none-more : (line : List Position) (q : Position) (m : ℕ) (b : Bool) → ((k : ℕ) → k < m → ¬ (IsRepeatableWithin line k q)) → b ≡ false
+    → ((b ≡ true) ↔ IsRepeatableWithin line m q) → (k : ℕ) → k < m + 1 → ¬ (IsRepeatableWithin line k q)
 none-more line q m b h e now k l back = go (nat_lt k m) refl
   where
     go : (c : Bool) → nat_lt k m ≡ c → ⊥
@@ -115,4 +115,4 @@ none-more line q m b h e now k l back = go (nat_lt k m) refl
     go false f =
         let least : m ≤ k = ltb-false k m f in
         let same : k ≡ m = omega (arith, least, l) in
-        false≢true (sym e ∙ now.1 (subst (λ n. IsBack line n q) same back))
+        false≢true (sym e ∙ now.1 (subst (λ n. IsRepeatableWithin line n q) same back))

@@ -8,25 +8,25 @@ use Rattle.study_moves.specs.Rules.{after, is_legal}
 use Rattle.study_values.specs.declared.value.Value.{Value}
 use Rattle.study_values.specs.Game.{IsValueOf}
 use Rattle.study_marks.specs.Annotated.{AreValuesAfter}
-use Rattle.study_facts.specs.declared.continuation.Continuation.{Continuation}
-use Rattle.study_facts.specs.Continuations.{kept, chosen}
+use Rattle.study_facts.specs.declared.continuation.EvaluatedMove.{EvaluatedMove}
+use Rattle.study_facts.specs.Continuations.{if_wanted, wanted_moves}
 
 -- the wanted moves among these are added
-abbrev pub AreAdded : (Value → Bool) → Position → List Move → List Continuation → List Continuation → Type 0
-AreAdded f p ms old new = (all : List Value) × AreValuesAfter p ms all × (new ≡ old ++ chosen f ms all)
+abbrev pub AreAdded : (Value → Bool) → Position → List Move → List EvaluatedMove → List EvaluatedMove → Type 0
+AreAdded f p ms old new = (all : List Value) × AreValuesAfter p ms all × (new ≡ old ++ wanted_moves f ms all)
 
-pub none-added : (f : Value → Bool) (p : Position) (ms : List Move) (list : List Continuation) → length ms ≡ 0 → AreAdded f p ms list list
+pub none-added : (f : Value → Bool) (p : Position) (ms : List Move) (list : List EvaluatedMove) → length ms ≡ 0 → AreAdded f p ms list list
 none-added f p [] list e = ([], tt, sym (append-nil list))
 none-added f p (m ∷ ms) list e = absurd (omega (arith, e))
 
 pub one-added : {T E : Type 0} (f : Value → Bool) (p : Position) (m : Move) (ms rest : List Move) (v : Value)
-    (old mid new : List Continuation) (r : Result T E) → ms ≡ m ∷ rest → IsValueOf (after p m) v
-    → mid ≡ old ++ kept f m v → OnOk r (AreAdded f p rest mid new) → OnOk r (AreAdded f p ms old new)
+    (old mid new : List EvaluatedMove) (r : Result T E) → ms ≡ m ∷ rest → IsValueOf (after p m) v
+    → mid ≡ old ++ if_wanted f m v → OnOk r (AreAdded f p rest mid new) → OnOk r (AreAdded f p ms old new)
 one-added f p m ms rest v old mid new (Ok x) e g t h =
     subst (λ (l : List Move). AreAdded f p l old new) (sym e) (
       v ∷ h.0,
       (g, h.1),
-      h.2 ∙ ap (λ (u : List Continuation). u ++ chosen f rest h.0) t ∙ append_assoc old (kept f m v) (chosen f rest h.0),
+      h.2 ∙ ap (λ (u : List EvaluatedMove). u ++ wanted_moves f rest h.0) t ∙ append_assoc old (if_wanted f m v) (wanted_moves f rest h.0),
     )
 one-added f p m ms rest v old mid new (Err x) e g t h = tt
 

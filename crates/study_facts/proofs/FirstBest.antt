@@ -14,8 +14,8 @@ use Rattle.study_values.specs.declared.value.Value.TheVariants.{Win, Loss, Draw}
 use Rattle.study_values.specs.Game.{IsValueOf}
 use Rattle.study_marks.specs.Annotated.{AreValuesAfter}
 use Rattle.study_marks.proofs.OneAnnotation.{one-value}
-use Rattle.study_facts.specs.declared.continuation.Continuation.{Continuation}
-use Rattle.study_facts.specs.Continuations.{chosen}
+use Rattle.study_facts.specs.declared.continuation.EvaluatedMove.{EvaluatedMove}
+use Rattle.study_facts.specs.Continuations.{wanted_moves}
 use Rattle.study_facts.specs.Best.{is_better, better_of, first_best, IsFirstBestMove}
 use Rattle.study_facts.proofs.BackSteps.{AreLegal}
 use Rattle.study_facts.proofs.BestSteps.{IsBestOf}
@@ -64,7 +64,7 @@ as-good (Win n) Draw (Win j) e f = absurd (false≢true (sym f))
 as-good (Win n) (Win k) (Win j) e f = still-not j k n f e
 
 -- the first best of these moves
-pub record IsFirstIn (p : Position) (ms : List Move) (x : Continuation) : Type 0 where
+pub record IsFirstIn (p : Position) (ms : List Move) (x : EvaluatedMove) : Type 0 where
   pub there : Contains ms x.played
   pub value : IsValueOf (after p x.played) x.value
   pub best : (m : Move) (v : Value) → Contains ms m → IsValueOf (after p m) v → is_better v x.value ≡ false
@@ -94,7 +94,7 @@ later-in : (m : Move) (ms : List Move) (n : Move) → Contains ms n → Contains
 later-in m ms n c = (suc c.0, (let z : suc c.0 < length (m ∷ ms) = omega (arith, c.1) in z), c.2)
 
 -- the later one is better than the first
-go-on : EachHasAtMostOneValue → (p : Position) (m : Move) (ms : List Move) (v : Value) (y : Continuation) → IsValueOf (after p m) v
+go-on : EachHasAtMostOneValue → (p : Position) (m : Move) (ms : List Move) (v : Value) (y : EvaluatedMove) → IsValueOf (after p m) v
     → IsFirstIn p ms y → is_better y.value v ≡ true → IsFirstIn p (m ∷ ms) y
 go-on law p m ms v y g h b = record {
   there = later-in m ms y.played h.there;
@@ -126,14 +126,14 @@ stays law p m ms v o g h = record {
   ];
 }
 
-abbrev Found : Position → List Move → Option Continuation → Type 0
+abbrev Found : Position → List Move → Option EvaluatedMove → Type 0
 Found p ms None = ms ≡ []
 Found p ms (Some x) = IsFirstIn p ms x
 
 none-in : (n : Move) (ms : List Move) → ms ≡ [] → Contains ms n → ⊥
 none-in n ms e c = let l : length ms ≡ 0 = ap length e in omega (arith, l, c.1)
 
-found-more : EachHasAtMostOneValue → (p : Position) (m : Move) (ms : List Move) (v : Value) (later : Option Continuation)
+found-more : EachHasAtMostOneValue → (p : Position) (m : Move) (ms : List Move) (v : Value) (later : Option EvaluatedMove)
     → AllPairs IsBefore (m ∷ ms) → IsValueOf (after p m) v → Found p ms later
     → IsFirstIn p (m ∷ ms) (better_of (record { played = m; value = v }) later)
 found-more law p m ms v None o g h = stays law p m ms v o g (λ n w c k. absurd (none-in n ms h c))
@@ -144,16 +144,16 @@ found-more law p m ms v (Some y) o g h = go (is_better y.value v) refl
     go false e = stays law p m ms v o g (λ n w c k. as-good w y.value v (h.best n w c k) e)
 
 pub found : EachHasAtMostOneValue → (p : Position) (ms : List Move) (all : List Value) → AllPairs IsBefore ms → AreValuesAfter p ms all
-    → Found p ms (first_best (chosen (λ v. true) ms all))
+    → Found p ms (first_best (wanted_moves (λ v. true) ms all))
 found law p [] all o h = refl
 found law p (m ∷ ms) [] o h = absurd h
-found law p (m ∷ ms) (v ∷ vs) o h = found-more law p m ms v (first_best (chosen (λ w. true) ms vs)) o h.0 (found law p ms vs (rest-ordered m ms o) h.1)
+found law p (m ∷ ms) (v ∷ vs) o h = found-more law p m ms v (first_best (wanted_moves (λ w. true) ms vs)) o h.0 (found law p ms vs (rest-ordered m ms o) h.1)
 
-found-of : EachHasAtMostOneValue → (p : Position) (ms : List Move) (best : Option Continuation) → AllPairs IsBefore ms → IsBestOf p ms best → Found p ms best
+found-of : EachHasAtMostOneValue → (p : Position) (ms : List Move) (best : Option EvaluatedMove) → AllPairs IsBefore ms → IsBestOf p ms best → Found p ms best
 found-of law p ms best o h =
-    subst (λ (b : Option Continuation). Found p ms b) (sym (h.2 ∙ ap first_best h.1.2)) (found law p ms h.1.0 o h.1.1)
+    subst (λ (b : Option EvaluatedMove). Found p ms b) (sym (h.2 ∙ ap first_best h.1.2)) (found law p ms h.1.0 o h.1.1)
 
-pub is-first-best : EachHasAtMostOneValue → (p : Position) (ms : List Move) (best : Option Continuation) → AreLegal p ms → AllPairs IsBefore ms
+pub is-first-best : EachHasAtMostOneValue → (p : Position) (ms : List Move) (best : Option EvaluatedMove) → AreLegal p ms → AllPairs IsBefore ms
     → IsBestOf p ms best → IfSome best (IsFirstBestMove p)
 is-first-best law p ms None legal o h = tt
 is-first-best law p ms (Some x) legal o h =
@@ -165,7 +165,7 @@ is-first-best law p ms (Some x) legal o h =
       first = λ m v l k b. f.first m v ((legal m).1 l) k b;
     }
 
-pub has-none : EachHasAtMostOneValue → (p : Position) (ms : List Move) (best : Option Continuation) → AreLegal p ms → AllPairs IsBefore ms
+pub has-none : EachHasAtMostOneValue → (p : Position) (ms : List Move) (best : Option EvaluatedMove) → AreLegal p ms → AllPairs IsBefore ms
     → IsBestOf p ms best → IfNone best (HasNoMove p)
 has-none law p ms None legal o h = λ m l. none-in m ms (found-of law p ms None o h) ((legal m).1 l)
 has-none law p ms (Some x) legal o h = tt

@@ -9,16 +9,16 @@ use Rattle.study_marks.specs.declared.mark.Mark.{Mark}
 use Rattle.study_marks.specs.Bench.{on_move_of}
 use Rattle.study_marks.specs.FaultSums.{below_at}
 use Rattle.study_marks.proofs.PathWalks.{spot_last}
-use Rattle.study_facts.specs.Nodes.{front_of, none_idle, is_idle, has_none, OnlyWhere}
+use Rattle.study_facts.specs.Nodes.{parent_path, has_no_idle_move, is_idle, is_leaf, EmptyUnless}
 use Rattle.study_facts.specs.Made.{Grew}
 
-front-last : (xs : List ℕ) (k : ℕ) → front_of (xs ++ k ∷ []) ≡ xs
+front-last : (xs : List ℕ) (k : ℕ) → parent_path (xs ++ k ∷ []) ≡ xs
 front-last [] k = refl
 front-last (x ∷ []) k = refl
 front-last (x ∷ y ∷ ys) k = ap (λ (l : List ℕ). x ∷ l) (front-last (y ∷ ys) k)
 
-pub front-is : (steps front : List ℕ) (k : ℕ) → steps ≡ front ++ k ∷ [] → front ≡ front_of steps
-front-is steps front k e = sym (ap front_of e ∙ front-last front k)
+pub front-is : (steps front : List ℕ) (k : ℕ) → steps ≡ front ++ k ∷ [] → front ≡ parent_path steps
+front-is steps front k e = sym (ap parent_path e ∙ front-last front k)
 
 and-true : (a : Bool) → (a && true) ≡ a
 and-true true = refl
@@ -28,42 +28,42 @@ and-assoc : (a b c : Bool) → (a && (b && c)) ≡ ((a && b) && c)
 and-assoc true b c = refl
 and-assoc false b c = refl
 
-idle-one : (f : Forest Mark) (k : ℕ) → none_idle f (k ∷ []) ≡ not (is_idle (on_move_of (twig_spot (node_in f k []))))
+idle-one : (f : Forest Mark) (k : ℕ) → has_no_idle_move f (k ∷ []) ≡ not (is_idle (on_move_of (twig_spot (node_in f k []))))
 idle-one none k = refl
 idle-one (more m x b r) zero = and-true (not (is_idle x.on_move))
 idle-one (more m x b r) (suc k) = idle-one r k
 
 idle-more : (f : Forest Mark) (ks : List ℕ) (k : ℕ)
-    → none_idle f (ks ++ k ∷ []) ≡ (none_idle f ks && not (is_idle (on_move_of (twig_spot (node_in (below_at f ks) k [])))))
+    → has_no_idle_move f (ks ++ k ∷ []) ≡ (has_no_idle_move f ks && not (is_idle (on_move_of (twig_spot (node_in (below_at f ks) k [])))))
 idle-more f [] k = idle-one f k
 idle-more none (j ∷ js) k = refl
 idle-more (more m x b r) (zero ∷ js) k =
     ap (λ c. not (is_idle x.on_move) && c) (idle-more b js k)
-    ∙ and-assoc (not (is_idle x.on_move)) (none_idle b js) (not (is_idle (on_move_of (twig_spot (node_in (below_at b js) k [])))))
+    ∙ and-assoc (not (is_idle x.on_move)) (has_no_idle_move b js) (not (is_idle (on_move_of (twig_spot (node_in (below_at b js) k [])))))
 idle-more (more m x b r) (suc j ∷ js) k = idle-more r (j ∷ js) k
 
 -- no move on the path to a node is idle if none before the last is, and the last is not
 pub idle-last : (t : Plain Mark) (steps front : List ℕ) (k : ℕ) → steps ≡ front ++ k ∷ []
-    → none_idle t.below steps ≡ (none_idle t.below front && not (is_idle (on_move_of (spot_at t steps))))
+    → has_no_idle_move t.below steps ≡ (has_no_idle_move t.below front && not (is_idle (on_move_of (spot_at t steps))))
 idle-last t steps front k e =
-    ap (none_idle t.below) e ∙ idle-more t.below front k
-    ∙ ap (λ o. none_idle t.below front && not (is_idle (on_move_of o))) (sym (ap (spot_at t) e ∙ spot_last t front k))
+    ap (has_no_idle_move t.below) e ∙ idle-more t.below front k
+    ∙ ap (λ o. has_no_idle_move t.below front && not (is_idle (on_move_of o))) (sym (ap (spot_at t) e ∙ spot_last t front k))
 
 pub not-zero : (n : ℕ) → (n ≡ 0 → ⊥) → (n == 0) ≡ false
 not-zero n h = ne_eqb n 0 h
 
-none-narrow : {L : Type 0} (f : Forest L) → (width f == 0) ≡ has_none f
+none-narrow : {L : Type 0} (f : Forest L) → (width f == 0) ≡ is_leaf f
 none-narrow none = refl
 none-narrow (more m l b r) = not-zero (width (more m l b r)) (λ e. absurd (omega (arith, e)))
 
 -- a node with 0 children has no child
-pub none-counted : {L : Type 0} (f : Forest L) (n : ℕ) → width f ≡ n → (n == 0) ≡ has_none f
+pub none-counted : {L : Type 0} (f : Forest L) (n : ℕ) → width f ≡ n → (n == 0) ≡ is_leaf f
 none-counted f n e = ap (λ k. k == 0) (sym e) ∙ none-narrow f
 
 -- lines if the test is true, and no lines if it is not
-pub not-there : (b : Bool) (Lines : List ℕ → Type 0) (text : List ℕ) → b ≡ false → Grew (OnlyWhere b Lines) text text
+pub not-there : (b : Bool) (Lines : List ℕ → Type 0) (text : List ℕ) → b ≡ false → Grew (EmptyUnless b Lines) text text
 not-there b Lines text e =
-    ([], subst (λ c. OnlyWhere c Lines []) (sym e) refl, sym (append-nil text))
+    ([], subst (λ c. EmptyUnless c Lines []) (sym e) refl, sym (append-nil text))
 
-pub are-there : (b : Bool) (Lines : List ℕ → Type 0) (old new : List ℕ) → b ≡ true → Grew Lines old new → Grew (OnlyWhere b Lines) old new
-are-there b Lines old new e h = (h.0, subst (λ c. OnlyWhere c Lines h.0) (sym e) h.1, h.2)
+pub are-there : (b : Bool) (Lines : List ℕ → Type 0) (old new : List ℕ) → b ≡ true → Grew Lines old new → Grew (EmptyUnless b Lines) old new
+are-there b Lines old new e h = (h.0, subst (λ c. EmptyUnless c Lines h.0) (sym e) h.1, h.2)

@@ -22,31 +22,31 @@ use Rattle.study_marks.specs.Bench.{played_by}
 use Rattle.study_marks.specs.Goals.{aim_of, holds}
 use Rattle.study_tree.specs.Tree.{spot_at}
 use Rattle.study_marks.proofs.OneAnnotation.{one-list}
-use Rattle.study_facts.specs.declared.continuation.Continuation.{Continuation}
-use Rattle.study_facts.specs.declared.time.Alternative.{Alternative}
-use Rattle.study_facts.specs.declared.missing.Defence.{Defence}
-use Rattle.study_facts.specs.Continuations.{chosen, others, AreChosen}
-use Rattle.study_facts.specs.Back.{IsTimeLost}
+use Rattle.study_facts.specs.declared.continuation.EvaluatedMove.{EvaluatedMove}
+use Rattle.study_facts.specs.declared.time_loss.Alternative.{Alternative}
+use Rattle.study_facts.specs.declared.missing_defences.Defence.{Defence}
+use Rattle.study_facts.specs.Continuations.{wanted_moves, moves_except, AreChosen}
+use Rattle.study_facts.specs.Repetition.{IsWasteOfTime}
 use Rattle.study_facts.specs.Time.{IsTimeTold, AreTimed, AreTimedAlternatives}
-use Rattle.study_facts.specs.Defences.{the_only, AreAnswered, AreDefences}
+use Rattle.study_facts.specs.Defences.{only_move, AreAnswered, AreDefences}
 use Rattle.study_facts.specs.Best.{first_best, IsBestMove, IsBestPlay}
 use Rattle.study_facts.specs.Line.{line_to, moves_of}
 use Rattle.study_facts.specs.Words.{also_line, missing_line, play_line, keep_line, dual_line, times_lost}
-use Rattle.study_facts.specs.Nodes.{front_of, OnlyWhere, is_dual, is_try, is_defended, is_open_end, is_solution_move, mark_at, value_at, refuted_text}
+use Rattle.study_facts.specs.Nodes.{parent_path, EmptyUnless, is_dual, is_try, is_defended, is_open_end, is_solution_move, mark_at, value_at, refuted_text}
 use Rattle.study_facts.specs.Nodes.{AreAlso, AlsoLines, RefutedLines, MissingLines, IsPlay, IsEnd, EndLines, NodeLines, IsFaultOf, FaultLines}
 use Rattle.study_facts.specs.Order.{written_order, LinesOfEach, SumOfEach, AreTimeFaults}
 use Rattle.study_facts.specs.Zugzwang.{zugzwang_line, ZugzwangLines}
 use Rattle.study_facts.proofs.ZugzwangTold.{one-kind}
 use Rattle.study_facts.specs.TimeFaults.{CountWhere, IsTimeFaultOf, IsTimeFault, all_lose_time}
 
-pub one-chosen : EachHasAtMostOneValue → (wanted : Value → Bool) (p : Position) (ms : List Move) (l k : List Continuation)
+pub one-chosen : EachHasAtMostOneValue → (wanted : Value → Bool) (p : Position) (ms : List Move) (l k : List EvaluatedMove)
     → AreChosen wanted p ms l → AreChosen wanted p ms k → l ≡ k
-one-chosen law wanted p ms l k h j = h.2 ∙ ap (chosen wanted ms) (one-list law p ms h.0 j.0 h.1 j.1) ∙ sym j.2
+one-chosen law wanted p ms l k h j = h.2 ∙ ap (wanted_moves wanted ms) (one-list law p ms h.0 j.0 h.1 j.1) ∙ sym j.2
 
 one-order : (m n : ℕ) → (m < n → ⊥) → (n < m → ⊥) → m ≡ n
 one-order m n h j = omega (arith, h, j)
 
-one-least : (line : List Position) (q : Position) (t u : Option ℕ) → IsTimeLost line q t → IsTimeLost line q u → t ≡ u
+one-least : (line : List Position) (q : Position) (t u : Option ℕ) → IsWasteOfTime line q t → IsWasteOfTime line q u → t ≡ u
 one-least line q None None h j = refl
 one-least line q None (Some n) h j = absurd (h n j.0 j.1)
 one-least line q (Some m) None h j = absurd (j m h.0 h.1)
@@ -62,7 +62,7 @@ alternative-is x y em ev et =
     ap (λ m. record { played = m; value = x.value; time = x.time }) em ∙ ap (λ v. record { played = y.played; value = v; time = x.time }) ev
     ∙ ap (λ t. record { played = y.played; value = y.value; time = t }) et
 
-one-timed : (g : Goal) (line : List Position) (p : Position) (xs : List Continuation) (ys zs : List Alternative)
+one-timed : (g : Goal) (line : List Position) (p : Position) (xs : List EvaluatedMove) (ys zs : List Alternative)
     → AreTimed g line p xs ys → AreTimed g line p xs zs → ys ≡ zs
 one-timed g line p [] [] [] h j = refl
 one-timed g line p [] [] (z ∷ zs) h j = absurd j
@@ -77,7 +77,7 @@ pub one-alternatives : EachHasAtMostOneValue → (a : Aim) (d : ℕ) (line : Lis
     → AreTimedAlternatives a d line p m ys → AreTimedAlternatives a d line p m zs → ys ≡ zs
 one-alternatives law a d line p m ys zs h j =
     one-timed a.goal line p j.0 ys zs
-    (subst (λ (l : List Continuation). AreTimed a.goal line p l ys) (one-chosen law (holds a (d + 1)) p (others (m ∷ []) p) h.0 j.0 h.1 j.1) h.2) j.2
+    (subst (λ (l : List EvaluatedMove). AreTimed a.goal line p l ys) (one-chosen law (holds a (d + 1)) p (moves_except (m ∷ []) p) h.0 j.0 h.1 j.1) h.2) j.2
 
 defence-is : (x y : Defence) → x.played ≡ y.played → x.value ≡ y.value → x.answers ≡ y.answers → x.only ≡ y.only → x ≡ y
 defence-is x y em ev en eo =
@@ -86,7 +86,7 @@ defence-is x y em ev en eo =
     ∙ ap (λ n. record { played = y.played; value = y.value; answers = n; only = x.only }) en
     ∙ ap (λ o. record { played = y.played; value = y.value; answers = y.answers; only = o }) eo
 
-one-answered : EachHasAtMostOneValue → (a : Aim) (d : ℕ) (p : Position) (xs : List Continuation) (ys zs : List Defence)
+one-answered : EachHasAtMostOneValue → (a : Aim) (d : ℕ) (p : Position) (xs : List EvaluatedMove) (ys zs : List Defence)
     → AreAnswered a d p xs ys → AreAnswered a d p xs zs → ys ≡ zs
 one-answered law a d p [] [] [] h j = refl
 one-answered law a d p [] [] (z ∷ zs) h j = absurd j
@@ -96,19 +96,19 @@ one-answered law a d p (x ∷ xs) (y ∷ ys) [] h j = absurd j
 one-answered law a d p (x ∷ xs) (y ∷ ys) (z ∷ zs) h j =
     let q = after p x.played in
     let same : h.2.0 ≡ j.2.0 = one-chosen law (holds a (d + 1 + 1)) q (legal_list q) h.2.0 j.2.0 h.2.1 j.2.1 in
-    ap (λ a. a ∷ ys) (defence-is y z (h.0 ∙ sym j.0) (h.1 ∙ sym j.1) (h.2.2 ∙ ap (λ l. length l) same ∙ sym j.2.2) (h.2.3 ∙ ap the_only same ∙ sym j.2.3))
+    ap (λ a. a ∷ ys) (defence-is y z (h.0 ∙ sym j.0) (h.1 ∙ sym j.1) (h.2.2 ∙ ap (λ l. length l) same ∙ sym j.2.2) (h.2.3 ∙ ap only_move same ∙ sym j.2.3))
     ∙ ap (λ l. z ∷ l) (one-answered law a d p xs ys zs h.3 j.3)
 
 pub one-defences : EachHasAtMostOneValue → (a : Aim) (d : ℕ) (p : Position) (there : List Move) (ys zs : List Defence)
     → AreDefences a d p there ys → AreDefences a d p there zs → ys ≡ zs
 one-defences law a d p there ys zs h j =
     one-answered law a d p j.0 ys zs
-    (subst (λ (l : List Continuation). AreAnswered a d p l ys) (one-chosen law (λ v. true) p (others there p) h.0 j.0 h.1 j.1) h.2) j.2
+    (subst (λ (l : List EvaluatedMove). AreAnswered a d p l ys) (one-chosen law (λ v. true) p (moves_except there p) h.0 j.0 h.1 j.1) h.2) j.2
 
-one-best : EachHasAtMostOneValue → (p : Position) (x y : Option Continuation) → IsBestMove p x → IsBestMove p y → x ≡ y
+one-best : EachHasAtMostOneValue → (p : Position) (x y : Option EvaluatedMove) → IsBestMove p x → IsBestMove p y → x ≡ y
 one-best law p x y h j = h.2 ∙ ap first_best (one-chosen law (λ v. true) p (legal_list p) h.0 j.0 h.1 j.1) ∙ sym j.2
 
-pub one-play : EachHasAtMostOneValue → (n : ℕ) (p : Position) (xs ys : List Continuation) → IsBestPlay n p xs → IsBestPlay n p ys → xs ≡ ys
+pub one-play : EachHasAtMostOneValue → (n : ℕ) (p : Position) (xs ys : List EvaluatedMove) → IsBestPlay n p xs → IsBestPlay n p ys → xs ≡ ys
 one-play law zero p [] [] h j = refl
 one-play law zero p [] (y ∷ ys) h j = absurd j
 one-play law zero p (x ∷ xs) ys h j = absurd h
@@ -119,14 +119,14 @@ one-play law (suc n) p (x ∷ xs) (y ∷ ys) h j =
     let both : Some x ≡ Some y = one-best law p (Some x) (Some y) h.0 j.0 in
     let same : x ≡ y = cc in
     ap (λ a. a ∷ xs) same
-    ∙ ap (λ l. y ∷ l) (one-play law n (after p y.played) xs ys (subst (λ (a : Continuation). IsBestPlay n (after p a.played) xs) same h.1) j.1)
+    ∙ ap (λ l. y ∷ l) (one-play law n (after p y.played) xs ys (subst (λ (a : EvaluatedMove). IsBestPlay n (after p a.played) xs) same h.1) j.1)
 
 -- ---- lines
 
 abbrev pub One : (List ℕ → Type 0) → Type 0
 One Lines = (t u : List ℕ) → Lines t → Lines u → t ≡ u
 
-pub one-where : (b : Bool) (Lines : List ℕ → Type 0) → One Lines → One (OnlyWhere b Lines)
+pub one-where : (b : Bool) (Lines : List ℕ → Type 0) → One Lines → One (EmptyUnless b Lines)
 one-where true Lines f t u h j = f t u h j
 one-where false Lines f t u h j = h ∙ sym j
 
@@ -137,8 +137,8 @@ one-match (Some m) Lines f t u h j = f m t u h j
 module _ (law : EachHasAtMostOneValue) (s : Study Mark) (path : List ℕ) where
   one-also : (m : Move) → One (AreAlso s path m)
   one-also m t u h j =
-      h.2 ∙ ap (flat_map (also_line path (position_at s (front_of path))))
-      (one-alternatives law (aim_of s) (length (front_of path)) (line_to s (front_of path)) (position_at s (front_of path)) m h.0 j.0 h.1 j.1) ∙ sym j.2
+      h.2 ∙ ap (flat_map (also_line path (position_at s (parent_path path))))
+      (one-alternatives law (aim_of s) (length (parent_path path)) (line_to s (parent_path path)) (position_at s (parent_path path)) m h.0 j.0 h.1 j.1) ∙ sym j.2
 
   also-once : One (AlsoLines s path)
   also-once = one-where (is_dual (mark_at s path)) _ (one-match (played_by (spot_at s.tree path)) (AreAlso s path) one-also)
@@ -176,8 +176,8 @@ module _ (law : EachHasAtMostOneValue) (s : Study Mark) (path : List ℕ) where
   fault-once : (m : Move) (mark : Option MoveMark) → One (IsFaultOf s path m mark)
   fault-once m None t u h j = h ∙ sym j
   fault-once m (Some (Dual k)) t u h j =
-      h.2 ∙ ap (λ l. dual_line path (position_at s (front_of path)) m (value_at s path) k (times_lost l))
-      (one-alternatives law (aim_of s) (length (front_of path)) (line_to s (front_of path)) (position_at s (front_of path)) m h.0 j.0 h.1 j.1) ∙ sym j.2
+      h.2 ∙ ap (λ l. dual_line path (position_at s (parent_path path)) m (value_at s path) k (times_lost l))
+      (one-alternatives law (aim_of s) (length (parent_path path)) (line_to s (parent_path path)) (position_at s (parent_path path)) m h.0 j.0 h.1 j.1) ∙ sym j.2
   fault-once m (Some Mistake) t u h j = h ∙ sym j
   fault-once m (Some Only) t u h j = h ∙ sym j
   fault-once m (Some Idle) t u h j = h ∙ sym j
@@ -211,7 +211,7 @@ module _ (law : EachHasAtMostOneValue) (s : Study Mark) (path : List ℕ) where
   time-fault-once x None m n h j = h ∙ sym j
   time-fault-once x (Some (Dual k)) m n h j =
       h.2 ∙ ap (λ l. if all_lose_time l then 1 else 0)
-      (one-alternatives law (aim_of s) (length (front_of path)) (line_to s (front_of path)) (position_at s (front_of path)) x h.0 j.0 h.1 j.1) ∙ sym j.2
+      (one-alternatives law (aim_of s) (length (parent_path path)) (line_to s (parent_path path)) (position_at s (parent_path path)) x h.0 j.0 h.1 j.1) ∙ sym j.2
   time-fault-once x (Some Mistake) m n h j = h ∙ sym j
   time-fault-once x (Some Only) m n h j = h ∙ sym j
   time-fault-once x (Some Idle) m n h j = h ∙ sym j

@@ -18,26 +18,26 @@ use Rattle.study_marks.specs.Goals.{aim_of, hero_moves}
 use Rattle.study_marks.proofs.MovesToNode.{legal-last, position-last}
 use Rattle.study_marks.proofs.PathRenewed.{there-spot}
 use Rattle.study_marks.proofs.PathWalks.{spot_last, width_some}
-use Rattle.study_facts.specs.declared.stand.Stand.{Stand}
-use Rattle.study_facts.specs.declared.stand.Arrival.{Arrival}
+use Rattle.study_facts.specs.declared.walk_state.WalkState.{WalkState}
+use Rattle.study_facts.specs.declared.walk_state.MoveToNode.{MoveToNode}
 use Rattle.study_facts.specs.Faults.{in_solution}
 use Rattle.study_facts.specs.Line.{line_to}
-use Rattle.study_facts.specs.Nodes.{front_of, none_idle, is_idle, is_mistake, is_try, is_solution_move, hero_made, mark_at, value_at, value_of_spot}
-use Rattle.study_facts.specs.Stand.{arrival_by, arrival_of, IsStand, IsNodeAt}
+use Rattle.study_facts.specs.Nodes.{parent_path, has_no_idle_move, is_idle, is_mistake, is_try, is_solution_move, is_hero_move, mark_at, value_at, value_of_spot}
+use Rattle.study_facts.specs.WalkState.{arrival_by, arrival_of, IsStand, IsNodeAt}
 use Rattle.study_facts.proofs.FaultsListed.{step-on}
 use Rattle.study_facts.proofs.Lines.{line-last}
 use Rattle.study_facts.proofs.NodesShown.{front-is, idle-last}
 use Rattle.study_facts.proofs.WrittenOrder.{node-here}
 
 -- the node with these contents
-record Shows (o : Option (Spot Mark)) (by : Arrival) : Type 0 where
+record Shows (o : Option (Spot Mark)) (by : MoveToNode) : Type 0 where
   pub spot : Spot Mark
   pub is : o ≡ Some spot
   pub played : spot.played ≡ Some by.played
   pub mark : spot.label ≡ by.mark
   pub children : spot.children ≡ by.children
 
-shows : (o : Option (Spot Mark)) (by : Arrival) → arrival_of o ≡ Some by → Shows o by
+shows : (o : Option (Spot Mark)) (by : MoveToNode) → arrival_of o ≡ Some by → Shows o by
 shows None by e = absurd (none-some by e)
 shows (Some s) by e = go s.played refl
   where
@@ -49,12 +49,12 @@ shows (Some s) by e = go s.played refl
         record {
           spot = s;
           is = refl;
-          played = h ∙ ap (λ (x : Arrival). Some x.played) same;
-          mark = ap (λ (x : Arrival). x.mark) same;
-          children = ap (λ (x : Arrival). x.children) same;
+          played = h ∙ ap (λ (x : MoveToNode). Some x.played) same;
+          mark = ap (λ (x : MoveToNode). x.mark) same;
+          children = ap (λ (x : MoveToNode). x.children) same;
         }
 
-module _ (s : Study Mark) (steps : List ℕ) (by : Arrival) (e : arrival_of (spot_at s.tree steps) ≡ Some by) where
+module _ (s : Study Mark) (steps : List ℕ) (by : MoveToNode) (e : arrival_of (spot_at s.tree steps) ≡ Some by) where
   shown : Shows (spot_at s.tree steps) by
   shown = shows (spot_at s.tree steps) by e
 
@@ -74,12 +74,12 @@ module _ (s : Study Mark) (steps : List ℕ) (by : Arrival) (e : arrival_of (spo
   arrival-there = there-spot s.tree steps shown.spot shown.is
 
   module _ (front : List ℕ) (k : ℕ) (path : steps ≡ front ++ k ∷ []) (h : IsPlayable s.start.position s.tree.below) where
-    pub arrival-legal : (before : Stand) → IsStand s (front_of steps) before → is_legal before.position by.played ≡ true
+    pub arrival-legal : (before : WalkState) → IsStand s (parent_path steps) before → is_legal before.position by.played ≡ true
     arrival-legal before b =
         legal-last s.start.position before.position s.tree steps front k by.played path arrival-played h
         (b.position ∙ ap (position_at s) (sym (front-is steps front k path)))
 
-    pub stand-after : (before here : Stand) → IsStand s (front_of steps) before → here.position ≡ after before.position by.played
+    pub stand-after : (before here : WalkState) → IsStand s (parent_path steps) before → here.position ≡ after before.position by.played
         → here.children ≡ by.children
         → here.solution ≡ (before.solution && (not (hero_moves (aim_of s) (length front)) || (k == 0)))
         → here.quiet ≡ (before.quiet && not (is_idle by.mark.on_move)) → IsStand s steps here
@@ -93,13 +93,13 @@ module _ (s : Study Mark) (steps : List ℕ) (by : Arrival) (e : arrival_of (spo
           solution = so ∙ ap (λ b. b && turn) (b.solution ∙ ap (in_solution (aim_of s) 0) same)
               ∙ ap (λ n. in_solution (aim_of s) 0 front && (not (hero_moves (aim_of s) n) || (k == 0))) (let z : length front ≡ 0 + length front = omega arith in z)
               ∙ sym (step-on (aim_of s) 0 front k) ∙ ap (in_solution (aim_of s) 0) (sym path);
-          quiet = q ∙ ap (λ b. b && not (is_idle by.mark.on_move)) (b.quiet ∙ ap (none_idle s.tree.below) same)
-              ∙ ap (λ (o : Option MoveMark). none_idle s.tree.below front && not (is_idle o)) arrival-mark
+          quiet = q ∙ ap (λ b. b && not (is_idle by.mark.on_move)) (b.quiet ∙ ap (has_no_idle_move s.tree.below) same)
+              ∙ ap (λ (o : Option MoveMark). has_no_idle_move s.tree.below front && not (is_idle o)) arrival-mark
               ∙ sym (idle-last s.tree steps front k path);
         }
 
-    pub line-after : (before here : Stand) (mid new : List Position) → IsStand s (front_of steps) before → IsStand s steps here
-        → mid ≡ line_to s (front_of steps) → new ≡ mid ++ here.position ∷ [] → new ≡ line_to s steps
+    pub line-after : (before here : WalkState) (mid new : List Position) → IsStand s (parent_path steps) before → IsStand s steps here
+        → mid ≡ line_to s (parent_path steps) → new ≡ mid ++ here.position ∷ [] → new ≡ line_to s steps
     line-after before here mid new b st m n =
         let same = sym (front-is steps front k path) in
         let at = b.position ∙ ap (position_at s) same in
@@ -109,10 +109,10 @@ module _ (s : Study Mark) (steps : List ℕ) (by : Arrival) (e : arrival_of (spo
 
 -- ---- the place of a node
 
-made-by : (a : Aim) (steps front : List ℕ) (k : ℕ) → steps ≡ front ++ k ∷ [] → hero_made a steps ≡ hero_moves a (length front)
-made-by a steps front k e = ap (hero_made a) e ∙ go front
+made-by : (a : Aim) (steps front : List ℕ) (k : ℕ) → steps ≡ front ++ k ∷ [] → is_hero_move a steps ≡ hero_moves a (length front)
+made-by a steps front k e = ap (is_hero_move a) e ∙ go front
   where
-    go : (xs : List ℕ) → hero_made a (xs ++ k ∷ []) ≡ hero_moves a (length xs)
+    go : (xs : List ℕ) → is_hero_move a (xs ++ k ∷ []) ≡ hero_moves a (length xs)
     go [] = refl
     go (x ∷ xs) = ap (hero_moves a) (let n : length (xs ++ k ∷ []) ≡ length (x ∷ xs) = omega (arith, length-append xs (k ∷ [])) in n)
 
@@ -132,45 +132,45 @@ module _ (s : Study Mark) (steps : List ℕ) (some : 0 < length steps) where
   last : HasLast steps
   last = has-last steps some
 
-  front-same : last.front ≡ front_of steps
+  front-same : last.front ≡ parent_path steps
   front-same = front-is steps last.front last.place last.is
 
-  pub front-length : length (front_of steps) + 1 ≡ length steps
+  pub front-length : length (parent_path steps) + 1 ≡ length steps
   front-length =
       let n = length-append last.front (last.place ∷ []) in
       let same = ap length front-same in
       let long = ap length last.is in omega (arith, n, same, long)
 
-  made-last : (a : Aim) (d : ℕ) → d + 1 ≡ length steps → hero_made a steps ≡ hero_moves a d
+  made-last : (a : Aim) (d : ℕ) → d + 1 ≡ length steps → is_hero_move a steps ≡ hero_moves a d
   made-last a d e =
       made-by a steps last.front last.place last.is
       ∙ ap (hero_moves a) (let z : length last.front ≡ d = omega (arith, front-length, ap length front-same, e) in z)
 
-  pub solution-move : (a : Aim) (d : ℕ) (here : Stand) → a ≡ aim_of s → d + 1 ≡ length steps → IsStand s steps here
+  pub solution-move : (a : Aim) (d : ℕ) (here : WalkState) → a ≡ aim_of s → d + 1 ≡ length steps → IsStand s steps here
       → (hero_moves a d && here.solution) ≡ is_solution_move s steps
   solution-move a d here e n h =
       ap (λ (x : Aim). hero_moves x d && here.solution) e
-      ∙ ap (λ b. b && here.solution) (sym (made-last (aim_of s) d n)) ∙ ap (λ b. hero_made (aim_of s) steps && b) h.solution
+      ∙ ap (λ b. b && here.solution) (sym (made-last (aim_of s) d n)) ∙ ap (λ b. is_hero_move (aim_of s) steps && b) h.solution
 
-  pub tried-move : (a : Aim) (d : ℕ) (mark : Option MoveMark) (before : Stand) → a ≡ aim_of s → d + 1 ≡ length steps
-      → mark ≡ mark_at s steps → IsStand s (front_of steps) before
+  pub tried-move : (a : Aim) (d : ℕ) (mark : Option MoveMark) (before : WalkState) → a ≡ aim_of s → d + 1 ≡ length steps
+      → mark ≡ mark_at s steps → IsStand s (parent_path steps) before
       → (hero_moves a d && (is_mistake mark || (is_idle mark && (before.solution && before.quiet)))) ≡ is_try s steps
   tried-move a d mark before e n m b =
       ap (λ (x : Aim). hero_moves x d && (is_mistake mark || (is_idle mark && (before.solution && before.quiet)))) e
       ∙ ap (λ c. c && (is_mistake mark || (is_idle mark && (before.solution && before.quiet)))) (sym (made-last (aim_of s) d n))
-      ∙ ap (λ (o : Option MoveMark). hero_made (aim_of s) steps && (is_mistake o || (is_idle o && (before.solution && before.quiet)))) m
-      ∙ ap (λ c. hero_made (aim_of s) steps && (is_mistake (mark_at s steps) || (is_idle (mark_at s steps) && (c && before.quiet)))) b.solution
-      ∙ ap (λ c. hero_made (aim_of s) steps && (is_mistake (mark_at s steps) || (is_idle (mark_at s steps) && (in_solution (aim_of s) 0 (front_of steps) && c)))) b.quiet
+      ∙ ap (λ (o : Option MoveMark). is_hero_move (aim_of s) steps && (is_mistake o || (is_idle o && (before.solution && before.quiet)))) m
+      ∙ ap (λ c. is_hero_move (aim_of s) steps && (is_mistake (mark_at s steps) || (is_idle (mark_at s steps) && (c && before.quiet)))) b.solution
+      ∙ ap (λ c. is_hero_move (aim_of s) steps && (is_mistake (mark_at s steps) || (is_idle (mark_at s steps) && (in_solution (aim_of s) 0 (parent_path steps) && c)))) b.quiet
 
-  pub legal-before : (by : Arrival) → arrival_of (spot_at s.tree steps) ≡ Some by → IsPlayable s.start.position s.tree.below → (before : Stand)
-      → IsStand s (front_of steps) before → is_legal before.position by.played ≡ true
+  pub legal-before : (by : MoveToNode) → arrival_of (spot_at s.tree steps) ≡ Some by → IsPlayable s.start.position s.tree.below → (before : WalkState)
+      → IsStand s (parent_path steps) before → is_legal before.position by.played ≡ true
   legal-before by e h before b = arrival-legal s steps by e last.front last.place last.is h before b
 
-  pub node-before : (a : Aim) (d : ℕ) (before : Stand) → a ≡ aim_of s → d + 1 ≡ length steps → IsStand s (front_of steps) before
-      → IsNodeAt s (front_of steps) a d before.position
+  pub node-before : (a : Aim) (d : ℕ) (before : WalkState) → a ≡ aim_of s → d + 1 ≡ length steps → IsStand s (parent_path steps) before
+      → IsNodeAt s (parent_path steps) a d before.position
   node-before a d before e n b = record {
     aim = e;
-    depth = (let z : d ≡ length (front_of steps) = omega (arith, n, front-length) in z);
+    depth = (let z : d ≡ length (parent_path steps) = omega (arith, n, front-length) in z);
     position = b.position;
   }
 

@@ -20,13 +20,13 @@ use Rattle.study_values.specs.declared.values.ProbeFault.{ProbeFault}
 use Rattle.study_values.specs.declared.values.ProbeFault.TheVariants as probe
 use Rattle.study_marks.specs.Answers.{Answers, WereTold, IsFirstFault}
 use Rattle.study_marks.specs.Queries.{IsFirstMissing}
-use Rattle.study_marks.specs.Told.{IsUntold}
+use Rattle.study_marks.specs.Evaluated.{IsProbeFaultOf}
 use Rattle.study_marks.specs.Study.{Study, IsPlayable, moves_to, position_after, position_at}
-use Rattle.study_facts.specs.Asked.{IsReached, IsWithinNeeds, within, HasTold, AllTold, Stopped}
-use Rattle.study_facts.specs.Continuations.{is_among, others}
+use Rattle.study_facts.specs.Asked.{IsReached, IsWithinNeeds, within, HasProbed, AllTold, Stopped}
+use Rattle.study_facts.specs.Continuations.{contains_move, moves_except}
 use Rattle.study_facts.specs.Made.{HasAsked}
-use Rattle.study_facts.specs.declared.fault.NotMade.{NotMade}
-use Rattle.study_facts.specs.declared.fault.NotMade.TheVariants.{OutOfMemory, Untold}
+use Rattle.study_facts.specs.declared.fault.TextFault.{TextFault}
+use Rattle.study_facts.specs.declared.fault.TextFault.TheVariants.{OutOfMemory, Untold}
 use Rattle.study_facts.proofs.Chosen.{all-first, all-rest}
 use Rattle.study_facts.proofs.LegalMoves.{legal-listed}
 
@@ -103,19 +103,19 @@ each-after p (m ∷ ms) h = (
 pub each-legal : (p : Position) → EachReached p (map (after p) (legal_list p))
 each-legal p = each-after p (legal_list p) (legal-listed p)
 
-pub each-other : (p : Position) (there : List Move) → EachReached p (map (after p) (others there p))
+pub each-other : (p : Position) (there : List Move) → EachReached p (map (after p) (moves_except there p))
 each-other p there =
-    each-after p (others there p) (All-filter (λ m. not (is_among m there)) (λ m. is_legal p m ≡ true) (legal_list p) (legal-listed p))
+    each-after p (moves_except there p) (All-filter (λ m. not (contains_move m there)) (λ m. is_legal p m ≡ true) (legal_list p) (legal-listed p))
 
 missing-needed : (p : Position) (held : Class → Bool) (qs : List Position) (c : Class) → EachReached p qs → IsValid p → IsFirstMissing held qs c → NeedsClass p c
 missing-needed p held [] c h v x = absurd x
 missing-needed p held (q ∷ qs) c h v (inl x) = h.0 v c x.0
 missing-needed p held (q ∷ qs) c h v (inr x) = missing-needed p held qs c h.1 v x.1
 
-untold-needed : (p : Position) (held : Class → Bool) (qs : List Position) (f : ProbeFault) → EachReached p qs → IsUntold held qs f → IsWithinNeeds p (Err f)
+untold-needed : (p : Position) (held : Class → Bool) (qs : List Position) (f : ProbeFault) → EachReached p qs → IsProbeFaultOf held qs f → IsWithinNeeds p (Err f)
 untold-needed p held qs f h untold v c e =
     let same : f ≡ probe.NoTable c = cc in
-    missing-needed p held qs c h v (subst (λ (x : ProbeFault). IsUntold held qs x) same untold)
+    missing-needed p held qs c h v (subst (λ (x : ProbeFault). IsProbeFaultOf held qs x) same untold)
 
 -- ---- answers
 
@@ -176,7 +176,7 @@ module _ {V : Type 0} (may_fail : V → Class → SourceFault → Type 0) (asked
         → (asked : List Position) × WereTold (within p gives) may_fail asked_of old asked new
     some-told old new qs r h = (qs, told-each old new qs r h)
 
-    pub some-fault : (held : Class → Bool) (old new : V) (qs : List Position) (e : ProbeFault) → EachReached p qs → IsUntold held qs e
+    pub some-fault : (held : Class → Bool) (old new : V) (qs : List Position) (e : ProbeFault) → EachReached p qs → IsProbeFaultOf held qs e
         → IsFirstFault gives may_fail asked_of old qs e new → (asked : List Position) × IsFirstFault (within p gives) may_fail asked_of old asked e new
     some-fault held old new qs e r n h = (qs, fault-each old new qs e r (untold-needed p held qs e r n) h)
 
@@ -190,8 +190,8 @@ module _ {V : Type 0} (may_fail : V → Class → SourceFault → Type 0) (asked
           → (asked : List Position) × IsFirstFault (within p gives) may_fail asked_of old asked e new
       fault-wider old new e h = (h.0, fault-more (within q gives) (within p gives) (wider gives p q lead) old new h.0 e h.1)
 
-      pub has-wider : {T : Type 0} (old new : V) (r : Result T ProbeFault) → HasTold (within q gives) may_fail asked_of old r new
-          → HasTold (within p gives) may_fail asked_of old r new
+      pub has-wider : {T : Type 0} (old new : V) (r : Result T ProbeFault) → HasProbed (within q gives) may_fail asked_of old r new
+          → HasProbed (within p gives) may_fail asked_of old r new
       has-wider old new (Ok x) h = told-wider old new h
       has-wider old new (Err e) h = fault-wider old new e h
 
@@ -218,7 +218,7 @@ module _ {V : Type 0} (held : V → Class → Bool) (gives : V → Position → 
     tables = h.tables;
   }
 
-  pub asks-wider : {T : Type 0} (old new : V) (r : Result T NotMade) → HasAsked held (within q gives) may_fail asked_of failed_of is_honest {T = T} old r new
+  pub asks-wider : {T : Type 0} (old new : V) (r : Result T TextFault) → HasAsked held (within q gives) may_fail asked_of failed_of is_honest {T = T} old r new
       → HasAsked held (within p gives) may_fail asked_of failed_of is_honest {T = T} old r new
   asks-wider old new (Ok x) h = all-wider old new h
   asks-wider old new (Err OutOfMemory) h = all-wider old new h

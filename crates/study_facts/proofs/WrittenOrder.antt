@@ -12,8 +12,8 @@ use Rattle.study_marks.proofs.ChildFound.{skipped-end}
 use Rattle.study_marks.proofs.PathRenewed.{there-spot}
 use Rattle.study_marks.proofs.PathWalks.{spot_last, below_entered, fewer}
 use Rattle.study_facts.specs.Made.{Grew}
-use Rattle.study_facts.specs.Nodes.{has_none}
-use Rattle.study_facts.specs.Order.{none_below, paths_from, LinesOfEach}
+use Rattle.study_facts.specs.Nodes.{is_leaf}
+use Rattle.study_facts.specs.Order.{has_no_grandchild, paths_from, LinesOfEach}
 use Rattle.study_facts.proofs.NodesShown.{none-counted}
 
 module _ {L : Type 0} where
@@ -26,11 +26,11 @@ module _ {L : Type 0} where
 
   -- no node from a place on has children, if the node at this place has none, nor those after it
   pub none-here : (f : Forest L) (k next n : ℕ) (b : Bool) → k < width f → n ≡ width (below_at f (k ∷ [])) → next ≡ k + 1
-      → b ≡ none_below (skipped next f) → ((n == 0) && b) ≡ none_below (skipped k f)
+      → b ≡ has_no_grandchild (skipped next f) → ((n == 0) && b) ≡ has_no_grandchild (skipped k f)
   none-here f k next n b lt e j h =
       let x = node-here f k lt in
       ap (λ c. c && b) (none-counted x.0.below n (sym (e ∙ ap width (below_entered f [] k x.0 x.1))))
-      ∙ ap (λ c. has_none x.0.below && c) (h ∙ ap (λ i. none_below (skipped i f)) (j ∙ add-one k)) ∙ sym (ap none_below x.2)
+      ∙ ap (λ c. is_leaf x.0.below && c) (h ∙ ap (λ i. has_no_grandchild (skipped i f)) (j ∙ add-one k)) ∙ sym (ap has_no_grandchild x.2)
 
   pub there-child : (t : Plain L) (steps path : List ℕ) (k : ℕ) → path ≡ steps ++ k ∷ [] → k < width (below_at t.below steps) → IsTrue (has_spot t path)
   there-child t steps path k e h =

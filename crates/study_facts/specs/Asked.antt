@@ -8,7 +8,7 @@ use Rattle.study_values.specs.declared.fault.SourceFault.{SourceFault}
 use Rattle.study_values.specs.Values.{ProbeAnswer, IsNotDamage}
 use Rattle.study_values.specs.declared.values.ProbeFault.{ProbeFault}
 use Rattle.study_values.specs.declared.values.ProbeFault.TheVariants.{NoTable}
-use Rattle.study_marks.specs.Told.{failures_told}
+use Rattle.study_marks.specs.Evaluated.{failures_of}
 use Rattle.study_marks.specs.Answers.{WereTold, IsFirstFault}
 
 -- each class of q is a class that p needs
@@ -24,10 +24,10 @@ abbrev pub within : {V : Type 0} → Position → (V → Position → ProbeAnswe
 within p gives v q answer = gives v q answer × IsReached p q × IsWithinNeeds p answer
 
 -- Positions were probed one after the other, and each value was read; or each except the last, whose answer was the fault.
-abbrev pub HasTold : {V T : Type 0} → (V → Position → ProbeAnswer → Type 0) → (V → Class → SourceFault → Type 0)
+abbrev pub HasProbed : {V T : Type 0} → (V → Position → ProbeAnswer → Type 0) → (V → Class → SourceFault → Type 0)
     → (V → ℕ) → V → Result T ProbeFault → V → Type 0
-HasTold gives may_fail asked_of old (Ok x) new = (asked : List Position) × WereTold gives may_fail asked_of old asked new
-HasTold gives may_fail asked_of old (Err f) new = (asked : List Position) × IsFirstFault gives may_fail asked_of old asked f new
+HasProbed gives may_fail asked_of old (Ok x) new = (asked : List Position) × WereTold gives may_fail asked_of old asked new
+HasProbed gives may_fail asked_of old (Err f) new = (asked : List Position) × IsFirstFault gives may_fail asked_of old asked f new
 
 module _ {V : Type 0} (held : V → Class → Bool) (gives : V → Position → ProbeAnswer → Type 0)
     (may_fail : V → Class → SourceFault → Type 0) (asked_of failed_of : V → ℕ) (is_honest : V → Type 0) where
@@ -43,6 +43,6 @@ module _ {V : Type 0} (held : V → Class → Bool) (gives : V → Position → 
     pub told : (asked : List Position) × IsFirstFault gives may_fail asked_of old asked f new
     pub untold : (c : Class) → f ≡ NoTable c → held old c ≡ false
     pub no_damage : is_honest old → IsNotDamage f
-    pub failures : failed_of new ≡ failures_told {T = Unit {0}} (Err f) (failed_of old)
+    pub failures : failed_of new ≡ failures_of {T = Unit {0}} (Err f) (failed_of old)
     pub honest : is_honest old → is_honest new
     pub tables : (c : Class) → held new c ≡ held old c

@@ -1,5 +1,5 @@
 pub mod Continuations
-pub mod Back
+pub mod Repetition
 pub mod Leads
 pub mod Best
 pub mod Asked
@@ -13,5 +13,5 @@ pub mod Zugzwang
 pub mod Nodes
 pub mod TimeFaults
 pub mod Made
-pub mod Stand
+pub mod WalkState
 pub mod Order

@@ -8,8 +8,8 @@ use Rattle.study_tree.specs.Tree.{spot_at}
 use Rattle.study_marks.specs.Bench.{played_by}
 use Rattle.study_marks.specs.Study.{Study, moves_to, position_at}
 use Rattle.study_marks.specs.Goals.{aim_of}
-use Rattle.study_facts.specs.declared.line.Place.{Place}
-use Rattle.study_facts.specs.declared.line.Made.{Made}
+use Rattle.study_facts.specs.declared.line.NodePosition.{NodePosition}
+use Rattle.study_facts.specs.declared.line.MoveContext.{MoveContext}
 
 -- the position, then the positions after moves that are played in order
 abbrev pub positions_along : Position → List Move → List Position
@@ -22,14 +22,14 @@ module _ {L : Type 0} where
   line_to s steps = positions_along s.start.position (moves_to s.tree.below steps)
 
   -- The place of the node at the path: the stipulation, its depth, its position and its line.
-  pub record IsPlaceOf (s : Study L) (steps : List ℕ) (x : Place) : Type 0 where
+  pub record IsPlaceOf (s : Study L) (steps : List ℕ) (x : NodePosition) : Type 0 where
     pub aim : x.aim ≡ aim_of s
     pub depth : x.depth ≡ length steps
     pub position : x.position ≡ position_at s steps
     pub line : x.line.items ≡ line_to s steps
 
   -- A move of the study, to the node at the path: the node before it is at the path without its last place.
-  pub record IsMadeIn (s : Study L) (steps : List ℕ) (x : Made) : Type 0 where
+  pub record IsMadeIn (s : Study L) (steps : List ℕ) (x : MoveContext) : Type 0 where
     pub front : List ℕ
     pub place : ℕ
     pub path : steps ≡ front ++ place ∷ []

@@ -6,12 +6,12 @@ use Rattle.study_values.specs.declared.fault.SourceFault.{SourceFault}
 use Rattle.study_values.specs.Values.{ProbeAnswer}
 use Rattle.study_facts.specs.declared.fault.ReviewFault.{ReviewFault}
 use Rattle.study_facts.specs.declared.fault.ReviewFault.TheVariants as fault
-use Rattle.study_facts.specs.declared.fault.NotMade.{NotMade}
-use Rattle.study_facts.specs.declared.fault.NotMade.TheVariants.{OutOfMemory, Untold}
+use Rattle.study_facts.specs.declared.fault.TextFault.{TextFault}
+use Rattle.study_facts.specs.declared.fault.TextFault.TheVariants.{OutOfMemory, Untold}
 use Rattle.study_facts.specs.Asked.{AllTold, Stopped}
 
 -- the fault of the review for the fault with which its text was not made
-abbrev pub fault_of : NotMade → ReviewFault
+abbrev pub fault_of : TextFault → ReviewFault
 fault_of OutOfMemory = fault.OutOfMemory
 fault_of (Untold f) = fault.Values f
 
@@ -25,7 +25,7 @@ Rose Count old new = (n : ℕ) × Count n × (old + n < 2 ^ 32 → new ≡ old +
 
 module _ {V : Type 0} (held : V → Class → Bool) (gives : V → Position → ProbeAnswer → Type 0)
     (may_fail : V → Class → SourceFault → Type 0) (asked_of failed_of : V → ℕ) (is_honest : V → Type 0) where
-  abbrev pub HasAsked : {T : Type 0} → V → Result T NotMade → V → Type 0
+  abbrev pub HasAsked : {T : Type 0} → V → Result T TextFault → V → Type 0
   HasAsked old (Ok x) new = AllTold held gives may_fail asked_of failed_of is_honest old new
   HasAsked old (Err OutOfMemory) new = AllTold held gives may_fail asked_of failed_of is_honest old new
   HasAsked old (Err (Untold f)) new = Stopped held gives may_fail asked_of failed_of is_honest old f new

@@ -17,9 +17,9 @@ use Rattle.study_marks.specs.Bench.{played_by, on_move_of}
 use Rattle.study_marks.specs.FaultSums.{below_at}
 use Rattle.study_marks.specs.Study.{Study, position_at}
 use Rattle.study_marks.specs.Goals.{aim_of, hero_moves, holds}
-use Rattle.study_facts.specs.declared.continuation.Continuation.{Continuation}
-use Rattle.study_facts.specs.declared.time.Alternative.{Alternative}
-use Rattle.study_facts.specs.declared.missing.Defence.{Defence}
+use Rattle.study_facts.specs.declared.continuation.EvaluatedMove.{EvaluatedMove}
+use Rattle.study_facts.specs.declared.time_loss.Alternative.{Alternative}
+use Rattle.study_facts.specs.declared.missing_defences.Defence.{Defence}
 use Rattle.study_facts.specs.Continuations.{AreRefutations, AreDrawingMoves}
 use Rattle.study_facts.specs.Time.{AreTimedAlternatives}
 use Rattle.study_facts.specs.Defences.{AreDefences}
@@ -30,20 +30,20 @@ use Rattle.study_facts.specs.Zugzwang.{ZugzwangLines}
 use Rattle.study_facts.specs.Words.{also_line, refuted_line, stalemate_line, missing_line, play_line, keep_line, dual_line, mistake_line, times_lost}
 
 -- the path of the node before the one at this path
-abbrev pub front_of : List ℕ → List ℕ
-front_of [] = []
-front_of (k ∷ []) = []
-front_of (k ∷ j ∷ js) = k ∷ front_of (j ∷ js)
+abbrev pub parent_path : List ℕ → List ℕ
+parent_path [] = []
+parent_path (k ∷ []) = []
+parent_path (k ∷ j ∷ js) = k ∷ parent_path (j ∷ js)
 
 -- these lines if the test is true, otherwise no lines
-abbrev pub OnlyWhere : Bool → (List ℕ → Type 0) → List ℕ → Type 0
-OnlyWhere true Lines text = Lines text
-OnlyWhere false Lines text = text ≡ []
+abbrev pub EmptyUnless : Bool → (List ℕ → Type 0) → List ℕ → Type 0
+EmptyUnless true Lines text = Lines text
+EmptyUnless false Lines text = text ≡ []
 
 -- the hero made the last move of the path
-abbrev pub hero_made : Aim → List ℕ → Bool
-hero_made a [] = false
-hero_made a (k ∷ ks) = hero_moves a (length ks)
+abbrev pub is_hero_move : Aim → List ℕ → Bool
+is_hero_move a [] = false
+is_hero_move a (k ∷ ks) = hero_moves a (length ks)
 
 abbrev pub is_dual : Option MoveMark → Bool
 is_dual (Some (Dual k)) = true
@@ -58,11 +58,11 @@ is_idle (Some Idle) = true
 is_idle _ = false
 
 -- no move of the path is idle
-abbrev pub none_idle : Forest Mark → List ℕ → Bool
-none_idle f [] = true
-none_idle none (k ∷ ks) = true
-none_idle (more m x b r) (zero ∷ ks) = not (is_idle x.on_move) && none_idle b ks
-none_idle (more m x b r) (suc k ∷ ks) = none_idle r (k ∷ ks)
+abbrev pub has_no_idle_move : Forest Mark → List ℕ → Bool
+has_no_idle_move f [] = true
+has_no_idle_move none (k ∷ ks) = true
+has_no_idle_move (more m x b r) (zero ∷ ks) = not (is_idle x.on_move) && has_no_idle_move b ks
+has_no_idle_move (more m x b r) (suc k ∷ ks) = has_no_idle_move r (k ∷ ks)
 
 -- the side to move is stalemated
 unfoldable pub is_stalemate : Position → Bool
@@ -85,31 +85,31 @@ value_at s path = value_of_spot (spot_at s.tree path)
 abbrev pub AreAlso : Study Mark → List ℕ → Move → List ℕ → Type 0
 AreAlso s path m text =
     (list : List Alternative)
-    × AreTimedAlternatives (aim_of s) (length (front_of path)) (line_to s (front_of path)) (position_at s (front_of path)) m list
-    × (text ≡ flat_map (also_line path (position_at s (front_of path))) list)
+    × AreTimedAlternatives (aim_of s) (length (parent_path path)) (line_to s (parent_path path)) (position_at s (parent_path path)) m list
+    × (text ≡ flat_map (also_line path (position_at s (parent_path path))) list)
 
 -- a line for each alternative of a dual
 abbrev pub AlsoLines : Study Mark → List ℕ → List ℕ → Type 0
 AlsoLines s path text =
-    OnlyWhere (is_dual (mark_at s path)) (λ t. MatchOption (played_by (spot_at s.tree path)) (t ≡ []) (λ m. AreAlso s path m t)) text
+    EmptyUnless (is_dual (mark_at s path)) (λ t. MatchOption (played_by (spot_at s.tree path)) (t ≡ []) (λ m. AreAlso s path m t)) text
 
 -- ---- refuted
 
 -- an idle move that the solution leads to, the first on its path
 abbrev pub is_first_idle : Study Mark → Aim → List ℕ → Bool
-is_first_idle s a path = is_idle (mark_at s path) && (in_solution a 0 (front_of path) && none_idle s.tree.below (front_of path))
+is_first_idle s a path = is_idle (mark_at s path) && (in_solution a 0 (parent_path path) && has_no_idle_move s.tree.below (parent_path path))
 
 -- a mistake of the hero, or such an idle move
 abbrev pub is_try : Study Mark → List ℕ → Bool
-is_try s path = hero_made (aim_of s) path && (is_mistake (mark_at s path) || is_first_idle s (aim_of s) path)
+is_try s path = is_hero_move (aim_of s) path && (is_mistake (mark_at s path) || is_first_idle s (aim_of s) path)
 
-abbrev pub refuted_text : List ℕ → Position → List Continuation → List ℕ
+abbrev pub refuted_text : List ℕ → Position → List EvaluatedMove → List ℕ
 refuted_text path q list = if is_stalemate q then stalemate_line path else flat_map (refuted_line path q) list
 
 -- a line for each refutation of a try, or the line that it stalemates
 abbrev pub RefutedLines : Study Mark → List ℕ → List ℕ → Type 0
 RefutedLines s path text =
-    OnlyWhere (is_try s path) (λ t. (list : List Continuation)
+    EmptyUnless (is_try s path) (λ t. (list : List EvaluatedMove)
     × AreRefutations (aim_of s) (length path) (position_at s path) list
     × (t ≡ refuted_text path (position_at s path) list)) text
 
@@ -123,31 +123,31 @@ is_defended s path =
 -- a line for each defence that is missing
 abbrev pub MissingLines : Study Mark → List ℕ → List ℕ → Type 0
 MissingLines s path text =
-    OnlyWhere (is_defended s path) (λ t. (list : List Defence)
+    EmptyUnless (is_defended s path) (λ t. (list : List Defence)
     × AreDefences (aim_of s) (length path) (position_at s path) (moves_of (below_at s.tree.below path)) list
     × (t ≡ flat_map (missing_line path (position_at s path)) list)) text
 
 -- ---- play and keep
 
-abbrev pub has_none : {L : Type 0} → Forest L → Bool
-has_none none = true
-has_none (more m l b r) = false
+abbrev pub is_leaf : {L : Type 0} → Forest L → Bool
+is_leaf none = true
+is_leaf (more m l b r) = false
 
 -- the tree ends here, but not the game
 abbrev pub is_open_end : Study Mark → List ℕ → Bool
-is_open_end s path = has_none (below_at s.tree.below path) && not (length (legal_list (position_at s path)) == 0)
+is_open_end s path = is_leaf (below_at s.tree.below path) && not (length (legal_list (position_at s path)) == 0)
 
 -- best play if a side wins, otherwise the moves that keep a draw
 abbrev pub IsPlay : List ℕ → Position → Value → List ℕ → Type 0
-IsPlay path p v text = (list : List Continuation) × IsBestPlay 20 p list × (text ≡ play_line path p v list)
+IsPlay path p v text = (list : List EvaluatedMove) × IsBestPlay 20 p list × (text ≡ play_line path p v list)
 
 abbrev pub IsEnd : List ℕ → Position → Value → List ℕ → Type 0
 IsEnd path p (Win n) text = IsPlay path p (Win n) text
 IsEnd path p (Loss n) text = IsPlay path p (Loss n) text
-IsEnd path p Draw text = (list : List Continuation) × AreDrawingMoves p list × (text ≡ keep_line path p list)
+IsEnd path p Draw text = (list : List EvaluatedMove) × AreDrawingMoves p list × (text ≡ keep_line path p list)
 
 abbrev pub EndLines : Study Mark → List ℕ → List ℕ → Type 0
-EndLines s path text = OnlyWhere (is_open_end s path) (IsEnd path (position_at s path) (value_at s path)) text
+EndLines s path text = EmptyUnless (is_open_end s path) (IsEnd path (position_at s path) (value_at s path)) text
 
 -- ---- together
 
@@ -162,7 +162,7 @@ NodeLines s path text =
 
 -- the last move of the path is the hero's, and part of the solution
 abbrev pub is_solution_move : Study Mark → List ℕ → Bool
-is_solution_move s path = hero_made (aim_of s) path && in_solution (aim_of s) 0 path
+is_solution_move s path = is_hero_move (aim_of s) path && in_solution (aim_of s) 0 path
 
 -- a dual with k others, and the number of those that lose time: a move from p, the last of a line, to a position with the value v
 abbrev pub IsDual : List ℕ → Aim → ℕ → List Position → Position → Move → Value → ℕ → List ℕ → Type 0
@@ -172,13 +172,13 @@ IsDual path a d line p m v k text = (list : List Alternative) × AreTimedAlterna
 abbrev pub IsFaultOf : Study Mark → List ℕ → Move → Option MoveMark → List ℕ → Type 0
 IsFaultOf s path m None text = text ≡ []
 IsFaultOf s path m (Some (Dual k)) text =
-    IsDual path (aim_of s) (length (front_of path)) (line_to s (front_of path)) (position_at s (front_of path)) m (value_at s path) k text
-IsFaultOf s path m (Some Mistake) text = text ≡ mistake_line path (position_at s (front_of path)) m (value_at s path)
+    IsDual path (aim_of s) (length (parent_path path)) (line_to s (parent_path path)) (position_at s (parent_path path)) m (value_at s path) k text
+IsFaultOf s path m (Some Mistake) text = text ≡ mistake_line path (position_at s (parent_path path)) m (value_at s path)
 IsFaultOf s path m (Some Only) text = text ≡ []
 IsFaultOf s path m (Some Idle) text = text ≡ []
 IsFaultOf s path m (Some Reply) text = text ≡ []
 
 abbrev pub FaultLines : Study Mark → List ℕ → List ℕ → Type 0
 FaultLines s path text =
-    OnlyWhere (is_solution_move s path)
+    EmptyUnless (is_solution_move s path)
     (λ t. MatchOption (played_by (spot_at s.tree path)) (t ≡ []) (λ m. IsFaultOf s path m (mark_at s path) t)) text

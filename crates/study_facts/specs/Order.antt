@@ -10,18 +10,18 @@ use Rattle.study_marks.specs.Study.{Study}
 use Rattle.study_facts.specs.declared.fault.ReviewFault.{ReviewFault}
 use Rattle.study_facts.specs.declared.fault.ReviewFault.TheVariants.{OutOfMemory, Device, Values}
 use Rattle.study_facts.specs.Asked.{AllTold, Stopped}
-use Rattle.study_facts.specs.Nodes.{has_none}
+use Rattle.study_facts.specs.Nodes.{is_leaf}
 use Rattle.study_facts.specs.TimeFaults.{IsTimeFault}
 
 -- no node has children
-abbrev pub none_below : {L : Type 0} → Forest L → Bool
-none_below none = true
-none_below (more m l b r) = has_none b && none_below r
+abbrev pub has_no_grandchild : {L : Type 0} → Forest L → Bool
+has_no_grandchild none = true
+has_no_grandchild (more m l b r) = is_leaf b && has_no_grandchild r
 
 -- the solution has no move of the hero: at the root, if he moves first, otherwise after the moves of the opponent
 abbrev pub is_empty : Bool → {L : Type 0} → Forest L → Bool
-is_empty true f = has_none f
-is_empty false f = none_below f
+is_empty true f = is_leaf f
+is_empty false f = has_no_grandchild f
 
 -- the paths of sibling nodes from place k on, below the node at the path, and of all nodes below them, in written order
 abbrev pub paths_from : {L : Type 0} → List ℕ → ℕ → Forest L → List (List ℕ)

@@ -11,10 +11,10 @@ use Rattle.study_marks.specs.declared.mark_rules.Aim.{Aim}
 use Rattle.study_marks.specs.Bench.{played_by}
 use Rattle.study_marks.specs.Study.{Study, position_at}
 use Rattle.study_marks.specs.Goals.{aim_of}
-use Rattle.study_facts.specs.declared.time.Alternative.{Alternative}
+use Rattle.study_facts.specs.declared.time_loss.Alternative.{Alternative}
 use Rattle.study_facts.specs.Time.{AreTimedAlternatives}
 use Rattle.study_facts.specs.Line.{line_to}
-use Rattle.study_facts.specs.Nodes.{front_of, mark_at, is_solution_move}
+use Rattle.study_facts.specs.Nodes.{parent_path, mark_at, is_solution_move}
 
 -- each of these other moves loses time
 abbrev pub all_lose_time : List Alternative → Bool
@@ -34,7 +34,7 @@ IsTimeDual a d line p m n =
 abbrev pub IsTimeFaultOf : Study Mark → List ℕ → Move → Option MoveMark → ℕ → Type 0
 IsTimeFaultOf s path m None n = n ≡ 0
 IsTimeFaultOf s path m (Some (Dual k)) n =
-    IsTimeDual (aim_of s) (length (front_of path)) (line_to s (front_of path)) (position_at s (front_of path)) m n
+    IsTimeDual (aim_of s) (length (parent_path path)) (line_to s (parent_path path)) (position_at s (parent_path path)) m n
 IsTimeFaultOf s path m (Some Mistake) n = n ≡ 0
 IsTimeFaultOf s path m (Some Only) n = n ≡ 0
 IsTimeFaultOf s path m (Some Idle) n = n ≡ 0

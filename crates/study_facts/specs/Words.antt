@@ -5,13 +5,13 @@ use Rattle.study_board.specs.Position.{Position}
 use Rattle.study_moves.specs.declared.moves.Move.{Move}
 use Rattle.study_moves.specs.Rules.{after}
 use Rattle.study_moves.specs.LegalList.{legal_list}
-use Rattle.study_notation.specs.Written.{move_text}
+use Rattle.study_notation.specs.SanSpelling.{move_text}
 use Rattle.study_values.specs.declared.value.Value.{Value}
 use Rattle.study_values.specs.declared.value.Value.TheVariants.{Win, Loss, Draw}
 use Rattle.study_tree.specs.Paths.{path_text}
-use Rattle.study_facts.specs.declared.continuation.Continuation.{Continuation}
-use Rattle.study_facts.specs.declared.time.Alternative.{Alternative}
-use Rattle.study_facts.specs.declared.missing.Defence.{Defence}
+use Rattle.study_facts.specs.declared.continuation.EvaluatedMove.{EvaluatedMove}
+use Rattle.study_facts.specs.declared.time_loss.Alternative.{Alternative}
+use Rattle.study_facts.specs.declared.missing_defences.Defence.{Defence}
 
 -- `loss 4`
 abbrev pub value_words : Value → List ℕ
@@ -37,7 +37,7 @@ unfoldable pub also_line : List ℕ → Position → Alternative → List ℕ
 also_line path p x = front_words (codes "also ") path ++ (told_move p x.played x.value ++ (time_words x.time ++ codes "\n"))
 
 -- `refuted 0.0.1 Kd8 win 3`
-unfoldable pub refuted_line : List ℕ → Position → Continuation → List ℕ
+unfoldable pub refuted_line : List ℕ → Position → EvaluatedMove → List ℕ
 refuted_line path p x = front_words (codes "refuted ") path ++ (told_move p x.played x.value ++ codes "\n")
 
 unfoldable pub stalemate_line : List ℕ → List ℕ
@@ -60,20 +60,20 @@ missing_line path p y =
     front_words (codes "missing ") path ++ (told_move p y.played y.value ++ (answers_words (after p y.played) y.answers y.only ++ codes "\n"))
 
 -- moves played one after the other, each after a space
-abbrev pub play_words : Position → List Continuation → List ℕ
+abbrev pub play_words : Position → List EvaluatedMove → List ℕ
 play_words p [] = []
 play_words p (x ∷ xs) = codes " " ++ (move_text p x.played ++ play_words (after p x.played) xs)
 
 -- `play 6 loss 4 Kb8 Qa1 Kc8 Qa8#`
-unfoldable pub play_line : List ℕ → Position → Value → List Continuation → List ℕ
+unfoldable pub play_line : List ℕ → Position → Value → List EvaluatedMove → List ℕ
 play_line path p v list = front_words (codes "play ") path ++ (value_words v ++ (play_words p list ++ codes "\n"))
 
 -- moves of one position, each after a space
-unfoldable pub move_words : Position → Continuation → List ℕ
+unfoldable pub move_words : Position → EvaluatedMove → List ℕ
 move_words p x = codes " " ++ move_text p x.played
 
--- `keep 1.0.0 2 2 Ka5 Ka7`
-unfoldable pub keep_line : List ℕ → Position → List Continuation → List ℕ
+-- `push_if_wanted 1.0.0 2 2 Ka5 Ka7`
+unfoldable pub keep_line : List ℕ → Position → List EvaluatedMove → List ℕ
 keep_line path p list =
     front_words (codes "keep ") path
     ++ (decimal (length list) ++ (codes " " ++ (decimal (length (legal_list p)) ++ (flat_map (move_words p) list ++ codes "\n"))))

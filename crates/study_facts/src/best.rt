@@ -4,18 +4,18 @@ ghost use Rattle.std.specs.List.{All};
 ghost use Rattle.arrayvec.specs.ArrayVec.{array_vec_len};
 ghost use Rattle.study_values.specs.Values.{IsNotDamage};
 ghost use Rattle.study_marks.specs.Answers.{WereTold, IsFirstFault};
-ghost use Rattle.study_facts.specs.Asked.{HasTold, within};
+ghost use Rattle.study_facts.specs.Asked.{HasProbed, within};
 ghost use Rattle.study_material.specs.declared.class.Class.{Class as AClass};
 ghost use Rattle.study_moves.specs.Rules.{is_legal, after};
 ghost use Rattle.study_moves.specs.LegalList.{legal_list};
-ghost use Rattle.study_marks.specs.Told.{IsUntold, WasAsked, failures_told};
-ghost use Rattle.study_facts.specs.declared.continuation.Continuation.{Continuation as AContinuation};
+ghost use Rattle.study_marks.specs.Evaluated.{IsProbeFaultOf, ProbeCount, failures_of};
+ghost use Rattle.study_facts.specs.declared.continuation.EvaluatedMove.{EvaluatedMove as AContinuation};
 ghost use Rattle.study_facts.specs.Continuations.{AreChosen};
 ghost use Rattle.study_facts.specs.Best.{is_better, better_of, first_best, IsBestMove, IsBestPlay, IsFirstBestMove};
 ghost use Rattle.study_moves.specs.Game.{HasNoMove};
 ghost use Rattle.study_facts.specs.Play.{ArePlayed};
 
-use crate::continuation::Continuation;
+use crate::continuation::EvaluatedMove;
 use arrayvec::ArrayVec;
 use study_board::Position;
 use study_moves::{Move, legal_moves, played, values_are_unique};
@@ -35,7 +35,7 @@ fn is_better(v: Value, w: Value) -> bool
 }
 
 /// The move, unless the best of the later ones is better.
-pub fn better_of(x: Continuation, later: Option<Continuation>) -> Continuation
+pub fn better_of(x: EvaluatedMove, later: Option<EvaluatedMove>) -> EvaluatedMove
     ensures { result ≡ better_of x later }
 {
     match later {
@@ -49,16 +49,16 @@ fn best_among<V: Values>(
     p: &Position,
     moves: &[Move],
     values: &mut V,
-) -> Result<Option<Continuation>, ProbeFault>
+) -> Result<Option<EvaluatedMove>, ProbeFault>
     requires { All (λ m. is_legal p.now m ≡ true) moves.now }
     ensures game { V.is_honest values.old → IfOk result (λ best. (list : List AContinuation)
         × AreChosen (λ v. true) p.now moves.now list × (best ≡ first_best list)) }
-    ensures untold { IfErr result (IsUntold (V.held values.old) (map (after p.now) moves.now)) }
+    ensures untold { IfErr result (IsProbeFaultOf (V.held values.old) (map (after p.now) moves.now)) }
     ensures told { OnOk result (WereTold V.gives V.may_fail V.asked_of values.old (map (after p.now) moves.now) values.new) }
     ensures first { IfErr result (λ f. IsFirstFault V.gives V.may_fail V.asked_of values.old (map (after p.now) moves.now) f values.new) }
     ensures no_damage { V.is_honest values.old → IfErr result IsNotDamage }
-    ensures asked { WasAsked (length moves.now) (is_ok result) (V.asked_of values.old) (V.asked_of values.new) }
-    ensures failures { V.failed_of values.new ≡ failures_told result (V.failed_of values.old) }
+    ensures asked { ProbeCount (length moves.now) (is_ok result) (V.asked_of values.old) (V.asked_of values.new) }
+    ensures failures { V.failed_of values.new ≡ failures_of result (V.failed_of values.old) }
     ensures honest { V.is_honest values.old → V.is_honest values.new }
     ensures tables { (c : AClass) → V.held values.new c ≡ V.held values.old c }
     ensures legal { IfOk result (λ best. IfSome best (λ x. is_legal p.now x.played ≡ true)) }
@@ -72,7 +72,7 @@ fn best_among<V: Values>(
                 Ok(value) => match best_among(p, rest, values) {
                     Err(fault) => Err(fault),
                     Ok(later) => {
-                        let first = Continuation { played: *m, value };
+                        let first = EvaluatedMove { played: *m, value };
                         Ok(Some(better_of(first, later)))
                     }
                 },
@@ -85,16 +85,16 @@ fn best_among<V: Values>(
 pub fn best_move<V: Values>(
     p: &Position,
     values: &mut V,
-) -> Result<Option<Continuation>, ProbeFault>
+) -> Result<Option<EvaluatedMove>, ProbeFault>
     ensures game { V.is_honest values.old → IfOk result (IsBestMove p.now) }
     ensures best { V.is_honest values.old → IfOk result (λ best. IfSome best (IsFirstBestMove p.now)) }
     ensures none { V.is_honest values.old → IfOk result (λ best. IfNone best (HasNoMove p.now)) }
-    ensures untold { IfErr result (IsUntold (V.held values.old) (map (after p.now) (legal_list p.now))) }
+    ensures untold { IfErr result (IsProbeFaultOf (V.held values.old) (map (after p.now) (legal_list p.now))) }
     ensures told { OnOk result (WereTold V.gives V.may_fail V.asked_of values.old (map (after p.now) (legal_list p.now)) values.new) }
     ensures first { IfErr result (λ f. IsFirstFault V.gives V.may_fail V.asked_of values.old (map (after p.now) (legal_list p.now)) f values.new) }
     ensures no_damage { V.is_honest values.old → IfErr result IsNotDamage }
-    ensures asked { WasAsked (length (legal_list p.now)) (is_ok result) (V.asked_of values.old) (V.asked_of values.new) }
-    ensures failures { V.failed_of values.new ≡ failures_told result (V.failed_of values.old) }
+    ensures asked { ProbeCount (length (legal_list p.now)) (is_ok result) (V.asked_of values.old) (V.asked_of values.new) }
+    ensures failures { V.failed_of values.new ≡ failures_of result (V.failed_of values.old) }
     ensures honest { V.is_honest values.old → V.is_honest values.new }
     ensures tables { (c : AClass) → V.held values.new c ≡ V.held values.old c }
     ensures legal { IfOk result (λ best. IfSome best (λ x. is_legal p.now x.played ≡ true)) }
@@ -109,15 +109,15 @@ pub fn play_on<V: Values>(
     p: &Position,
     plies: u8,
     values: &mut V,
-    list: &mut ArrayVec<Continuation, 20>,
+    list: &mut ArrayVec<EvaluatedMove, 20>,
 ) -> Result<(), ProbeFault>
     requires { array_vec_len list.old + plies ≤ 20 }
     ensures game { V.is_honest values.old → OnOk result ((play : List AContinuation)
         × IsBestPlay plies p.now play × (list.new.items ≡ list.old.items ++ play)) }
     ensures untold { (c : AClass) → IsErrOf result (ProbeFault.NoTable c) → V.held values.old c ≡ false }
-    ensures told { HasTold (within p.now V.gives) V.may_fail V.asked_of values.old result values.new }
+    ensures told { HasProbed (within p.now V.gives) V.may_fail V.asked_of values.old result values.new }
     ensures no_damage { V.is_honest values.old → IfErr result IsNotDamage }
-    ensures failures { V.failed_of values.new ≡ failures_told result (V.failed_of values.old) }
+    ensures failures { V.failed_of values.new ≡ failures_of result (V.failed_of values.old) }
     ensures honest { V.is_honest values.old → V.is_honest values.new }
     ensures tables { (c : AClass) → V.held values.new c ≡ V.held values.old c }
     ensures legal { OnOk result ((play : List AContinuation) × ArePlayed p.now play × (list.new.items ≡ list.old.items ++ play)) }
@@ -141,12 +141,12 @@ pub fn play_on<V: Values>(
 pub fn best_play<V: Values>(
     p: &Position,
     values: &mut V,
-) -> Result<ArrayVec<Continuation, 20>, ProbeFault>
+) -> Result<ArrayVec<EvaluatedMove, 20>, ProbeFault>
     ensures game { V.is_honest values.old → IfOk result (λ list. IsBestPlay 20 p.now list.items) }
     ensures untold { (c : AClass) → IsErrOf result (ProbeFault.NoTable c) → V.held values.old c ≡ false }
-    ensures told { HasTold (within p.now V.gives) V.may_fail V.asked_of values.old result values.new }
+    ensures told { HasProbed (within p.now V.gives) V.may_fail V.asked_of values.old result values.new }
     ensures no_damage { V.is_honest values.old → IfErr result IsNotDamage }
-    ensures failures { V.failed_of values.new ≡ failures_told result (V.failed_of values.old) }
+    ensures failures { V.failed_of values.new ≡ failures_of result (V.failed_of values.old) }
     ensures honest { V.is_honest values.old → V.is_honest values.new }
     ensures tables { (c : AClass) → V.held values.new c ≡ V.held values.old c }
     ensures legal { IfOk result (λ list. ArePlayed p.now list.items) }

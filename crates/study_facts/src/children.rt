@@ -83,7 +83,7 @@ pub fn children_in<'a, 'b, A: Allocator, B: Allocator>(
 
 /// The number of children of the node, 0 if there is no such node.
 #[inline(never)]
-pub fn count_at<'b, B: Allocator>(bench: &Bench<'b, B>, steps: &[u16]) -> u16
+pub fn child_count<'b, B: Allocator>(bench: &Bench<'b, B>, steps: &[u16]) -> u16
     ensures { result ≡ width (below_at (marked bench.now).tree.below steps.now) }
 {
     match bench.shown(steps) {

@@ -9,19 +9,19 @@ use study_values::Value;
 
 /// A move, and the value of the position after it, for the side to move there.
 #[derive(Clone, Copy, Debug, PartialEq, Eq)]
-pub struct Continuation {
+pub struct EvaluatedMove {
     pub played: Move,
     pub value: Value,
 }
 
-impl Default for Continuation {
+impl Default for EvaluatedMove {
     ghost use Rattle.std.specs.Prelude.{◌≡◌};
     ghost use Rattle.study_values.specs.declared.value.Value.TheVariants.{Draw};
 
     ghost is_default = { λ a. a.value ≡ Draw };
 
     fn default() -> Self {
-        Continuation {
+        EvaluatedMove {
             played: Move::default(),
             value: Value::Draw,
         }
@@ -30,7 +30,7 @@ impl Default for Continuation {
 
 /// A position at a depth of a study, and the stipulation.
 #[derive(Clone, Copy)]
-pub struct Node<'n> {
+pub struct NodeContext<'n> {
     pub aim: &'n Aim,
     pub depth: usize,
     pub position: &'n Position,
@@ -44,7 +44,7 @@ pub fn is_draw(value: Value) -> bool
 
 /// The moves that are wanted: those after which the position holds, those after which it does not, those after which it is drawn, or all.
 #[derive(Clone, Copy, Debug, PartialEq, Eq)]
-pub enum Wanted {
+pub enum MoveFilter {
     Holding,
     Failing,
     Drawing,
@@ -52,14 +52,14 @@ pub enum Wanted {
 }
 
 /// Whether a move from this depth to a position with this value is wanted.
-pub fn is_wanted(wanted: Wanted, aim: &Aim, depth: usize, value: Value) -> bool
+pub fn is_wanted(wanted: MoveFilter, aim: &Aim, depth: usize, value: Value) -> bool
     requires { depth + 1 < 2 ^ 64 }
     ensures { result ≡ is_wanted wanted aim.now depth value }
 {
     match wanted {
-        Wanted::Holding => holds(aim, depth + 1, value),
-        Wanted::Failing => !holds(aim, depth + 1, value),
-        Wanted::Drawing => is_draw(value),
-        Wanted::All => true,
+        MoveFilter::Holding => holds(aim, depth + 1, value),
+        MoveFilter::Failing => !holds(aim, depth + 1, value),
+        MoveFilter::Drawing => is_draw(value),
+        MoveFilter::All => true,
     }
 }

@@ -4,23 +4,23 @@ ghost use Rattle.study_tree.specs.Edits.{width};
 ghost use Rattle.study_marks.specs.Goals.{aim_of};
 ghost use Rattle.study_marks.specs.BenchState.{marked};
 ghost use Rattle.study_marks.specs.FaultSums.{skipped};
-ghost use Rattle.study_facts.specs.Order.{is_empty, none_below};
+ghost use Rattle.study_facts.specs.Order.{is_empty, has_no_grandchild};
 
-use crate::children::count_at;
-use crate::signs::aim_in;
+use crate::children::child_count;
+use crate::mark_tests::aim_in;
 use std::alloc::Allocator;
 use study_marks::{Bench, hero_moves};
 
 /// Whether no child of the root from a place on has a child.
-fn none_below<'b, B: Allocator>(bench: &Bench<'b, B>, place: u16, count: u16) -> bool
+fn has_no_grandchild<'b, B: Allocator>(bench: &Bench<'b, B>, place: u16, count: u16) -> bool
     requires within { place ≤ count }
     requires all { count ≡ width (marked bench.now).tree.below }
-    ensures { result ≡ none_below (skipped place (marked bench.now).tree.below) }
+    ensures { result ≡ has_no_grandchild (skipped place (marked bench.now).tree.below) }
 {
     if place >= count {
         return true;
     }
-    count_at(bench, &[place]) == 0 && none_below(bench, place + 1, count)
+    child_count(bench, &[place]) == 0 && has_no_grandchild(bench, place + 1, count)
 }
 
 /// Whether the solution has no move of the hero.
@@ -28,10 +28,10 @@ pub fn is_empty<'b, B: Allocator>(bench: &Bench<'b, B>) -> bool
     ensures { result ≡ is_empty (aim_of (marked bench.now)).hero_first (marked bench.now).tree.below }
 {
     let aim = aim_in(bench);
-    let count = count_at(bench, &[]);
+    let count = child_count(bench, &[]);
     if hero_moves(&aim, 0) {
         count == 0
     } else {
-        none_below(bench, 0, count)
+        has_no_grandchild(bench, 0, count)
     }
 }

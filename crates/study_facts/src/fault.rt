@@ -18,7 +18,7 @@ pub enum ReviewFault {
 
 /// Why the text of a review is not made.
 #[derive(Clone, Copy, Debug, PartialEq, Eq)]
-pub enum NotMade {
+pub enum TextFault {
     OutOfMemory,
     Untold(ProbeFault),
 }
@@ -34,49 +34,49 @@ impl From<DeviceFailed> for ReviewFault {
     }
 }
 
-impl From<NotMade> for ReviewFault {
+impl From<TextFault> for ReviewFault {
     ghost use Rattle.std.specs.Prelude.{◌≡◌};
     ghost use Rattle.study_facts.specs.Made.{fault_of};
 
     ghost from_gives = { λ reason fault. fault ≡ fault_of reason };
 
-    fn from(reason: NotMade) -> ReviewFault {
+    fn from(reason: TextFault) -> ReviewFault {
         match reason {
-            NotMade::OutOfMemory => ReviewFault::OutOfMemory,
-            NotMade::Untold(untold) => ReviewFault::Values(untold),
+            TextFault::OutOfMemory => ReviewFault::OutOfMemory,
+            TextFault::Untold(untold) => ReviewFault::Values(untold),
         }
     }
 }
 
-impl From<AllocError> for NotMade {
+impl From<AllocError> for TextFault {
     ghost use Rattle.std.specs.Prelude.{◌≡◌};
-    ghost use Rattle.study_facts.specs.declared.fault.NotMade.TheVariants.{OutOfMemory};
+    ghost use Rattle.study_facts.specs.declared.fault.TextFault.TheVariants.{OutOfMemory};
 
     ghost from_gives = { λ _ reason. reason ≡ OutOfMemory };
 
-    fn from(_error: AllocError) -> NotMade {
-        NotMade::OutOfMemory
+    fn from(_error: AllocError) -> TextFault {
+        TextFault::OutOfMemory
     }
 }
 
-impl<T: Drop> From<AllocFailed<T>> for NotMade {
+impl<T: Drop> From<AllocFailed<T>> for TextFault {
     ghost use Rattle.std.specs.Prelude.{◌≡◌};
-    ghost use Rattle.study_facts.specs.declared.fault.NotMade.TheVariants.{OutOfMemory};
+    ghost use Rattle.study_facts.specs.declared.fault.TextFault.TheVariants.{OutOfMemory};
 
     ghost from_gives = { λ _ reason. reason ≡ OutOfMemory };
 
-    fn from(_failed: AllocFailed<T>) -> NotMade {
-        NotMade::OutOfMemory
+    fn from(_failed: AllocFailed<T>) -> TextFault {
+        TextFault::OutOfMemory
     }
 }
 
-impl From<ProbeFault> for NotMade {
+impl From<ProbeFault> for TextFault {
     ghost use Rattle.std.specs.Prelude.{◌≡◌};
-    ghost use Rattle.study_facts.specs.declared.fault.NotMade.TheVariants.{Untold};
+    ghost use Rattle.study_facts.specs.declared.fault.TextFault.TheVariants.{Untold};
 
     ghost from_gives = { λ untold reason. reason ≡ Untold untold };
 
-    fn from(untold: ProbeFault) -> NotMade {
-        NotMade::Untold(untold)
+    fn from(untold: ProbeFault) -> TextFault {
+        TextFault::Untold(untold)
     }
 }

@@ -15,21 +15,21 @@ use study_marks::{Aim, Bench, Goal, aim_of};
 use study_moves::{Move, played};
 
 /// Positions from the root of a study on; a study has at most 256 plies.
-pub type Line = ArrayVec<Position, 257>;
+pub type PositionHistory = ArrayVec<Position, 257>;
 
 /// The place of a node of a study: the stipulation, the node's depth in plies, its position, and the positions from the root to it, both included.
 #[derive(Drop)]
-pub struct Place {
+pub struct NodePosition {
     pub aim: Aim,
     pub depth: usize,
     pub position: Position,
-    pub line: Line,
+    pub line: PositionHistory,
 }
 
 /// A move of a study: the place of the node before it, and the move.
 #[derive(Drop)]
-pub struct Made {
-    pub before: Place,
+pub struct MoveContext {
+    pub before: NodePosition,
     pub played: Move,
 }
 
@@ -44,7 +44,11 @@ pub fn move_to<'b, B: Allocator>(bench: &Bench<'b, B>, steps: &[u16]) -> Option<
 }
 
 /// Adds the positions from the root to the node, and returns the node's own.
-fn walk_to<'b, B: Allocator>(bench: &Bench<'b, B>, steps: &[u16], line: &mut Line) -> Position
+fn positions_to<'b, B: Allocator>(
+    bench: &Bench<'b, B>,
+    steps: &[u16],
+    line: &mut PositionHistory,
+) -> Position
     requires found { IsTrue (has_spot (marked bench.now).tree steps.now) }
     requires shallow { length steps.now ≤ 256 }
     requires empty { line.old.items ≡ [] }
@@ -88,13 +92,13 @@ pub fn position_in<'b, B: Allocator>(bench: &Bench<'b, B>, steps: &[u16]) -> Pos
     here
 }
 
-impl Place {
+impl NodePosition {
     /// A place with an empty line, for `fill_place` to write over.
     #[inline(never)]
     pub fn new() -> Self
         ensures { result.line.items ≡ [] }
     {
-        Place {
+        NodePosition {
             aim: Aim {
                 goal: Goal::Draw,
                 hero_first: true,
@@ -106,14 +110,14 @@ impl Place {
     }
 }
 
-impl Made {
+impl MoveContext {
     /// A move with an empty line, for `fill_made` to write over.
     #[inline(never)]
     pub fn new() -> Self
         ensures { result.before.line.items ≡ [] }
     {
-        Made {
-            before: Place::new(),
+        MoveContext {
+            before: NodePosition::new(),
             played: Move::default(),
         }
     }
@@ -122,7 +126,11 @@ impl Made {
 /// Writes the place of the node at the path where the caller keeps it, and returns whether there is such a node. A line is long, so a caller for
 /// whom the stack matters keeps one place, and this makes no copy of it.
 #[inline(never)]
-pub fn fill_place<'b, B: Allocator>(bench: &Bench<'b, B>, steps: &[u16], place: &mut Place) -> bool
+pub fn fill_place<'b, B: Allocator>(
+    bench: &Bench<'b, B>,
+    steps: &[u16],
+    place: &mut NodePosition,
+) -> bool
     requires { place.old.line.items ≡ [] }
     ensures none { result ≡ false → spot_at (marked bench.now).tree steps.now ≡ None }
     ensures some { result ≡ true → IsSome (spot_at (marked bench.now).tree steps.now) }
@@ -132,7 +140,7 @@ pub fn fill_place<'b, B: Allocator>(bench: &Bench<'b, B>, steps: &[u16], place: 
     match bench.shown(steps) {
         None => false,
         Some(_) => {
-            place.position = walk_to(bench, steps, &mut place.line);
+            place.position = positions_to(bench, steps, &mut place.line);
             let stipulation = bench.stipulation();
             place.aim = aim_of(&stipulation, first.position.to_move());
             place.depth = steps.len();
@@ -144,7 +152,11 @@ pub fn fill_place<'b, B: Allocator>(bench: &Bench<'b, B>, steps: &[u16], place: 
 /// Writes the move that led to the node at the path, and the place of the node before it, where the caller keeps them; returns whether there is such
 /// a node, other than the root.
 #[inline(never)]
-pub fn fill_made<'b, B: Allocator>(bench: &Bench<'b, B>, steps: &[u16], made: &mut Made) -> bool
+pub fn fill_made<'b, B: Allocator>(
+    bench: &Bench<'b, B>,
+    steps: &[u16],
+    made: &mut MoveContext,
+) -> bool
     requires { made.old.before.line.items ≡ [] }
     ensures none { result ≡ false → played_by (spot_at (marked bench.now).tree steps.now) ≡ None }
     ensures made { result ≡ true → IsMadeIn (marked bench.now) steps.now made.new }
@@ -165,12 +177,15 @@ pub fn fill_made<'b, B: Allocator>(bench: &Bench<'b, B>, steps: &[u16], made: &m
 
 /// The place of the node at the path, `None` if there is no such node.
 #[inline(never)]
-pub fn place_in<'b, B: Allocator>(bench: &Bench<'b, B>, steps: &[u16]) -> Option<Place>
+pub fn node_position_at<'b, B: Allocator>(
+    bench: &Bench<'b, B>,
+    steps: &[u16],
+) -> Option<NodePosition>
     ensures none { IfNone result (spot_at (marked bench.now).tree steps.now ≡ None) }
     ensures some { IfSome result (λ _. IsSome (spot_at (marked bench.now).tree steps.now)) }
     ensures place { IfSome result (IsPlaceOf (marked bench.now) steps.now) }
 {
-    let mut place = Place::new();
+    let mut place = NodePosition::new();
     if fill_place(bench, steps, &mut place) {
         Some(place)
     } else {
@@ -180,12 +195,12 @@ pub fn place_in<'b, B: Allocator>(bench: &Bench<'b, B>, steps: &[u16]) -> Option
 
 /// The move that led to the node at the path, and the place of the node before it; `None` if there is no such node, or it is the root.
 #[inline(never)]
-pub fn made_in<'b, B: Allocator>(bench: &Bench<'b, B>, steps: &[u16]) -> Option<Made>
+pub fn move_context_at<'b, B: Allocator>(bench: &Bench<'b, B>, steps: &[u16]) -> Option<MoveContext>
     ensures none { IfNone result (played_by (spot_at (marked bench.now).tree steps.now) ≡ None) }
     ensures made { IfSome result (IsMadeIn (marked bench.now) steps.now) }
     ensures legal { IfSome result (λ x. is_legal x.before.position x.played ≡ true) }
 {
-    let mut made = Made::new();
+    let mut made = MoveContext::new();
     if fill_made(bench, steps, &mut made) {
         Some(made)
     } else {

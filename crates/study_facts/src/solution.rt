@@ -5,7 +5,7 @@ ghost use Rattle.study_facts.specs.Faults.{in_solution, FaultsAreOfTheSolution};
 use study_marks::{Aim, hero_moves};
 
 /// Whether the rest of a path, from a node at this depth, has only solution steps.
-fn goes_on(aim: &Aim, depth: usize, steps: &[u16]) -> bool
+fn rest_is_solution(aim: &Aim, depth: usize, steps: &[u16]) -> bool
     requires { depth + length steps.now < 2 ^ 64 }
     ensures { result ≡ in_solution aim.now depth steps.now }
 {
@@ -15,7 +15,7 @@ fn goes_on(aim: &Aim, depth: usize, steps: &[u16]) -> bool
             if hero_moves(aim, depth) && *place != 0 {
                 return false;
             }
-            goes_on(aim, depth + 1, rest)
+            rest_is_solution(aim, depth + 1, rest)
         }
     }
 }
@@ -24,7 +24,7 @@ fn goes_on(aim: &Aim, depth: usize, steps: &[u16]) -> bool
 pub fn is_in_solution(aim: &Aim, steps: &[u16]) -> bool
     ensures { result ≡ in_solution aim.now 0 steps.now }
 {
-    goes_on(aim, 0, steps)
+    rest_is_solution(aim, 0, steps)
 }
 
 /// The faults of the solution, listed in written order, are as many as the root counts, and each is reached by solution

@@ -2,13 +2,13 @@
 ghost use Rattle.std.specs.Prelude.{◌≡◌, ◌++◌, ◌+◌, ◌<◌, true, OnOk, decimal};
 ghost use Rattle.study_moves.specs.Rules.{is_legal};
 ghost use Rattle.study_tree.specs.Paths.{path_text, more_places};
-ghost use Rattle.study_notation.specs.Written.{move_text};
+ghost use Rattle.study_notation.specs.SanSpelling.{move_text};
 ghost use Rattle.study_facts.specs.Words.{value_words, front_words};
 ghost use Rattle.study_facts.specs.Words.{move_words, alone_words, time_verdict};
 
-use crate::continuation::{Continuation, Node, is_draw};
-use crate::missing::Defence;
-use crate::time::Alternative;
+use crate::continuation::{EvaluatedMove, NodeContext, is_draw};
+use crate::missing_defences::Defence;
+use crate::time_loss::Alternative;
 use std::alloc::{AllocError, Allocator};
 use study_board::Position;
 use study_marks::holds;
@@ -68,7 +68,7 @@ pub fn add_path<A: Allocator>(text: &mut Text<'_, A>, steps: &[u16]) -> Result<(
 
 /// A kind of line, and a path, with a space after it.
 #[tactic(auto, unfolding(crate::specs::Words::front_words))]
-pub fn add_front<A: Allocator>(
+pub fn add_line_start<A: Allocator>(
     text: &mut Text<'_, A>,
     kind: &[u8],
     steps: &[u16],
@@ -92,7 +92,7 @@ fn add_san<A: Allocator>(text: &mut Text<'_, A>, p: &Position, m: Move) -> Resul
 pub fn add_move<A: Allocator>(
     text: &mut Text<'_, A>,
     p: &Position,
-    x: &Continuation,
+    x: &EvaluatedMove,
 ) -> Result<(), AllocError>
     requires { is_legal p.now x.now.played ≡ true }
     ensures { OnOk result (text.new ≡ text.old ++ move_words p.now x.now) }

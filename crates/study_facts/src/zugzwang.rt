@@ -3,12 +3,12 @@ ghost use Rattle.std.specs.Prelude.{◌≡◌, ◌++◌, ◌<◌, false, OnOk, I
 ghost use Rattle.study_material.specs.declared.class.Class.{Class as AClass};
 ghost use Rattle.study_moves.specs.EnPassant.{has_legal_en_passant};
 ghost use Rattle.study_values.specs.Values.{IsNotDamage};
-ghost use Rattle.study_marks.specs.Told.{failures_told};
+ghost use Rattle.study_marks.specs.Evaluated.{failures_of};
 ghost use Rattle.study_zugzwang.specs.Zugzwang.{Scores, handed_on};
-ghost use Rattle.study_facts.specs.Asked.{HasTold, within};
+ghost use Rattle.study_facts.specs.Asked.{HasProbed, within};
 ghost use Rattle.study_facts.specs.Zugzwang.{IsZugzwangOf, kind_of, zugzwang_words, zugzwang_line};
 
-use crate::words::add_front;
+use crate::words::add_line_start;
 use std::alloc::{AllocError, Allocator};
 use study_board::{Position, Side};
 use study_moves::{has_legal_en_passant, values_are_unique};
@@ -29,9 +29,9 @@ fn score<V: Values>(q: &Position, values: &mut V) -> Result<u8, ProbeFault>
     ensures game { V.is_honest values.old → IfOk result (Scores q.now) }
     ensures few { IfOk result (λ k. k < 3) }
     ensures untold { (c : AClass) → IsErrOf result (ProbeFault.NoTable c) → V.held values.old c ≡ false }
-    ensures told { HasTold (within q.now V.gives) V.may_fail V.asked_of values.old result values.new }
+    ensures told { HasProbed (within q.now V.gives) V.may_fail V.asked_of values.old result values.new }
     ensures no_damage { V.is_honest values.old → IfErr result IsNotDamage }
-    ensures failures { V.failed_of values.new ≡ failures_told result (V.failed_of values.old) }
+    ensures failures { V.failed_of values.new ≡ failures_of result (V.failed_of values.old) }
     ensures honest { V.is_honest values.old → V.is_honest values.new }
     ensures tables { (c : AClass) → V.held values.new c ≡ V.held values.old c }
 {
@@ -70,9 +70,9 @@ fn kind_beside<V: Values>(
     requires few { here < 3 }
     ensures game { Scores p.now here → V.is_honest values.old → IfOk result (IsZugzwangOf p.now) }
     ensures untold { (c : AClass) → IsErrOf result (ProbeFault.NoTable c) → V.held values.old c ≡ false }
-    ensures told { HasTold (within p.now V.gives) V.may_fail V.asked_of values.old result values.new }
+    ensures told { HasProbed (within p.now V.gives) V.may_fail V.asked_of values.old result values.new }
     ensures no_damage { V.is_honest values.old → IfErr result IsNotDamage }
-    ensures failures { V.failed_of values.new ≡ failures_told result (V.failed_of values.old) }
+    ensures failures { V.failed_of values.new ≡ failures_of result (V.failed_of values.old) }
     ensures honest { V.is_honest values.old → V.is_honest values.new }
     ensures tables { (c : AClass) → V.held values.new c ≡ V.held values.old c }
 {
@@ -95,9 +95,9 @@ fn zugzwang_of<V: Values>(
     requires other { q.now ≡ handed_on p.now }
     ensures game { V.is_honest values.old → IfOk result (IsZugzwangOf p.now) }
     ensures untold { (c : AClass) → IsErrOf result (ProbeFault.NoTable c) → V.held values.old c ≡ false }
-    ensures told { HasTold (within p.now V.gives) V.may_fail V.asked_of values.old result values.new }
+    ensures told { HasProbed (within p.now V.gives) V.may_fail V.asked_of values.old result values.new }
     ensures no_damage { V.is_honest values.old → IfErr result IsNotDamage }
-    ensures failures { V.failed_of values.new ≡ failures_told result (V.failed_of values.old) }
+    ensures failures { V.failed_of values.new ≡ failures_of result (V.failed_of values.old) }
     ensures honest { V.is_honest values.old → V.is_honest values.new }
     ensures tables { (c : AClass) → V.held values.new c ≡ V.held values.old c }
 {
@@ -111,9 +111,9 @@ fn zugzwang_of<V: Values>(
 pub fn zugzwang_at<V: Values>(p: &Position, values: &mut V) -> Result<Option<Zugzwang>, ProbeFault>
     ensures game { V.is_honest values.old → IfOk result (IsZugzwangOf p.now) }
     ensures untold { (c : AClass) → IsErrOf result (ProbeFault.NoTable c) → V.held values.old c ≡ false }
-    ensures told { HasTold (within p.now V.gives) V.may_fail V.asked_of values.old result values.new }
+    ensures told { HasProbed (within p.now V.gives) V.may_fail V.asked_of values.old result values.new }
     ensures no_damage { V.is_honest values.old → IfErr result IsNotDamage }
-    ensures failures { V.failed_of values.new ≡ failures_told result (V.failed_of values.old) }
+    ensures failures { V.failed_of values.new ≡ failures_of result (V.failed_of values.old) }
     ensures honest { V.is_honest values.old → V.is_honest values.new }
     ensures tables { (c : AClass) → V.held values.new c ≡ V.held values.old c }
 {
@@ -152,7 +152,7 @@ pub fn add_zugzwang_line<A: Allocator>(
     match zugzwang {
         None => Ok(()),
         Some(zugzwang) => {
-            add_front(text, b"zugzwang ", steps)?;
+            add_line_start(text, b"zugzwang ", steps)?;
             add_zugzwang_words(text, zugzwang)?;
             text.add(b"\n")
         }

@@ -11,7 +11,7 @@ use Rattle.study_facts.specs.Order.{is_empty}
 use Rattle.study_facts.specs.Words.{alone_words, time_verdict}
 use Rattle.study_head.specs.declared.verdict.Stamp.{Stamp}
 use Rattle.study_head.specs.declared.verdict.Stamp.TheVariants.{Wrong, Sound, Holds, Unsound}
-use Rattle.study_head.specs.declared.verdict.Judged.{Judged}
+use Rattle.study_head.specs.declared.verdict.Judgement.{Judgement}
 
 -- by whether the solution has no move of the hero, and how many of its faults lose time alone
 abbrev pub stamp_of : Verdict → Bool → ℕ → Stamp
@@ -52,11 +52,11 @@ count_words Holds = []
 count_words (Unsound faults time) = faults_words faults time
 
 -- where the solution has no move of the hero
-abbrev pub none_given : Bool → List ℕ
-none_given e = if e then codes " No move of the solution was given." else []
+abbrev pub no_solution_words : Bool → List ℕ
+no_solution_words e = if e then codes " No move of the solution was given." else []
 
 unfoldable pub sentence : Bool → Stamp → List ℕ
-sentence e v = holds_words v ++ (count_words v ++ none_given e)
+sentence e v = holds_words v ++ (count_words v ++ no_solution_words e)
 
 unfoldable pub at_start : List ℕ
 at_start = codes "At the start: "
@@ -65,12 +65,12 @@ unfoldable pub start_words : Side → Value → List ℕ
 start_words side v = at_start ++ (value_text side v ++ codes ".")
 
 -- what the stamp says, then the value of the start
-unfoldable pub verdict_words : Judged → List ℕ
+unfoldable pub verdict_words : Judgement → List ℕ
 verdict_words j = sentence j.empty j.stamp ++ (codes " " ++ start_words j.first j.value)
 
 -- what a judge reads of a study of whose faults so many lose time alone
-abbrev pub judged : Study Mark → ℕ → Judged
-judged s time = record {
+abbrev pub judgement_of : Study Mark → ℕ → Judgement
+judgement_of s time = record {
   stamp = stamp_of (verdict s) (is_empty (aim_of s).hero_first s.tree.below) time;
   empty = is_empty (aim_of s).hero_first s.tree.below;
   first = s.start.position.to_move;

@@ -5,7 +5,7 @@ use Rattle.study_board.specs.declared.men.Side.TheVariants.{White, Black}
 use Rattle.study_board.specs.Position.{Position}
 use Rattle.study_moves.specs.declared.moves.Move.{Move}
 use Rattle.study_notation.specs.declared.start.Start.{Start}
-use Rattle.study_notation.specs.Written.{move_text}
+use Rattle.study_notation.specs.SanSpelling.{move_text}
 use Rattle.study_values.specs.declared.value.Value.{Value}
 use Rattle.study_values.specs.declared.value.Value.TheVariants.{Win, Loss, Draw}
 use Rattle.study_pgn.specs.Moves.{move_dots}
@@ -14,13 +14,13 @@ use Rattle.study_pgn.specs.Moves.{move_dots}
 abbrev pub plies_of : ℕ → ℕ
 plies_of d = if nat_lt d 257 then d else 256
 
-abbrev pub half_of : Side → ℕ
-half_of White = 0
-half_of Black = 1
+abbrev pub first_ply_offset : Side → ℕ
+first_ply_offset White = 0
+first_ply_offset Black = 1
 
 -- the number of the move that is made at depth d of a study: it rises after Black's move
 unfoldable pub number_at : Start → ℕ → ℕ
-number_at s d = s.number + (plies_of d + half_of s.position.to_move) / 2
+number_at s d = s.number + (plies_of d + first_ply_offset s.position.to_move) / 2
 
 -- `3. ` or `3... `, before a move of this side
 unfoldable pub front_words : Start → ℕ → Side → List ℕ

@@ -82,7 +82,7 @@ pub fn add_control<A: Allocator>(
 
 /// The position in words.
 #[tactic(auto, unfolding(crate::specs::Diagram::heard_words))]
-fn add_heard<A: Allocator>(text: &mut Text<'_, A>, p: &Position) -> Result<(), AllocError>
+fn add_spoken_position<A: Allocator>(text: &mut Text<'_, A>, p: &Position) -> Result<(), AllocError>
     ensures { OnOk result (text.new ≡ text.old ++ heard_words p.now) }
 {
     text.add(b"White")?;
@@ -116,7 +116,7 @@ pub fn draw_board<'a, A: Allocator>(
     let mut heard = Text::new(alloc);
     let mut said = Html::new(alloc);
     let mut drawn = Html::new(alloc);
-    add_heard(&mut heard, p)?;
+    add_spoken_position(&mut heard, p)?;
     said.say(heard.as_slice())?;
     drawn.put(Element::Said, &said)?;
     drawn.draw(&Drawing::Squares)?;
@@ -137,7 +137,7 @@ pub fn draw_mini<'a, A: Allocator>(
     let mut heard = Text::new(alloc);
     let mut said = Html::new(alloc);
     let mut drawn = Html::new(alloc);
-    add_heard(&mut heard, p)?;
+    add_spoken_position(&mut heard, p)?;
     said.say(heard.as_slice())?;
     drawn.put(Element::Said, &said)?;
     drawn.draw(&Drawing::Squares)?;

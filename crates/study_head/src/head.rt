@@ -8,8 +8,8 @@ ghost use Rattle.study_html.specs.Escape.{said};
 ghost use Rattle.study_head.specs.Known.{known, date_words};
 ghost use Rattle.study_head.specs.Head.{title_words, behind, byline_item, round_words, byline, head, moves_first, men_words, caption, figure};
 
-use crate::counts::add_counts;
 use crate::diagram::{add_control, draw_board};
+use crate::gbr_code::add_counts;
 use crate::known::{date_words, known_tag};
 use std::alloc::{AllocError, Allocator};
 use study_board::{Man, Side};
@@ -44,7 +44,7 @@ pub fn title_words(event: &[u8]) -> &[u8]
 }
 
 /// A dot, where something comes before it.
-fn draw_dot<A: Allocator>(html: &mut Html<'_, A>) -> Result<(), AllocError>
+fn put_separator<A: Allocator>(html: &mut Html<'_, A>) -> Result<(), AllocError>
     ensures { OnOk result (html.new ≡ behind html.old) }
 {
     if html.is_empty() {
@@ -60,7 +60,7 @@ fn say_known<A: Allocator>(html: &mut Html<'_, A>, words: &[u8]) -> Result<(), A
     if words.is_empty() {
         return Ok(());
     }
-    draw_dot(html)?;
+    put_separator(html)?;
     html.say(words)
 }
 

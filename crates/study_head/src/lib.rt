@@ -1,18 +1,19 @@
 //! The head of a study's page: its tags, its diagram, its counts of men, and the words of a move and of a verdict.
 #![tactic(auto)]
 
-mod counts;
 mod diagram;
+mod gbr_code;
 mod head;
 mod known;
 mod verdict;
 mod words;
 
-pub use counts::add_counts;
 pub use diagram::{draw_board, draw_mini};
+pub use gbr_code::add_counts;
 pub use head::{moves_first, put_figure, put_head, title_words};
 pub use known::known_tag;
 pub use verdict::{
-    Judged, Stamp, add_sentence, add_stamp_words, add_start_value, add_verdict_words, judge,
+    Judgement, Stamp, add_sentence, add_stamp_words, add_start_value, add_verdict_words,
+    judgement_of,
 };
-pub use words::{Ply, add_front, add_label, add_short};
+pub use words::{Ply, add_label, add_line_start, add_mate_distance};

@@ -5,14 +5,14 @@ ghost use Rattle.study_marks.specs.Verdict.{verdict};
 ghost use Rattle.study_marks.specs.Study.{Study};
 ghost use Rattle.study_marks.specs.declared.mark.Mark.{Mark as AMark};
 ghost use Rattle.study_facts.specs.Order.{is_empty};
-ghost use Rattle.study_head.specs.Verdict.{stamp_of, stamp_words, none_given, number_words, which_words, lost_words, faults_words};
-ghost use Rattle.study_head.specs.Verdict.{holds_words, count_words, sentence, at_start, start_words, verdict_words, judged};
+ghost use Rattle.study_head.specs.Verdict.{stamp_of, stamp_words, no_solution_words, number_words, which_words, lost_words, faults_words};
+ghost use Rattle.study_head.specs.Verdict.{holds_words, count_words, sentence, at_start, start_words, verdict_words, judgement_of};
 
 use std::alloc::{AllocError, Allocator};
 use study_board::Side;
 use study_facts::{add_alone, add_time_verdict, is_empty};
 use study_marks::{Bench, Mark, Stipulation};
-use study_pgn::{add_value, is_right, root_mark};
+use study_pgn::{add_value, meets_stipulation, root_mark};
 use study_text::Text;
 use study_values::Value;
 
@@ -31,7 +31,7 @@ fn stamp_of(stipulation: &Stipulation, first: Side, root: &Mark, empty: bool, ti
     ensures { (s : Study AMark) → s.stipulation ≡ stipulation.now → s.start.position.to_move ≡ first → s.tree.label ≡ root.now
         → result ≡ stamp_of (verdict s) empty time }
 {
-    if !is_right(stipulation.goal, stipulation.hero == first, root.value) {
+    if !meets_stipulation(stipulation.goal, stipulation.hero == first, root.value) {
         Stamp::Wrong
     } else if root.faults != 0 {
         Stamp::Unsound(root.faults, time)
@@ -60,8 +60,8 @@ pub fn add_stamp_words<A: Allocator>(text: &mut Text<'_, A>, stamp: Stamp) -> Re
     }
 }
 
-fn none_given(empty: bool) -> &'static [u8]
-    ensures { result.now ≡ none_given empty }
+fn no_solution_words(empty: bool) -> &'static [u8]
+    ensures { result.now ≡ no_solution_words empty }
 {
     if empty {
         b" No move of the solution was given."
@@ -145,7 +145,7 @@ pub fn add_sentence<A: Allocator>(
 {
     text.add(holds_words(stamp))?;
     add_count(text, stamp)?;
-    text.add(none_given(empty))
+    text.add(no_solution_words(empty))
 }
 
 #[tactic(auto, unfolding(crate::specs::Verdict::at_start))]
@@ -171,7 +171,7 @@ pub fn add_start_value<A: Allocator>(
 
 /// What a judge reads of a stamp.
 #[derive(Clone, Copy)]
-pub struct Judged {
+pub struct Judgement {
     pub stamp: Stamp,
     pub empty: bool,
     pub first: Side,
@@ -182,13 +182,13 @@ pub struct Judged {
 #[tactic(auto, unfolding(crate::specs::Verdict::verdict_words))]
 pub fn add_verdict_words<A: Allocator>(
     text: &mut Text<'_, A>,
-    judged: &Judged,
+    judgement_of: &Judgement,
 ) -> Result<(), AllocError>
-    ensures { OnOk result (text.new ≡ text.old ++ verdict_words judged.now) }
+    ensures { OnOk result (text.new ≡ text.old ++ verdict_words judgement_of.now) }
 {
-    add_sentence(text, judged.empty, judged.stamp)?;
+    add_sentence(text, judgement_of.empty, judgement_of.stamp)?;
     text.add(b" ")?;
-    add_start_value(text, judged.first, judged.value)
+    add_start_value(text, judgement_of.first, judgement_of.value)
 }
 
 fn stamp_in<'b, B: Allocator>(bench: &Bench<'b, B>, root: &Mark, empty: bool, time: u32) -> Stamp
@@ -204,13 +204,13 @@ fn stamp_in<'b, B: Allocator>(bench: &Bench<'b, B>, root: &Mark, empty: bool, ti
     )
 }
 
-fn judged_at<'b, B: Allocator>(bench: &Bench<'b, B>, root: &Mark, time: u32) -> Judged
+fn judgement_at<'b, B: Allocator>(bench: &Bench<'b, B>, root: &Mark, time: u32) -> Judgement
     requires { root.now ≡ (marked bench.now).tree.label }
-    ensures { result ≡ judged (marked bench.now) time }
+    ensures { result ≡ judgement_of (marked bench.now) time }
 {
     let first = bench.start().position.to_move();
     let empty = is_empty(bench);
-    Judged {
+    Judgement {
         stamp: stamp_in(bench, root, empty, time),
         empty,
         first,
@@ -219,8 +219,8 @@ fn judged_at<'b, B: Allocator>(bench: &Bench<'b, B>, root: &Mark, time: u32) -> 
 }
 
 /// What a judge reads of the study, of whose faults so many lose time alone.
-pub fn judge<'b, B: Allocator>(bench: &Bench<'b, B>, time: u32) -> Judged
-    ensures { result ≡ judged (marked bench.now) time }
+pub fn judgement_of<'b, B: Allocator>(bench: &Bench<'b, B>, time: u32) -> Judgement
+    ensures { result ≡ judgement_of (marked bench.now) time }
 {
-    judged_at(bench, &root_mark(bench), time)
+    judgement_at(bench, &root_mark(bench), time)
 }

@@ -1,7 +1,7 @@
 //! Words of moves and values, as plain text.
 ghost use Rattle.std.specs.Prelude.{◌≡◌, ◌++◌, ◌<◌, true, OnOk};
 ghost use Rattle.study_moves.specs.Rules.{is_legal};
-ghost use Rattle.study_head.specs.Words.{plies_of, half_of, number_at, front_words, minus_where, short_words, label};
+ghost use Rattle.study_head.specs.Words.{plies_of, first_ply_offset, number_at, front_words, minus_where, short_words, label};
 
 use std::alloc::{AllocError, Allocator};
 use study_board::{Position, Side};
@@ -30,7 +30,7 @@ fn add_minus<A: Allocator>(text: &mut Text<'_, A>, minus: bool) -> Result<(), Al
 
 /// In how many moves the hero mates, or is mated after a minus; `=` where it is drawn, and `#` where it is mate. `hero` tells whether
 /// he is to move.
-pub fn add_short<A: Allocator>(
+pub fn add_mate_distance<A: Allocator>(
     text: &mut Text<'_, A>,
     hero: bool,
     value: Value,
@@ -59,8 +59,8 @@ fn plies_of(depth: usize) -> u32
 }
 
 /// One ply where Black moves first.
-fn half_of(side: Side) -> u32
-    ensures half { result ≡ half_of side }
+fn first_ply_offset(side: Side) -> u32
+    ensures half { result ≡ first_ply_offset side }
     ensures few { result < 2 }
 {
     match side {
@@ -74,12 +74,12 @@ fn half_of(side: Side) -> u32
 fn number_at(start: &Start, depth: usize) -> u32
     ensures { result ≡ number_at start.now depth }
 {
-    start.number as u32 + (plies_of(depth) + half_of(start.position.to_move())) / 2
+    start.number as u32 + (plies_of(depth) + first_ply_offset(start.position.to_move())) / 2
 }
 
 /// A number with what follows it, for a move of this side.
 #[tactic(auto, unfolding(crate::specs::Words::front_words))]
-pub fn add_front<A: Allocator>(
+pub fn add_line_start<A: Allocator>(
     text: &mut Text<'_, A>,
     start: &Start,
     depth: usize,
@@ -104,6 +104,6 @@ pub fn add_label<A: Allocator>(
     requires { is_legal p.now m ≡ true }
     ensures { OnOk result (text.new ≡ text.old ++ label start.now depth p.now m) }
 {
-    add_front(text, start, depth, p.to_move())?;
+    add_line_start(text, start, depth, p.to_move())?;
     add_san(text, p, m)
 }

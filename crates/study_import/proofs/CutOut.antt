@@ -15,8 +15,8 @@ use Rattle.study_board.specs.Men.{other_side}
 use Rattle.study_marks.specs.declared.mark.Mark.{Mark}
 use Rattle.study_marks.specs.declared.tag.TagName.TheVariants as name_of
 use Rattle.study_marks.specs.Study.{Study, tag_of}
-use Rattle.study_marks.specs.Edits.{Plainly, is_printable}
-use Rattle.study_pgn.specs.Values.{won_by, result_text}
+use Rattle.study_marks.specs.Edits.{PlainStudy, is_printable}
+use Rattle.study_pgn.specs.Values.{win_of, result_text}
 use Rattle.study_pgn.specs.Tags.{escaped, tag_line, text_or_unknown}
 use Rattle.study_pgn.specs.Pgn.{movetext, pgn_text}
 use Rattle.study_pgn.specs.Wrap.{lines_text}
@@ -348,7 +348,7 @@ setup_kind : (t : List ℕ) → kind_of (tag_line (codes "SetUp") t) ≡ Tag
 unfolding kind_of tag_name tag_line
 setup_kind t = refl
 
-won_few : (side : Side) → length (won_by side) ≤ 60
+won_few : (side : Side) → length (win_of side) ≤ 60
 won_few White = omega arith
 won_few Black = omega arith
 
@@ -528,12 +528,12 @@ texts_cut ss h = all_cut ss 1 h (omega arith)
 studies_of : (ss : List (Study Mark)) → AllByRecursion CanBeMade ss → map (study_of_game None) (map (λ s. Some (pgn_text s)) ss) ≡ map (λ s. Some (unmarked_study s)) ss
 studies_of [] h = refl
 studies_of (s ∷ ss) h =
-    ap (λ (o : Option Plainly). o ∷ map (study_of_game None) (map (λ t. Some (pgn_text t)) ss)) (read_back s h.0)
-    ∙ ap (λ (os : List (Option Plainly)). Some (unmarked_study s) ∷ os) (studies_of ss h.1)
+    ap (λ (o : Option PlainStudy). o ∷ map (study_of_game None) (map (λ t. Some (pgn_text t)) ss)) (read_back s h.0)
+    ∙ ap (λ (os : List (Option PlainStudy)). Some (unmarked_study s) ∷ os) (studies_of ss h.1)
 
 of_texts : (gs : List Game) → map (λ g. study_of_game None g.text) gs ≡ map (study_of_game None) (map text_of gs)
 of_texts [] = refl
-of_texts (g ∷ gs) = ap (λ (os : List (Option Plainly)). study_of_game None g.text ∷ os) (of_texts gs)
+of_texts (g ∷ gs) = ap (λ (os : List (Option PlainStudy)). study_of_game None g.text ∷ os) (of_texts gs)
 
 pub files_back : AreFilesReadBack
 files_back ss h = record {

@@ -18,7 +18,7 @@ use Rattle.study_notation.proofs.MeansLegal.{picked_legal}
 use Rattle.study_tree.specs.Edits.{children_at}
 use Rattle.study_tree.specs.Tree.{has_spot, size_of}
 use Rattle.study_marks.specs.Study.{position_at, place_at}
-use Rattle.study_marks.specs.Edits.{Plainly, inserted, insert_refusal, is_printable}
+use Rattle.study_marks.specs.Edits.{PlainStudy, with_insertion, insert_refusal, is_printable}
 use Rattle.study_games.specs.declared.symbols.Said.{Said}
 use Rattle.study_games.specs.declared.symbols.Said.TheVariants as say
 use Rattle.study_games.specs.Symbols.{said_of, san_in}
@@ -41,19 +41,19 @@ use Rattle.study_import.specs.Insertions.{Insertion, made_by, AllAccepted, lines
 
 -- ---- lists of insertions
 
-made-append : (s : Plainly) (xs ys : List Insertion) → made_by s (xs ++ ys) ≡ made_by (made_by s xs) ys
+made-append : (s : PlainStudy) (xs ys : List Insertion) → made_by s (xs ++ ys) ≡ made_by (made_by s xs) ys
 made-append s [] ys = refl
-made-append s (i ∷ xs) ys = made-append (inserted s i.0 i.1) xs ys
+made-append s (i ∷ xs) ys = made-append (with_insertion s i.0 i.1) xs ys
 
-lines-append : (s : Plainly) (xs ys : List Insertion) → lines_for s (xs ++ ys) ≡ lines_for s xs ++ lines_for (made_by s xs) ys
+lines-append : (s : PlainStudy) (xs ys : List Insertion) → lines_for s (xs ++ ys) ≡ lines_for s xs ++ lines_for (made_by s xs) ys
 lines-append s [] ys = refl
 lines-append s (i ∷ xs) ys =
-    ap (λ (t : List ℕ). insert_line (position_at s i.0) i.0 (Some i.1) ++ t) (lines-append (inserted s i.0 i.1) xs ys)
-    ∙ sym (append_assoc (insert_line (position_at s i.0) i.0 (Some i.1)) (lines_for (inserted s i.0 i.1) xs) (lines_for (made_by (inserted s i.0 i.1) xs) ys))
+    ap (λ (t : List ℕ). insert_line (position_at s i.0) i.0 (Some i.1) ++ t) (lines-append (with_insertion s i.0 i.1) xs ys)
+    ∙ sym (append_assoc (insert_line (position_at s i.0) i.0 (Some i.1)) (lines_for (with_insertion s i.0 i.1) xs) (lines_for (made_by (with_insertion s i.0 i.1) xs) ys))
 
-accepted-append : (A : Type 0) (s : Plainly) (xs ys : List Insertion) → AllAccepted A s xs → AllAccepted A (made_by s xs) ys → AllAccepted A s (xs ++ ys)
+accepted-append : (A : Type 0) (s : PlainStudy) (xs ys : List Insertion) → AllAccepted A s xs → AllAccepted A (made_by s xs) ys → AllAccepted A s (xs ++ ys)
 accepted-append A s [] ys h k = k
-accepted-append A s (i ∷ xs) ys h k = (h.0, accepted-append A (inserted s i.0 i.1) xs ys h.1 k)
+accepted-append A s (i ∷ xs) ys h k = (h.0, accepted-append A (with_insertion s i.0 i.1) xs ys h.1 k)
 
 module _ (A : Type 0) where
   stays : (r now : Reading) → now.study ≡ r.study → now.inserts ≡ r.inserts → Leads A r now
@@ -66,17 +66,17 @@ module _ (A : Type 0) where
   leads_on r mid now a b =
       record {
         insertions = a.insertions ++ b.insertions;
-        accepted = accepted-append A r.study a.insertions b.insertions a.accepted (subst (λ (s : Plainly). AllAccepted A s b.insertions) a.study b.accepted);
-        study = b.study ∙ ap (λ (s : Plainly). made_by s b.insertions) a.study ∙ sym (made-append r.study a.insertions b.insertions);
+        accepted = accepted-append A r.study a.insertions b.insertions a.accepted (subst (λ (s : PlainStudy). AllAccepted A s b.insertions) a.study b.accepted);
+        study = b.study ∙ ap (λ (s : PlainStudy). made_by s b.insertions) a.study ∙ sym (made-append r.study a.insertions b.insertions);
         lines = b.lines ∙ ap (λ (t : List ℕ). t ++ lines_for mid.study b.insertions) a.lines
             ∙ append_assoc r.inserts (lines_for r.study a.insertions) (lines_for mid.study b.insertions)
-            ∙ ap (λ (s : Plainly). r.inserts ++ (lines_for r.study a.insertions ++ lines_for s b.insertions)) a.study
+            ∙ ap (λ (s : PlainStudy). r.inserts ++ (lines_for r.study a.insertions ++ lines_for s b.insertions)) a.study
             ∙ ap (λ (t : List ℕ). r.inserts ++ t) (sym (lines-append r.study a.insertions b.insertions));
       }
 
   -- ---- a move
 
-  refused_none : (s : Plainly) (at : List ℕ) (m : Move) → has_spot s.tree at ≡ true → is_legal (position_at s at) m ≡ true
+  refused_none : (s : PlainStudy) (at : List ℕ) (m : Move) → has_spot s.tree at ≡ true → is_legal (position_at s at) m ≡ true
       → place_at s.tree.below at m ≡ None → nat_le 256 (length at) ≡ false → nat_le 4096 (size_of s.tree) ≡ false
       → insert_refusal {A = A} s at m ≡ None
   refused_none s at m here legal new deep full = rw here (rw legal (rw new (rw deep (rw full refl))))
@@ -102,7 +102,7 @@ module _ (A : Type 0) where
   stepped_leads r m None true full a here legal ep ed ef e = absurd cc
   stepped_leads r m None false true a here legal ep ed ef e = absurd cc
   stepped_leads r m None false false a here legal ep ed ef e =
-      let is : record { study = inserted r.study r.lines.path m; step = record { place = children_at r.study.tree.below r.lines.path; added = Some m } } ≡ a = cc in
+      let is : record { study = with_insertion r.study r.lines.path m; step = record { place = children_at r.study.tree.below r.lines.path; added = Some m } } ≡ a = cc in
       record {
         insertions = (r.lines.path, m) ∷ [];
         accepted = (refused_none r.study r.lines.path m here legal ep ed ef, tt);

@@ -13,7 +13,7 @@ use Rattle.study_marks.specs.Study.{Study, mapped, plain_study, moves_to, positi
 use Rattle.study_marks.specs.declared.refusal.Refusal.{Refusal}
 use Rattle.study_marks.specs.declared.refusal.Refusal.TheVariants as refusal
 use Rattle.study_marks.specs.Queries.{IsOutside}
-use Rattle.study_marks.specs.Edits.{Plainly, inserted, insert_refusal, there}
+use Rattle.study_marks.specs.Edits.{PlainStudy, with_insertion, insert_refusal, there}
 use Rattle.study_import.specs.declared.moves.MoveFault.{MoveFault}
 use Rattle.study_import.specs.declared.moves.MoveFault.TheVariants.{TooDeep, TreeFull}
 use Rattle.study_import.specs.declared.moves.MoveFault.TheVariants.{San, NoSuchNode}
@@ -21,7 +21,7 @@ use Rattle.study_import.specs.declared.moves.Step.{Step}
 use Rattle.study_import.specs.Moves.{After, stepped, moved_by, moved, met, Comes}
 use Rattle.study_notation.specs.declared.fault.SanFault.{SanFault}
 use Rattle.study_notation.specs.Matching.{move_of}
-use Rattle.study_notation.specs.Played.{start_after}
+use Rattle.study_notation.specs.StartAfter.{start_after}
 use Rattle.study_marks.specs.Study.{start_along}
 use Rattle.study_marks.specs.Bench.{start_at}
 
@@ -70,7 +70,7 @@ module _ {A : Type 0} where
   abbrev limits : Option ℕ → Bool → Bool → Option (Refusal A)
   limits place deep full = there place (if deep then Some refusal.TooDeep else (if full then Some refusal.TreeFull else None))
 
-  refusal_is : (s : Plainly) (at : List ℕ) (m : Move) → has_spot s.tree at ≡ true → is_legal (position_at s at) m ≡ true
+  refusal_is : (s : PlainStudy) (at : List ℕ) (m : Move) → has_spot s.tree at ≡ true → is_legal (position_at s at) m ≡ true
       → insert_refusal {A = A} s at m ≡ limits (place_at s.tree.below at m) (nat_le 256 (length at)) (nat_le 4096 (size_of s.tree))
   refusal_is s at m here legal = rw here (rw legal refl)
 
@@ -80,12 +80,12 @@ module _ {A : Type 0} where
   ok_not_err : (r : Result ℕ (Refusal A)) (v : ℕ) (e : Refusal A) → r ≡ Ok v → r ≡ Err e → ⊥
   ok_not_err r v e is was = let both : ◌≡◌ {A = Result ℕ (Refusal A)} (Ok v) (Err e) = sym is ∙ was in absurd cc
 
-  module _ (s : Plainly) (at : List ℕ) (m : Move) (held : Class → Bool) (asked : List Position) (r : Result ℕ (Refusal A)) where
+  module _ (s : PlainStudy) (at : List ℕ) (m : Move) (held : Class → Bool) (asked : List Position) (r : Result ℕ (Refusal A)) where
     abbrev Told : Option ℕ → Bool → Bool → Type 0
     Told place deep full = MatchOption (limits place deep full) (IfErr r (IsOutside held asked)) (λ f. r ≡ Err f)
 
     ok_steps : (place : Option ℕ) (deep full : Bool) (v : ℕ) → Told place deep full → r ≡ Ok v → v ≡ children_at s.tree.below at
-        → stepped s at m place deep full ≡ Ok (record { study = inserted s at m; step = record { place = v; added = Some m } })
+        → stepped s at m place deep full ≡ Ok (record { study = with_insertion s at m; step = record { place = v; added = Some m } })
     ok_steps (Some k) deep full v told is e = absurd (ok_not_err r v _ is told)
     ok_steps None true full v told is e = absurd (ok_not_err r v _ is told)
     ok_steps None false true v told is e = absurd (ok_not_err r v _ is told)
@@ -119,12 +119,12 @@ module _ {L A : Type 0} where
         subst (λ (x : Option (Refusal A)). MatchOption x (IfErr r (IsOutside held asked)) (λ f. r ≡ Err f))
         (refusal_is (plain_study s) at m (has_spot-plain s at ∙ here) (ap (λ (p : Position). is_legal p m) (position_at-plain s at) ∙ legal)) answered
 
-    pub moved_new : (v : ℕ) (new : Plainly) → r ≡ Ok v → v ≡ children_at s.tree.below at → new ≡ inserted (plain_study s) at m
+    pub moved_new : (v : ℕ) (new : PlainStudy) → r ≡ Ok v → v ≡ children_at s.tree.below at → new ≡ with_insertion (plain_study s) at m
         → moved_by (plain_study s) at m ≡ Ok (record { study = new; step = record { place = v; added = Some m } })
     unfolding moved_by
     moved_new v new is place e = rw e (ok_steps (plain_study s) at m held asked r _ _ _ v plainly is (place ∙ sym (children_at-plain s at)))
 
-    pub moved_there : (k : ℕ) (new : Plainly) → r ≡ Err (refusal.AlreadyThere k) → new ≡ plain_study s
+    pub moved_there : (k : ℕ) (new : PlainStudy) → r ≡ Err (refusal.AlreadyThere k) → new ≡ plain_study s
         → moved_by (plain_study s) at m ≡ Ok (record { study = new; step = record { place = k; added = None } })
     unfolding moved_by
     moved_there k new is e = rw e (there_steps (plain_study s) at m held asked r _ _ _ k plainly is)
@@ -177,7 +177,7 @@ module _ {L : Type 0} where
   moved_is s ks san st x is at e = rw (has_spot-plain s ks ∙ is) (ap (λ (p : Position). met (plain_study s) ks (move_of p san)) (position_at-plain s ks ∙ sym at) ∙ ap (met (plain_study s) ks) (sym e))
 
   pub read_at : (s : Study L) (ks san : List ℕ) (m : Move) (st : Start) → has_spot s.tree ks ≡ true → st.position ≡ position_at s ks → Ok m ≡ move_of st.position san
-      → (r : Result Step MoveFault) (new : Plainly) → Comes r (plain_study s) new (moved_by (plain_study s) ks m) → Comes r (plain_study s) new (moved (plain_study s) ks san)
+      → (r : Result Step MoveFault) (new : PlainStudy) → Comes r (plain_study s) new (moved_by (plain_study s) ks m) → Comes r (plain_study s) new (moved (plain_study s) ks san)
   read_at s ks san m st is at e r new h = subst (λ (x : Result After MoveFault). Comes r (plain_study s) new x) (sym (moved_is s ks san st (Ok m) is at e)) h
 
   pub unread_at : (s : Study L) (ks san : List ℕ) (fault : SanFault) (st : Start) → has_spot s.tree ks ≡ true → st.position ≡ position_at s ks → Err fault ≡ move_of st.position san

@@ -19,7 +19,7 @@ use Rattle.study_tree.specs.Edits.{has_node, width}
 use Rattle.study_tree.specs.Tree.{has_spot, size_of}
 use Rattle.study_marks.specs.declared.refusal.Refusal.TheVariants as refusal
 use Rattle.study_marks.specs.Study.{same_move, position_at, place_at, IsPlayable, AreOthers, AreDistinct}
-use Rattle.study_marks.specs.Edits.{Plainly, inserted, there, insert_refusal}
+use Rattle.study_marks.specs.Edits.{PlainStudy, with_insertion, there, insert_refusal}
 use Rattle.study_marks.proofs.StudyEdits.{same_move-refl, IsPlayable-add_last, AreDistinct-add_last}
 use Rattle.study_marks.proofs.DualCounts.{same_move-one}
 use Rattle.study_import.proofs.FewLegal.{few_legal}
@@ -101,7 +101,7 @@ places_few p (more m l b r) (suc k ∷ ks) valid h d e =
 
 -- ---- the effect of an accepted insertion
 
-pub record IsOpen (s : Plainly) (at : List ℕ) (m : Move) : Type 0 where
+pub record IsOpen (s : PlainStudy) (at : List ℕ) (m : Move) : Type 0 where
   pub found : has_spot s.tree at ≡ true
   pub legal : is_legal (position_at s at) m ≡ true
   pub place : place_at s.tree.below at m ≡ None
@@ -118,23 +118,23 @@ module _ (A : Type 0) where
   open_by true true None true full e = absurd cc
   open_by true true None false full e = (refl, refl, refl, refl)
 
-  pub is_open : (s : Plainly) (at : List ℕ) (m : Move) → insert_refusal {A = A} s at m ≡ None → IsOpen s at m
+  pub is_open : (s : PlainStudy) (at : List ℕ) (m : Move) → insert_refusal {A = A} s at m ≡ None → IsOpen s at m
   is_open s at m e =
       let o = open_by (has_spot s.tree at) (is_legal (position_at s at) m) (place_at s.tree.below at m) (nat_le 256 (length at)) (nat_le 4096 (size_of s.tree)) e in
       record { found = o.0; legal = o.1; place = o.2; depth = leb-false 256 (length at) o.3 }
 
 -- a study whose nodes have few children
-pub record IsNarrow (s : Plainly) : Type 0 where
+pub record IsNarrow (s : PlainStudy) : Type 0 where
   pub valid : IsValid s.start.position
   pub playable : IsPlayable s.start.position s.tree.below
   pub distinct : AreDistinct s.tree.below
 
-pub narrow_inserted : (s : Plainly) (at : List ℕ) (m : Move) → IsNarrow s → IsOpen s at m → IsNarrow (inserted s at m)
+pub narrow_inserted : (s : PlainStudy) (at : List ℕ) (m : Move) → IsNarrow s → IsOpen s at m → IsNarrow (with_insertion s at m)
 narrow_inserted s at m n o = record {
   valid = n.valid;
   playable = IsPlayable-add_last s.start.position s.tree.below at m tt n.playable o.legal;
   distinct = AreDistinct-add_last s.tree.below at m tt n.distinct o.place;
 }
 
-pub open_few : (s : Plainly) (at : List ℕ) (m : Move) → IsNarrow s → IsOpen s at m → AllBelow 62 at
+pub open_few : (s : PlainStudy) (at : List ℕ) (m : Move) → IsNarrow s → IsOpen s at m → AllBelow 62 at
 open_few s at m n o = places_few s.start.position s.tree.below at n.valid n.playable n.distinct o.found

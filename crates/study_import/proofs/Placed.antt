@@ -14,7 +14,7 @@ use Rattle.study_tree.specs.Forest.{Forest, none, more}
 use Rattle.study_tree.specs.Edits.{has_node, with_last, add_last, children_at, width}
 use Rattle.study_tree.specs.Tree.{size_of}
 use Rattle.study_marks.specs.Study.{same_move, position_at, place_from, place_at}
-use Rattle.study_marks.specs.Edits.{inserted, is_printable}
+use Rattle.study_marks.specs.Edits.{with_insertion, is_printable}
 use Rattle.study_games.specs.declared.symbols.Said.{Said}
 use Rattle.study_games.specs.declared.symbols.Said.TheVariants as say
 use Rattle.study_games.specs.Symbols.{said_of, san_in}
@@ -143,7 +143,7 @@ stepped_placed r m None true full a h p e = absurd cc
 stepped_placed r m None false true a h p e = absurd cc
 stepped_placed r m None false false a h p e =
     let f = r.study.tree.below in
-    let is : record { study = inserted r.study r.lines.path m; step = record { place = children_at f r.lines.path; added = Some m } } ≡ a = cc in
+    let is : record { study = with_insertion r.study r.lines.path m; step = record { place = children_at f r.lines.path; added = Some m } } ≡ a = cc in
     let g = add_last f r.lines.path m tt in
     subst (λ (x : After). Known x.study.tree.below (r.lines.path ++ x.step.place ∷ []) r.lines.begun r.lines.waiting) is
     (known_on g r.lines.path r.lines.begun r.lines.waiting (children_at f r.lines.path)

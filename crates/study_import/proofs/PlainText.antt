@@ -12,8 +12,8 @@ use Rattle.study_board.specs.Position.{IsValid}
 use Rattle.study_moves.specs.declared.moves.Move.{Move}
 use Rattle.study_moves.specs.Rules.{is_legal}
 use Rattle.study_notation.specs.declared.start.Start.{Start}
-use Rattle.study_notation.specs.Played.{start_after}
-use Rattle.study_notation.specs.Written.{move_text}
+use Rattle.study_notation.specs.StartAfter.{start_after}
+use Rattle.study_notation.specs.SanSpelling.{move_text}
 use Rattle.study_values.specs.declared.value.Value.{Value}
 use Rattle.study_values.specs.declared.value.Value.TheVariants.{Win, Loss, Draw}
 use Rattle.study_tree.specs.Forest.{Forest, none, more, nodes_in}
@@ -24,7 +24,7 @@ use Rattle.study_marks.specs.declared.stipulation.Goal.{Goal}
 use Rattle.study_marks.specs.declared.stipulation.Goal.TheVariants as goal
 use Rattle.study_marks.specs.Verdict.{Verdict, wrong, sound, unsound, verdict}
 use Rattle.study_marks.specs.Study.{Study, IsPlayable}
-use Rattle.study_pgn.specs.Values.{side_name, mates_text, value_text, won_by, result_text}
+use Rattle.study_pgn.specs.Values.{side_name, mates_text, value_text, win_of, result_text}
 use Rattle.study_pgn.specs.Moves.{move_dots, number_text, glyph_text, dual_text, comment_text, words_of_move, following, variations}
 use Rattle.study_pgn.specs.Pgn.{goal_text, stipulation_text, verdict_text, opening_words, opening_text, movetext}
 use Rattle.study_pgn.specs.Wrap.{lines_text}
@@ -177,7 +177,7 @@ verdict_piece wrong = spelled 72 (codes "wrong") refl refl
 verdict_piece sound = spelled 72 (codes "sound") refl refl
 verdict_piece (unsound n) = joined 8 64 (codes "unsound ") (decimal n) (spelled 8 (codes "unsound ") refl refl) (number_piece n)
 
-won_piece : (side : Side) → Piece 7 (won_by side)
+won_piece : (side : Side) → Piece 7 (win_of side)
 won_piece White = spelled 7 (codes "1-0") refl refl
 won_piece Black = spelled 7 (codes "0-1") refl refl
 

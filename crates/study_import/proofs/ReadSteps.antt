@@ -11,7 +11,7 @@ use Rattle.study_tree.specs.Edits.{children_at}
 use Rattle.study_tree.specs.Tree.{has_spot, size_of}
 use Rattle.study_marks.specs.declared.stipulation.Stipulation.{Stipulation}
 use Rattle.study_marks.specs.Study.{position_at, place_at}
-use Rattle.study_marks.specs.Edits.{Plainly, inserted, is_printable}
+use Rattle.study_marks.specs.Edits.{PlainStudy, with_insertion, is_printable}
 use Rattle.study_games.specs.Bytes.{is_digit, begins_symbol, is_symbol_byte}
 use Rattle.study_games.specs.declared.symbols.Said.{Said}
 use Rattle.study_games.specs.declared.symbols.Said.TheVariants as say
@@ -61,18 +61,18 @@ Goes text g rest h = (fresh : Bool) → (f : Bool) × (reads fresh text g ≡ re
 -- ---- the state of a reading
 
 -- after the opening comment, in a line that no null move cuts
-pub record At (s : Plainly) (path : List ℕ) (begun : ℕ) (ws : List Waiting) (o : Option Stipulation) (g : GameRead) : Type 0 where
+pub record At (s : PlainStudy) (path : List ℕ) (begun : ℕ) (ws : List Waiting) (o : Option Stipulation) (g : GameRead) : Type 0 where
   pub study : g.reading.study ≡ s
   pub lines : g.reading.lines ≡ record { path = path; begun = begun; waiting = ws; cut = 0 }
   pub opening : g.notes.opening ≡ o
   pub had : g.notes.has_comment ≡ true
 
-pub record Reached (text rest : List ℕ) (s : Plainly) (path : List ℕ) (begun : ℕ) (ws : List Waiting) (o : Option Stipulation) (g : GameRead) : Type 0 where
+pub record Reached (text rest : List ℕ) (s : PlainStudy) (path : List ℕ) (begun : ℕ) (ws : List Waiting) (o : Option Stipulation) (g : GameRead) : Type 0 where
   pub next : GameRead
   pub goes : Goes text g rest next
   pub at : At s path begun ws o next
 
-pub reached_on : (text mid rest : List ℕ) (s u : Plainly) (p q : List ℕ) (b c : ℕ) (ws vs : List Waiting) (o : Option Stipulation) (g : GameRead)
+pub reached_on : (text mid rest : List ℕ) (s u : PlainStudy) (p q : List ℕ) (b c : ℕ) (ws vs : List Waiting) (o : Option Stipulation) (g : GameRead)
     → Reached text mid s p b ws o g → ((h : GameRead) → At s p b ws o h → Reached mid rest u q c vs o h) → Reached text rest u q c vs o g
 reached_on text mid rest s u p q b c ws vs o g r f =
     let k = f r.next r.at in
@@ -89,7 +89,7 @@ comment_is text rest all =
     let cut = run_cut is_inside text (125 ∷ rest) all refl in
     ap (λ (x : List ℕ). closed x (behind is_inside (text ++ (125 ∷ rest)))) cut.0 ∙ ap (closed text) cut.1
 
-module _ (s : Plainly) (path : List ℕ) (from : ℕ) (ws : List Waiting) (o : Option Stipulation) (g : GameRead) (at : At s path from ws o g) where
+module _ (s : PlainStudy) (path : List ℕ) (from : ℕ) (ws : List Waiting) (o : Option Stipulation) (g : GameRead) (at : At s path from ws o g) where
   -- a token that changes only the notes
   noted_step : (b : ℕ) (bs rest : List ℕ) (t : Token) (n : Notes) → ((fresh : Bool) → lexed fresh b bs ≡ Ok (t, rest))
       → game_taken g t ≡ Ok (record { game = record { reading = g.reading; notes = n }; ended = false }) → n.opening ≡ g.notes.opening → n.has_comment ≡ true
@@ -169,7 +169,7 @@ module _ (s : Plainly) (path : List ℕ) (from : ℕ) (ws : List Waiting) (o : O
 
   same_reading : g.reading ≡ record { study = s; lines = record { path = path; begun = from; waiting = ws; cut = 0 }; inserts = g.reading.inserts }
   same_reading =
-      ap (λ (x : Plainly). record { study = x; lines = g.reading.lines; inserts = g.reading.inserts }) at.study
+      ap (λ (x : PlainStudy). record { study = x; lines = g.reading.lines; inserts = g.reading.inserts }) at.study
       ∙ ap (λ (x : Lines). record { study = s; lines = x; inserts = g.reading.inserts }) at.lines
 
   -- a move that is new at the current node
@@ -186,7 +186,7 @@ module _ (s : Plainly) (path : List ℕ) (from : ℕ) (ws : List Waiting) (o : O
   record Played (r : Result Reading MoveFault) (m : Move) : Type 0 where
     reading : Reading
     is : r ≡ Ok reading
-    study : reading.study ≡ inserted s path m
+    study : reading.study ≡ with_insertion s path m
     lines : reading.lines ≡ record { path = path ++ children_at s.tree.below path ∷ []; begun = from; waiting = ws; cut = 0 }
 
   plays : (inserts text : List ℕ) (m : Move) → IsNew text m
@@ -197,7 +197,7 @@ module _ (s : Plainly) (path : List ℕ) (from : ℕ) (ws : List Waiting) (o : O
       (record { reading = _; is = refl; study = refl; lines = refl })
 
   pub move_step : (b : ℕ) (bs rest : List ℕ) (m : Move) → begins_symbol b ≡ true → list_all is_symbol_byte (b ∷ bs) ≡ true → Stops is_symbol_byte rest → IsNew (b ∷ bs) m
-      → Reached ((b ∷ bs) ++ rest) rest (inserted s path m) (path ++ children_at s.tree.below path ∷ []) from ws o g
+      → Reached ((b ∷ bs) ++ rest) rest (with_insertion s path m) (path ++ children_at s.tree.below path ∷ []) from ws o g
   move_step b bs rest m begins all stops h =
       let p = plays g.reading.inserts (b ∷ bs) m h in
       let played : symbol_played g.reading (b ∷ bs) ≡ Ok p.reading = ap (λ (r : Reading). symbol_played r (b ∷ bs)) same_reading ∙ p.is in
@@ -236,7 +236,7 @@ module _ (s : Plainly) (path : List ℕ) (from : ℕ) (ws : List Waiting) (o : O
       }
 
 -- a variation begins after the node at the path's end
-pub open_step : (s : Plainly) (path : List ℕ) (k from : ℕ) (ws : List Waiting) (o : Option Stipulation) (g : GameRead) → At s (path ++ k ∷ []) from ws o g
+pub open_step : (s : PlainStudy) (path : List ℕ) (k from : ℕ) (ws : List Waiting) (o : Option Stipulation) (g : GameRead) → At s (path ++ k ∷ []) from ws o g
     → (bs : List ℕ) → from ≤ length path → length ws < 256
     → Reached (40 ∷ bs) bs s path (length path) (record { replaced = k; begun = from } ∷ ws) o g
 unfolding begin_line
@@ -259,7 +259,7 @@ open_step s path k from ws o g at bs le few =
     (ap begin_line at.lines ∙ begins) refl
 
 -- a variation ends, and the waiting line continues
-pub close_step : (s : Plainly) (path : List ℕ) (from : ℕ) (w : Waiting) (ws : List Waiting) (o : Option Stipulation) (g : GameRead) → At s path from (w ∷ ws) o g
+pub close_step : (s : PlainStudy) (path : List ℕ) (from : ℕ) (w : Waiting) (ws : List Waiting) (o : Option Stipulation) (g : GameRead) → At s path from (w ∷ ws) o g
     → (bs : List ℕ) → Reached (41 ∷ bs) bs s (take from path ++ w.replaced ∷ []) w.begun ws o g
 unfolding end_line
 close_step s path from w ws o g at bs =

@@ -13,8 +13,8 @@ use Rattle.study_notation.specs.Fen.{start_of}
 use Rattle.study_notation.specs.FenSpelling.{fen_text}
 use Rattle.study_notation.proofs.FenAgain.{start_again}
 use Rattle.study_notation.proofs.FenStarts.{IsRead as IsStart}
-use Rattle.study_notation.specs.Played.{start_after}
-use Rattle.study_notation.specs.Written.{move_text}
+use Rattle.study_notation.specs.StartAfter.{start_after}
+use Rattle.study_notation.specs.SanSpelling.{move_text}
 use Rattle.study_values.specs.declared.value.Value.{Value}
 use Rattle.study_values.specs.declared.value.Value.TheVariants.{Win, Loss, Draw}
 use Rattle.study_tree.specs.Forest.{Forest, none, more, nodes_in}
@@ -26,9 +26,9 @@ use Rattle.study_marks.specs.declared.tag.TagName.{TagName}
 use Rattle.study_marks.specs.declared.tag.TagName.TheVariants as name_of
 use Rattle.study_marks.specs.Verdict.{Verdict, wrong, sound, unsound, verdict}
 use Rattle.study_marks.specs.Study.{Study, tag_of}
-use Rattle.study_marks.specs.Edits.{Plainly, is_printable, is_tag_text}
+use Rattle.study_marks.specs.Edits.{PlainStudy, is_printable, is_tag_text}
 use Rattle.study_command.specs.Parser.{ended, trimmed}
-use Rattle.study_pgn.specs.Values.{side_name, value_text, won_by, result_text}
+use Rattle.study_pgn.specs.Values.{side_name, value_text, win_of, result_text}
 use Rattle.study_pgn.specs.Moves.{move_dots, glyph_text, comment_text, words_of_move, following, variations}
 use Rattle.study_pgn.specs.Tags.{escaped, tag_line, unknown_text, text_or_unknown, user_line, user_lines, tags_text}
 use Rattle.study_pgn.specs.Pgn.{goal_text, stipulation_text, verdict_text, opening_words, opening_text, movetext, pgn_text}
@@ -186,7 +186,7 @@ header_of s =
     ∷ (codes "White", text_or_unknown name_of.White (tag_of s.tags name_of.White)) ∷ (codes "Black", text_or_unknown name_of.Black (tag_of s.tags name_of.Black))
     ∷ (codes "Result", result_text s.start.position.to_move s.tree.label.value) ∷ (codes "FEN", fen_text s.start) ∷ (codes "SetUp", codes "1") ∷ []
 
-won_prints : (side : Side) → Prints (won_by side)
+won_prints : (side : Side) → Prints (win_of side)
 won_prints White = refl
 won_prints Black = refl
 
@@ -291,7 +291,7 @@ record IsResult (w : List ℕ) : Type 0 where
   ink : Ink w
   said : said_of (first ∷ more) ≡ say.Result outcome
 
-won_is : (side : Side) → IsResult (won_by side)
+won_is : (side : Side) → IsResult (win_of side)
 unfolding said_of
 won_is White = record { first = 49; more = codes "-0"; outcome = WhiteWins; text = refl; begins = refl; all = refl; ink = ink_of (codes "1-0") refl; said = refl }
 won_is Black = record { first = 48; more = codes "-1"; outcome = BlackWins; text = refl; begins = refl; all = refl; ink = ink_of (codes "0-1") refl; said = refl }
@@ -314,14 +314,14 @@ symbol_lexed fresh b w rest begins all stops = lexed_is (lexed fresh b (w ++ res
     lexed_is x y e = cc
 
 -- the reading ends with this tree and this stipulation, and there are no moves behind the result
-record EndsWith (x : Result Ended MovesFault) (s : Plainly) (o : Option Stipulation) : Type 0 where
+record EndsWith (x : Result Ended MovesFault) (s : PlainStudy) (o : Option Stipulation) : Type 0 where
   ended_by : Ended
   is : x ≡ Ok ended_by
   study : ended_by.game.reading.study ≡ s
   opening : ended_by.game.notes.opening ≡ o
   quiet : moves_in ended_by.behind ≡ None
 
-result_ends : (s : Plainly) (path : List ℕ) (o : Option Stipulation) (g : GameRead) → At s path 0 [] o g → (w : List ℕ) → IsResult w → (b : ℕ) (rest : List ℕ) → IsGap b
+result_ends : (s : PlainStudy) (path : List ℕ) (o : Option Stipulation) (g : GameRead) → At s path 0 [] o g → (w : List ℕ) → IsResult w → (b : ℕ) (rest : List ℕ) → IsGap b
     → moves_in (b ∷ rest) ≡ None → (fresh : Bool) → EndsWith (reads fresh (w ++ (b ∷ rest)) g) s o
 result_ends s path o g at w r b rest gap quiet fresh =
     let waits = not (length g.reading.lines.waiting == 0) in
@@ -361,7 +361,7 @@ gaps_quiet b c first second =
 -- ---- the movetext
 
 -- after the opening comment
-abbrev start_study : Start → Plainly
+abbrev start_study : Start → PlainStudy
 start_study start = (no_moves start).reading.study
 
 tree_ends : (s : Study Mark) → CanBeMade s → (o : Option Stipulation) (t : List ℕ) → Same (following s.start s.tree.below ++ Ending s) t → (g : GameRead)
@@ -566,4 +566,4 @@ read_back s c =
     ∙ ap (study_aimed s.start all moves.ended_by) (by_comment s all s.start.position.to_move moves.ended_by.game.notes moves.opening)
     ∙ ap (λ (ts : List (Option (List ℕ))). Some (record { start = s.start; stipulation = s.stipulation; tags = ts; tree = moves.ended_by.game.reading.study.tree }))
     (tags_again s c (tags_from lines.then_fresh (text_behind s)))
-    ∙ ap (λ (p : Plainly). Some (record { start = s.start; stipulation = s.stipulation; tags = (unmarked_study s).tags; tree = p.tree })) moves.study
+    ∙ ap (λ (p : PlainStudy). Some (record { start = s.start; stipulation = s.stipulation; tags = (unmarked_study s).tags; tree = p.tree })) moves.study

@@ -22,7 +22,7 @@ use Rattle.study_notation.specs.San.{Fits, kind_text, file_text, rank_text, take
 use Rattle.study_notation.specs.FenSpelling.{square_text}
 use Rattle.study_notation.specs.SanParts.{san_of}
 use Rattle.study_notation.specs.Matching.{picked, meant, move_of}
-use Rattle.study_notation.specs.Written.{gives_file, gives_rank, san_for, check_text, move_text}
+use Rattle.study_notation.specs.SanSpelling.{gives_file, gives_rank, san_for, check_text, move_text}
 use Rattle.study_notation.proofs.SanAgain.{san_again}
 use Rattle.study_notation.proofs.OneMoveAgrees.{alone_matches}
 use Rattle.study_games.specs.Bytes.{is_digit, is_high, begins_symbol, is_symbol_byte}

@@ -9,8 +9,8 @@ use Rattle.study_moves.specs.declared.moves.Move.{Move}
 use Rattle.study_moves.specs.Rules.{is_legal, after}
 use Rattle.study_moves.proofs.AfterMove.{IsValid-after}
 use Rattle.study_notation.specs.declared.start.Start.{Start}
-use Rattle.study_notation.specs.Played.{start_after}
-use Rattle.study_notation.specs.Written.{move_text}
+use Rattle.study_notation.specs.StartAfter.{start_after}
+use Rattle.study_notation.specs.SanSpelling.{move_text}
 use Rattle.study_values.specs.declared.value.Value.{Value}
 use Rattle.study_values.specs.declared.value.Value.TheVariants.{Win, Loss, Draw}
 use Rattle.study_tree.specs.Forest.{Forest, none, more}
@@ -21,7 +21,7 @@ use Rattle.study_marks.specs.declared.stipulation.Goal.{Goal}
 use Rattle.study_marks.specs.declared.stipulation.Goal.TheVariants as goal
 use Rattle.study_marks.specs.Verdict.{Verdict, wrong, sound, unsound, verdict}
 use Rattle.study_marks.specs.Study.{Study, IsPlayable}
-use Rattle.study_pgn.specs.Values.{side_name, mates_text, value_text, won_by, result_text}
+use Rattle.study_pgn.specs.Values.{side_name, mates_text, value_text, win_of, result_text}
 use Rattle.study_pgn.specs.Moves.{move_dots, number_text, glyph_text, dual_text, comment_text, words_of_move, following, variations}
 use Rattle.study_pgn.specs.Pgn.{goal_text, stipulation_text, verdict_text, opening_words, opening_text, movetext}
 use Rattle.study_import.proofs.Ink.{decimal_ink}
@@ -123,7 +123,7 @@ verdict_runs wrong = refl
 verdict_runs sound = refl
 verdict_runs (unsound n) = both true true false (codes "unsound ") (decimal n) refl (number_runs true n)
 
-won_runs : (side : Side) → Runs true (won_by side) false
+won_runs : (side : Side) → Runs true (win_of side) false
 won_runs White = refl
 won_runs Black = refl
 

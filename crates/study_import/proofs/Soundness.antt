@@ -12,7 +12,7 @@ use Rattle.study_notation.specs.declared.fault.FenFault.{FenFault}
 use Rattle.study_notation.specs.declared.fault.SanFault.{SanFault}
 use Rattle.study_notation.specs.Fen.{start_of}
 use Rattle.study_notation.specs.FenSpelling.{fen_text}
-use Rattle.study_notation.specs.Written.{move_text}
+use Rattle.study_notation.specs.SanSpelling.{move_text}
 use Rattle.study_notation.proofs.FenAgain.{start_again}
 use Rattle.study_notation.proofs.FenStarts.{IsRead as IsStart, read_is}
 use Rattle.study_tree.specs.Paths.{path_text}
@@ -22,7 +22,7 @@ use Rattle.study_marks.specs.declared.stipulation.Stipulation.{Stipulation}
 use Rattle.study_marks.specs.declared.tag.TagName.{TagName}
 use Rattle.study_marks.specs.declared.refusal.Refusal.{Refusal}
 use Rattle.study_marks.specs.Study.{tag_name, position_at}
-use Rattle.study_marks.specs.Edits.{Plainly, inserted, tagged}
+use Rattle.study_marks.specs.Edits.{PlainStudy, with_insertion, with_tag}
 use Rattle.study_command.specs.Lines.{script_lines, feed_count}
 use Rattle.study_command.specs.Laws.{IsPlain}
 use Rattle.study_command.specs.declared.command.FenCommand.TheVariants.{Position as PositionWord}
@@ -137,28 +137,28 @@ on_command d line lines a e = ap (λ (x : Asks). after_lines (after_line d x) li
 -- ---- insertions
 
 -- another stipulation, and other tags
-abbrev framed : Plainly → Stipulation → List (Option (List ℕ)) → Plainly
+abbrev framed : PlainStudy → Stipulation → List (Option (List ℕ)) → PlainStudy
 framed s aim tags = record { start = s.start; stipulation = aim; tags = tags; tree = s.tree }
 
-abbrev insert_words_of : Plainly → Insertion → List ℕ
+abbrev insert_words_of : PlainStudy → Insertion → List ℕ
 insert_words_of s i = insert_words (path_text i.0) (move_text (position_at s i.0) i.1)
 
-insert_lines : Plainly → List Insertion → List (List ℕ)
+insert_lines : PlainStudy → List Insertion → List (List ℕ)
 insert_lines s [] = []
-insert_lines s (i ∷ later) = insert_words_of s i ∷ insert_lines (inserted s i.0 i.1) later
+insert_lines s (i ∷ later) = insert_words_of s i ∷ insert_lines (with_insertion s i.0 i.1) later
 
 insert_is : (path san : List ℕ) → codes "insert " ++ (path ++ (codes " " ++ (san ++ codes "\n"))) ≡ fed (insert_words path san)
 insert_is path san = ap (λ (t : List ℕ). codes "insert " ++ t) (sym (append_assoc path (32 ∷ san) (10 ∷ [])))
 
 -- an accepted insertion, as a line
-record IsInsert (s : Plainly) (i : Insertion) : Type 0 where
+record IsInsert (s : PlainStudy) (i : Insertion) : Type 0 where
   path : IsShort 769 (path_text i.0)
   path_some : 0 < length (path_text i.0)
   again : AllBelow 62 i.0
   san : IsShort 9 (move_text (position_at s i.0) i.1)
   san_some : 0 < length (move_text (position_at s i.0) i.1)
 
-is_insert : (s : Plainly) (i : Insertion) → IsNarrow s → IsOpen s i.0 i.1 → IsInsert s i
+is_insert : (s : PlainStudy) (i : Insertion) → IsNarrow s → IsOpen s i.0 i.1 → IsInsert s i
 is_insert s i n o =
     let few = open_few s i.0 i.1 n o in
     let path = path_short i.0 few in
@@ -171,43 +171,43 @@ is_insert s i n o =
       san_some = move_some (position_at s i.0) i.1 o.legal;
     }
 
-insert_line_is : (s : Plainly) (i : Insertion) → IsInsert s i → IsLine (insert_words_of s i)
+insert_line_is : (s : PlainStudy) (i : Insertion) → IsInsert s i → IsLine (insert_words_of s i)
 insert_line_is s i h =
     let path = path_text i.0 in
     let san = move_text (position_at s i.0) i.1 in
     printed_line (insert_words_of s i) (insert_prints path san h.path.ink h.san.ink)
     (omega (arith, length-append path (32 ∷ san), h.path.few, h.san.few))
 
-inserts_spelled : (s : Plainly) (is : List Insertion) → IsNarrow s → AllAccepted (Unit {0}) s is → Spelled (lines_for s is) (insert_lines s is)
+inserts_spelled : (s : PlainStudy) (is : List Insertion) → IsNarrow s → AllAccepted (Unit {0}) s is → Spelled (lines_for s is) (insert_lines s is)
 unfolding insert_lines
 inserts_spelled s [] n h = record { text = refl; each = tt }
 inserts_spelled s (i ∷ later) n h =
     let o = is_open (Unit {0}) s i.0 i.1 h.0 in
-    before (insert_line (position_at s i.0) i.0 (Some i.1)) (lines_for (inserted s i.0 i.1) later) (insert_words_of s i) (insert_lines (inserted s i.0 i.1) later)
+    before (insert_line (position_at s i.0) i.0 (Some i.1)) (lines_for (with_insertion s i.0 i.1) later) (insert_words_of s i) (insert_lines (with_insertion s i.0 i.1) later)
     (insert_is (path_text i.0) (move_text (position_at s i.0) i.1)) (insert_line_is s i (is_insert s i n o))
-    (inserts_spelled (inserted s i.0 i.1) later (narrow_inserted s i.0 i.1 n o) h.1)
+    (inserts_spelled (with_insertion s i.0 i.1) later (narrow_inserted s i.0 i.1 n o) h.1)
 
-insert_read : (s : Plainly) (i : Insertion) → IsInsert s i → ◌≡◌ {A = Asks} (command_of (insert_words_of s i)) (Ok (Some (insert i.0 (move_text (position_at s i.0) i.1))))
+insert_read : (s : PlainStudy) (i : Insertion) → IsInsert s i → ◌≡◌ {A = Asks} (command_of (insert_words_of s i)) (Ok (Some (insert i.0 (move_text (position_at s i.0) i.1))))
 insert_read s i h =
     insert_asked (path_text i.0) (move_text (position_at s i.0) i.1) i.0 h.path.ink h.path_some h.san.ink h.san_some (path_again i.0 h.again)
 
 module _ (aim : Stipulation) (tags : List (Option (List ℕ))) where
-  inserts_done : (s : Plainly) (is : List Insertion) → IsNarrow s → AllAccepted (Unit {0}) s is → AllReadAgain s is
+  inserts_done : (s : PlainStudy) (is : List Insertion) → IsNarrow s → AllAccepted (Unit {0}) s is → AllReadAgain s is
       → after_lines (Some (composed (framed s aim tags))) (insert_lines s is) ≡ Some (composed (framed (made_by s is) aim tags))
   unfolding insert_lines
   inserts_done s [] n h k = refl
   inserts_done s (i ∷ later) n h k =
       let o = is_open (Unit {0}) s i.0 i.1 h.0 in
-      let lines = insert_lines (inserted s i.0 i.1) later in
+      let lines = insert_lines (with_insertion s i.0 i.1) later in
       let old = framed s aim tags in
       on_command (composed old) (insert_words_of s i) lines (Ok (Some (insert i.0 (move_text (position_at s i.0) i.1)))) (insert_read s i (is_insert s i n o))
       ∙ ap (λ (x : Result Move SanFault). after_lines (after_move old i.0 x) lines) k.0
-      ∙ ap (λ (x : Option (Refusal (Unit {0}))). after_lines (unless_refused x (inserted old i.0 i.1)) lines) h.0
-      ∙ inserts_done (inserted s i.0 i.1) later (narrow_inserted s i.0 i.1 n o) h.1 k.1
+      ∙ ap (λ (x : Option (Refusal (Unit {0}))). after_lines (unless_refused x (with_insertion old i.0 i.1)) lines) h.0
+      ∙ inserts_done (with_insertion s i.0 i.1) later (narrow_inserted s i.0 i.1 n o) h.1 k.1
 
-made_start : (s : Plainly) (is : List Insertion) → (made_by s is).start ≡ s.start
+made_start : (s : PlainStudy) (is : List Insertion) → (made_by s is).start ≡ s.start
 made_start s [] = refl
-made_start s (i ∷ later) = made_start (inserted s i.0 i.1) later
+made_start s (i ∷ later) = made_start (with_insertion s i.0 i.1) later
 
 -- ---- tags
 
@@ -237,22 +237,22 @@ module _ (tags : List Pair) where
   tag_read : (name : TagName) → ◌≡◌ {A = Asks} (command_of (tag_words name (text_of name))) (Ok (Some (tag name (text_of name))))
   tag_read name = tag_asked name (text_of name) (text_trimmed name (value_of (tag_name name) tags)) (text_prints name (value_of (tag_name name) tags))
 
-  tagged_by : Plainly → List TagName → Plainly
+  tagged_by : PlainStudy → List TagName → PlainStudy
   tagged_by s [] = s
-  tagged_by s (name ∷ names) = tagged_by (tagged s name (text_of name)) names
+  tagged_by s (name ∷ names) = tagged_by (with_tag s name (text_of name)) names
 
-  tags_done : (s : Plainly) (names : List TagName) → after_lines (Some (composed s)) (tag_lines names) ≡ Some (composed (tagged_by s names))
+  tags_done : (s : PlainStudy) (names : List TagName) → after_lines (Some (composed s)) (tag_lines names) ≡ Some (composed (tagged_by s names))
   unfolding tag_lines tagged_by
   tags_done s [] = refl
   tags_done s (name ∷ names) =
       on_command (composed s) (tag_words name (text_of name)) (tag_lines names) (Ok (Some (tag name (text_of name)))) (tag_read name)
-      ∙ ap (λ (x : Option (Refusal (Unit {0}))). after_lines (unless_refused x (tagged s name (text_of name))) (tag_lines names)) (taken tags name)
-      ∙ tags_done (tagged s name (text_of name)) names
+      ∙ ap (λ (x : Option (Refusal (Unit {0}))). after_lines (unless_refused x (with_tag s name (text_of name))) (tag_lines names)) (taken tags name)
+      ∙ tags_done (with_tag s name (text_of name)) names
 
-  six_set : (start : Start) (aim : Stipulation) (old : List (Option (List ℕ))) (s : Plainly) → length old ≡ 6
+  six_set : (start : Start) (aim : Stipulation) (old : List (Option (List ℕ))) (s : PlainStudy) → length old ≡ 6
       → s ≡ framed (new_study start aim) aim old → tagged_by s six_names ≡ framed (new_study start aim) aim (tag_texts tags)
   unfolding tagged_by
-  six_set start aim (a ∷ b ∷ c ∷ d ∷ e ∷ f ∷ []) s h is = ap (λ (x : Plainly). tagged_by x six_names) is
+  six_set start aim (a ∷ b ∷ c ∷ d ∷ e ∷ f ∷ []) s h is = ap (λ (x : PlainStudy). tagged_by x six_names) is
   six_set start aim [] s h is = absurd (omega arith)
   six_set start aim (a ∷ []) s h is = absurd (omega arith)
   six_set start aim (a ∷ b ∷ []) s h is = absurd (omega arith)
@@ -316,7 +316,7 @@ stipulation_line_is s =
 -- ---- a study
 
 module _ (e : Entry) (start : Start) (aim : Stipulation) (is : List Insertion) where
-  abbrev bare : Plainly
+  abbrev bare : PlainStudy
   bare = (no_moves start).reading.study
 
   lines_of_study : List (List ℕ)
@@ -335,7 +335,7 @@ module _ (e : Entry) (start : Start) (aim : Stipulation) (is : List Insertion) w
       (both (lines_for bare is) (codes "pgn\n\n") (insert_lines bare is) (codes "pgn" ∷ [] ∷ [])
       (inserts_spelled bare is (record { valid = r.valid; playable = tt; distinct = tt }) h) pgn_spelled)))
 
-  pgn_done : (s : Plainly) → after_lines (Some (composed s)) (codes "pgn" ∷ [] ∷ []) ≡ Some (composed s)
+  pgn_done : (s : PlainStudy) → after_lines (Some (composed s)) (codes "pgn" ∷ [] ∷ []) ≡ Some (composed s)
   pgn_done s = on_command (composed s) (codes "pgn") ([] ∷ []) (Ok (Some pgn)) pgn_asked ∙ on_command (composed s) [] [] (Ok None) empty_asked
 
   study_done : (d : Document) → HasSixTags d → IsStart start → IsCounted aim.goal → AllAccepted (Unit {0}) bare is → AllReadAgain bare is
@@ -353,7 +353,7 @@ module _ (e : Entry) (start : Start) (aim : Stipulation) (is : List Insertion) w
       ∙ ap (λ (x : Option Document). after_lines x later) (begun d start aim)
       ∙ after_append (Some (composed old)) (tag_lines tags six_names) behind
       ∙ ap (λ (x : Option Document). after_lines x behind)
-      (tags_done tags old six_names ∙ ap (λ (x : Plainly). Some (composed x)) (six_set tags start aim (tags_held d) old (six_held d six) refl))
+      (tags_done tags old six_names ∙ ap (λ (x : PlainStudy). Some (composed x)) (six_set tags start aim (tags_held d) old (six_held d six) refl))
       ∙ after_append (Some (composed new)) (insert_lines bare is) (codes "pgn" ∷ [] ∷ [])
       ∙ ap (λ (x : Option Document). after_lines x (codes "pgn" ∷ [] ∷ []))
       (inserts_done aim (tag_texts tags) bare is (record { valid = r.valid; playable = tt; distinct = tt }) h k)
@@ -374,13 +374,13 @@ no_pgn_tags tags [] = tt
 no_pgn_tags tags (name ∷ names) =
     (no_pgn_by (tag_words name (text_of tags name)) (Ok (Some (tag name (text_of tags name)))) (tag_read tags name) refl, no_pgn_tags tags names)
 
-no_pgn_inserts : (s : Plainly) (is : List Insertion) → IsNarrow s → AllAccepted (Unit {0}) s is → AllByRecursion IsNoPgn (insert_lines s is)
+no_pgn_inserts : (s : PlainStudy) (is : List Insertion) → IsNarrow s → AllAccepted (Unit {0}) s is → AllByRecursion IsNoPgn (insert_lines s is)
 unfolding insert_lines
 no_pgn_inserts s [] n h = tt
 no_pgn_inserts s (i ∷ later) n h =
     let o = is_open (Unit {0}) s i.0 i.1 h.0 in (
       no_pgn_by (insert_words_of s i) (Ok (Some (insert i.0 (move_text (position_at s i.0) i.1)))) (insert_read s i (is_insert s i n o)) refl,
-      no_pgn_inserts (inserted s i.0 i.1) later (narrow_inserted s i.0 i.1 n o) h.1,
+      no_pgn_inserts (with_insertion s i.0 i.1) later (narrow_inserted s i.0 i.1 n o) h.1,
     )
 
 pgn_behind : (xs ys : List (List ℕ)) → AllByRecursion IsNoPgn xs → IsWritten true ys → IsWritten true (xs ++ ys)
@@ -409,7 +409,7 @@ study_written e start aim is r counted h =
 -- ---- a block
 
 -- a block that leads to this study, or to none
-record Reads (block : Block) (o : Option Plainly) : Type 0 where
+record Reads (block : Block) (o : Option PlainStudy) : Type 0 where
   is_study : block.is_study ≡ is_some o
   lines : List (List ℕ)
   spelled : Spelled block.text lines
@@ -427,7 +427,7 @@ remarks_read t h = record {
   study = λ d six. after_remarks h.lines h.each d;
 }
 
-block_reads : (e : Entry) (start : Start) (aim : Aim) (t : Told) (is : List Insertion) (tree : Plainly) → IsStart start → IsCounted aim.stipulation.goal
+block_reads : (e : Entry) (start : Start) (aim : Aim) (t : Told) (is : List Insertion) (tree : PlainStudy) → IsStart start → IsCounted aim.stipulation.goal
     → AllAccepted (Unit {0}) (no_moves start).reading.study is → AllReadAgain (no_moves start).reading.study is
     → tree ≡ made_by (no_moves start).reading.study is → t.inserts ≡ lines_for (no_moves start).reading.study is
     → Reads (record { text = block_lines e start aim t; is_study = true })
@@ -447,7 +447,7 @@ block_reads e start aim t is tree r counted h k made inserts =
     ≡ record { start = start; stipulation = aim.stipulation; tags = tag_texts (tags_of e.text); tree = tree.tree } =
     ap (λ (x : Start). record { start = x; stipulation = aim.stipulation; tags = tag_texts (tags_of e.text); tree = (made_by (no_moves start).reading.study is).tree })
     (made_start (no_moves start).reading.study is)
-    ∙ ap (λ (x : Plainly). record { start = start; stipulation = aim.stipulation; tags = tag_texts (tags_of e.text); tree = x.tree }) (sym made) in
+    ∙ ap (λ (x : PlainStudy). record { start = start; stipulation = aim.stipulation; tags = tag_texts (tags_of e.text); tree = x.tree }) (sym made) in
     record {
       is_study = refl;
       lines = whole;
@@ -461,7 +461,7 @@ block_reads e start aim t is tree r counted h k made inserts =
           ∙ after_append (Some d) remarks.lines lines
           ∙ ap (λ (o : Option Document). after_lines o lines) (after_remarks remarks.lines remarks.each d)
           ∙ study_done e start aim.stipulation is d six r counted h k
-          ∙ ap (λ (x : Plainly). Some (composed x)) same;
+          ∙ ap (λ (x : PlainStudy). Some (composed x)) same;
     }
 
 -- ---- a game
@@ -519,7 +519,7 @@ game_reads given number game g = sized_reads given number game.line game.text g
 
 -- ---- a tail
 
-under_reads : (remark : List ℕ) (block : Block) (o : Option Plainly) → AreLines IsRemark remark → Reads block o → Reads (under_remark remark block) o
+under_reads : (remark : List ℕ) (block : Block) (o : Option PlainStudy) → AreLines IsRemark remark → Reads block o → Reads (under_remark remark block) o
 under_reads remark block o h r = record {
   is_study = r.is_study;
   lines = h.lines ++ r.lines;

@@ -21,7 +21,7 @@ use Rattle.study_notation.specs.declared.placement.Piece.{Piece}
 use Rattle.study_notation.specs.declared.start.Start.{Start}
 use Rattle.study_notation.specs.San.{kind_text, file_text, rank_text, takes_text, promotion_text, san_text}
 use Rattle.study_notation.specs.FenSpelling.{man_letter, row, run, spelled, rank_field, ranks_text, placement_text, side_text, square_text, passed_text, fen_text}
-use Rattle.study_notation.specs.Written.{gives_file, gives_rank, san_for, check_text, move_text}
+use Rattle.study_notation.specs.SanSpelling.{gives_file, gives_rank, san_for, check_text, move_text}
 use Rattle.study_notation.proofs.FenStarts.{IsRead}
 use Rattle.study_notation.proofs.RowText.{length-placement_text}
 use Rattle.study_tree.specs.Paths.{path_text, more_places}

@@ -12,7 +12,7 @@ use Rattle.study_tree.specs.Tree.{has_spot}
 use Rattle.study_marks.specs.declared.refusal.Refusal.{Refusal}
 use Rattle.study_marks.specs.declared.refusal.Refusal.TheVariants as refusal
 use Rattle.study_marks.specs.Study.{moves_to, position_after, position_at, IsPlayable}
-use Rattle.study_marks.specs.Edits.{Plainly, inserted, insert_refusal}
+use Rattle.study_marks.specs.Edits.{PlainStudy, with_insertion, insert_refusal}
 use Rattle.study_import.specs.Insertions.{Insertion, AllAccepted, AllReadAgain}
 
 abbrev Plain : Type 0
@@ -43,14 +43,14 @@ module _ (A : Type 0) where
   legal_by true false later e = absurd cc
   legal_by true true later e = refl
 
-  legal_accepted : (s : Plainly) (at : List ℕ) (m : Move) → insert_refusal {A = A} s at m ≡ None → is_legal (position_at s at) m ≡ true
+  legal_accepted : (s : PlainStudy) (at : List ℕ) (m : Move) → insert_refusal {A = A} s at m ≡ None → is_legal (position_at s at) m ≡ true
   legal_accepted s at m e = legal_by (has_spot s.tree at) (is_legal (position_at s at) m) _ e
 
-  pub read_again : (s : Plainly) (insertions : List Insertion) → IsValid s.start.position → IsPlayable s.start.position s.tree.below
+  pub read_again : (s : PlainStudy) (insertions : List Insertion) → IsValid s.start.position → IsPlayable s.start.position s.tree.below
       → AllAccepted A s insertions → AllReadAgain s insertions
   read_again s [] valid playable h = tt
   read_again s (i ∷ later) valid playable h =
       let legal = legal_accepted s i.0 i.1 h.0 in (
         move_again (position_at s i.0) i.1 (valid_along s.start.position s.tree.below i.0 valid playable) legal,
-        read_again (inserted s i.0 i.1) later valid (playable_child s.start.position s.tree.below i.0 i.1 legal playable) h.1,
+        read_again (with_insertion s i.0 i.1) later valid (playable_child s.start.position s.tree.below i.0 i.1 legal playable) h.1,
       )

@@ -14,8 +14,8 @@ use Rattle.study_moves.specs.Rules.{is_legal, after}
 use Rattle.study_moves.proofs.AfterMove.{IsValid-after}
 use Rattle.study_notation.specs.declared.start.Start.{Start}
 use Rattle.study_notation.specs.Matching.{move_of}
-use Rattle.study_notation.specs.Played.{start_after}
-use Rattle.study_notation.specs.Written.{move_text}
+use Rattle.study_notation.specs.StartAfter.{start_after}
+use Rattle.study_notation.specs.SanSpelling.{move_text}
 use Rattle.study_values.specs.declared.value.Value.{Value}
 use Rattle.study_values.specs.declared.value.Value.TheVariants.{Win, Loss, Draw}
 use Rattle.study_tree.specs.Forest.{Forest, none, more, nodes_in}
@@ -25,7 +25,7 @@ use Rattle.study_marks.specs.declared.mark.MoveMark.{MoveMark}
 use Rattle.study_marks.specs.declared.mark.MoveMark.TheVariants.{Only, Dual, Idle, Mistake, Reply}
 use Rattle.study_marks.specs.declared.stipulation.Stipulation.{Stipulation}
 use Rattle.study_marks.specs.Study.{moves_to, position_after, position_at, same_move, place_from, IsPlayable, AreOthers, AreDistinct}
-use Rattle.study_marks.specs.Edits.{Plainly, inserted, is_printable}
+use Rattle.study_marks.specs.Edits.{PlainStudy, with_insertion, is_printable}
 use Rattle.study_marks.proofs.DualCounts.{same_move-one}
 use Rattle.study_pgn.specs.Values.{side_name, mates_text, value_text}
 use Rattle.study_pgn.specs.Moves.{move_dots, number_text, glyph_text, dual_text, comment_text, words_of_move, following, variations}
@@ -45,7 +45,7 @@ use Rattle.study_import.proofs.TreeHoles.{Plain, put, put_has, put_here, put_way
 use Rattle.study_import.proofs.ReadSteps.{At, Reached, reached_on, gap_step, dot_step, number_step, glyph_step, comment_step, IsNew, move_step, open_step, close_step, decimal_digits, decimal_some}
 
 -- the study with this tree
-abbrev pub on_tree : Plainly → Plain → Plainly
+abbrev pub on_tree : PlainStudy → Plain → PlainStudy
 on_tree s t = record { start = s.start; stipulation = s.stipulation; tags = s.tags; tree = record { label = tt; below = t } }
 
 -- ---- texts of marks
@@ -112,11 +112,11 @@ unfolding said_of
 said_number ds h = rw h refl
 
 -- equal texts
-text_is : (s : Plainly) (path : List ℕ) (from : ℕ) (ws : List Waiting) (o : Option Stipulation) (g : GameRead) (t u rest : List ℕ) → t ≡ u
+text_is : (s : PlainStudy) (path : List ℕ) (from : ℕ) (ws : List Waiting) (o : Option Stipulation) (g : GameRead) (t u rest : List ℕ) → t ≡ u
     → Reached u rest s path from ws o g → Reached t rest s path from ws o g
 text_is s path from ws o g t u rest e r = subst (λ (x : List ℕ). Reached x rest s path from ws o g) (sym e) r
 
-module _ (s : Plainly) (path : List ℕ) (from : ℕ) (ws : List Waiting) (o : Option Stipulation) where
+module _ (s : PlainStudy) (path : List ℕ) (from : ℕ) (ws : List Waiting) (o : Option Stipulation) where
   -- text that changes neither tree nor line
   abbrev Passes : List ℕ → List ℕ → Type 0
   Passes t rest = (g : GameRead) → At s path from ws o g → Reached t rest s path from ws o g
@@ -219,13 +219,13 @@ module _ (s : Plainly) (path : List ℕ) (from : ℕ) (ws : List Waiting) (o : O
 -- ---- a node
 
 -- a node of a tree, and the start there
-pub record Node (s : Plainly) (f : Plain) (path : List ℕ) (st : Start) : Type 0 where
+pub record Node (s : PlainStudy) (f : Plain) (path : List ℕ) (st : Start) : Type 0 where
   pub here : has_node f path ≡ true
   pub position : position_after s.start.position (moves_to f path) ≡ st.position
   pub valid : IsValid st.position
 
 -- the text of a move that is new below the node, and the rest
-record Moved (s : Plainly) (f : Plain) (path : List ℕ) (x : Plain) (m : Move) (rest t : List ℕ) (from : ℕ) (ws : List Waiting) (o : Option Stipulation) (g : GameRead) : Type 0 where
+record Moved (s : PlainStudy) (f : Plain) (path : List ℕ) (x : Plain) (m : Move) (rest t : List ℕ) (from : ℕ) (ws : List Waiting) (o : Option Stipulation) (g : GameRead) : Type 0 where
   back : List ℕ
   same : Same rest back
   reached : Reached t back (on_tree s (put f path (with_last m tt x))) (path ++ width x ∷ []) from ws o g
@@ -234,7 +234,7 @@ gap_stops : (b : ℕ) → IsGap b → is_symbol_byte b ≡ false
 gap_stops b (inl e) = rw e refl
 gap_stops b (inr e) = rw e refl
 
-module _ (s : Plainly) (f : Plain) (path : List ℕ) (st : Start) (node : Node s f path st) (from : ℕ) (ws : List Waiting) (o : Option Stipulation) where
+module _ (s : PlainStudy) (f : Plain) (path : List ℕ) (st : Start) (node : Node s f path st) (from : ℕ) (ws : List Waiting) (o : Option Stipulation) where
   move_moves : (x : Plain) (m : Move) (rest : List ℕ) → is_legal st.position m ≡ true → place_from 0 m x ≡ None → length path < 256 → nodes_in (put f path x) + 2 ≤ 4096
       → Stops is_symbol_byte rest → (g : GameRead) → At (on_tree s (put f path x)) path from ws o g
       → Reached (move_text st.position m ++ rest) rest (on_tree s (put f path (with_last m tt x))) (path ++ width x ∷ []) from ws o g
@@ -254,12 +254,12 @@ module _ (s : Plainly) (f : Plain) (path : List ℕ) (st : Start) (node : Node s
         room = omega (arith, room);
       } in
       let step = move_step t path from ws o g at text.first text.rest rest m text.begins text.all stops is_new in
-      let tree : inserted t path m ≡ on_tree s (put f path (with_last m tt x)) = ap (on_tree s) (put_last x f path m node.here) in
+      let tree : with_insertion t path m ≡ on_tree s (put f path (with_last m tt x)) = ap (on_tree s) (put_last x f path m node.here) in
       let child : children_at (put f path x) path ≡ width x = put_width x f path node.here in
       text_is (on_tree s (put f path (with_last m tt x))) (path ++ width x ∷ []) from ws o g (move_text st.position m ++ rest) ((text.first ∷ text.rest) ++ rest) rest
       (ap (λ (w : List ℕ). w ++ rest) text.text)
       (subst (λ (k : ℕ). Reached ((text.first ∷ text.rest) ++ rest) rest (on_tree s (put f path (with_last m tt x))) (path ++ k ∷ []) from ws o g) child
-      (subst (λ (u : Plainly). Reached ((text.first ∷ text.rest) ++ rest) rest u (path ++ children_at (put f path x) path ∷ []) from ws o g) tree step))
+      (subst (λ (u : PlainStudy). Reached ((text.first ∷ text.rest) ++ rest) rest u (path ++ children_at (put f path x) path ∷ []) from ws o g) tree step))
 
   words_move : (x : Plain) (m : Move) (mark : Mark) (rest t : List ℕ) → is_legal st.position m ≡ true → place_from 0 m x ≡ None → length path < 256
       → nodes_in (put f path x) + 2 ≤ 4096 → Same (words_of_move st m mark ++ rest) t → (g : GameRead) → At (on_tree s (put f path x)) path from ws o g
@@ -309,7 +309,7 @@ module _ (s : Plainly) (f : Plain) (path : List ℕ) (st : Start) (node : Node s
 -- ---- trees
 
 -- the text after a node was read: its nodes are below it
-pub record Followed (s : Plainly) (f : Plain) (path : List ℕ) (x : Plain) (rest t : List ℕ) (from : ℕ) (ws : List Waiting) (o : Option Stipulation) (g : GameRead) : Type 0 where
+pub record Followed (s : PlainStudy) (f : Plain) (path : List ℕ) (x : Plain) (rest t : List ℕ) (from : ℕ) (ws : List Waiting) (o : Option Stipulation) (g : GameRead) : Type 0 where
   pub back : List ℕ
   pub same : Same rest back
   pub way : List ℕ
@@ -328,18 +328,18 @@ NoneOf : Plain → Plain → Type 0
 NoneOf x none = Unit {0}
 NoneOf x (more m l b r) = (place_from 0 m x ≡ None) × NoneOf x r
 
-record Varied (s : Plainly) (f : Plain) (path : List ℕ) (x : Plain) (rest t : List ℕ) (from : ℕ) (ws : List Waiting) (o : Option Stipulation) (g : GameRead) : Type 0 where
+record Varied (s : PlainStudy) (f : Plain) (path : List ℕ) (x : Plain) (rest t : List ℕ) (from : ℕ) (ws : List Waiting) (o : Option Stipulation) (g : GameRead) : Type 0 where
   back : List ℕ
   same : Same rest back
   reached : Reached t back (on_tree s (put f path x)) (path ++ 0 ∷ []) from ws o g
 
 abbrev pub FollowOk : Forest Mark → Type 0
-FollowOk t = (s : Plainly) (f : Plain) (path : List ℕ) (st : Start) (from : ℕ) (ws : List Waiting) (o : Option Stipulation) (d : ℕ) (rest text : List ℕ)
+FollowOk t = (s : PlainStudy) (f : Plain) (path : List ℕ) (st : Start) (from : ℕ) (ws : List Waiting) (o : Option Stipulation) (d : ℕ) (rest text : List ℕ)
     → Node s f path st → IsPlayable st.position (plainly t) → AreDistinct (plainly t) → Limits f path none (plainly t) from ws d
     → Same (following st t ++ rest) text → (g : GameRead) → At (on_tree s (put f path none)) path from ws o g → Followed s f path (plainly t) rest text from ws o g
 
 abbrev VaryOk : Forest Mark → Type 0
-VaryOk t = (s : Plainly) (f : Plain) (path : List ℕ) (st : Start) (from : ℕ) (ws : List Waiting) (o : Option Stipulation) (d : ℕ) (x : Plain) (rest text : List ℕ)
+VaryOk t = (s : PlainStudy) (f : Plain) (path : List ℕ) (st : Start) (from : ℕ) (ws : List Waiting) (o : Option Stipulation) (d : ℕ) (x : Plain) (rest text : List ℕ)
     → Node s f path st → IsPlayable st.position (plainly t) → AreDistinct (plainly t) → NoneOf x (plainly t) → Limits f path x (plainly t) from ws d
     → Same (variations st t ++ rest) text → (g : GameRead) → At (on_tree s (put f path x)) (path ++ 0 ∷ []) from ws o g
     → Varied s f path (beside x (plainly t)) rest text from ws o g
@@ -363,7 +363,7 @@ first_others m none h = tt
 first_others m (more n l b r) h = (one_place m n (false_from_ne_true (same_move n m) (λ e. h.0 (sym (same_move-one n m e)))), first_others m r h.1)
 
 -- the child of a node that was just made
-child_node : (s : Plainly) (f : Plain) (path : List ℕ) (st : Start) (x : Plain) (k : ℕ) (m : Move) → Node s f path st → is_legal st.position m ≡ true
+child_node : (s : PlainStudy) (f : Plain) (path : List ℕ) (st : Start) (x : Plain) (k : ℕ) (m : Move) → Node s f path st → is_legal st.position m ≡ true
     → has_node x (k ∷ []) ≡ true → moves_to x (k ∷ []) ≡ m ∷ [] → Node s (put f path x) (path ++ k ∷ []) (start_after st m)
 unfolding start_after
 child_node s f path st x k m node legal has moves = record {
@@ -389,19 +389,19 @@ vary_none s f path st from ws o d x rest text node playable distinct apart limit
 }
 
 -- one after the other
-joined : (t mid rest : List ℕ) (s u : Plainly) (p q : List ℕ) (b c : ℕ) (ws vs : List Waiting) (o : Option Stipulation) (g : GameRead) (r : Reached t mid s p b ws o g)
+joined : (t mid rest : List ℕ) (s u : PlainStudy) (p q : List ℕ) (b c : ℕ) (ws vs : List Waiting) (o : Option Stipulation) (g : GameRead) (r : Reached t mid s p b ws o g)
     → Reached mid rest u q c vs o r.next → Reached t rest u q c vs o g
 joined t mid rest s u p q b c ws vs o g r k =
     record { next = k.next; goes = λ fresh. let x = r.goes fresh in let y = k.goes x.0 in (y.0, x.1 ∙ y.1); at = k.at }
 
 -- the same with another name for the text, the tree or the path
-renamed : (t u rest : List ℕ) (s : Plainly) (x y : Plain) (p q : List ℕ) (b : ℕ) (ws : List Waiting) (o : Option Stipulation) (g : GameRead) → t ≡ u → x ≡ y → p ≡ q
+renamed : (t u rest : List ℕ) (s : PlainStudy) (x y : Plain) (p q : List ℕ) (b : ℕ) (ws : List Waiting) (o : Option Stipulation) (g : GameRead) → t ≡ u → x ≡ y → p ≡ q
     → Reached u rest (on_tree s x) p b ws o g → Reached t rest (on_tree s y) q b ws o g
 renamed t u rest s x y p q b ws o g e f h r =
     subst (λ (z : List ℕ). Reached z rest (on_tree s y) q b ws o g) (sym e)
     (subst (λ (z : Plain). Reached u rest (on_tree s z) q b ws o g) f (subst (λ (z : List ℕ). Reached u rest (on_tree s x) z b ws o g) h r))
 
-pub retold : (s : Plainly) (x y : Plain) (p q : List ℕ) (b : ℕ) (ws : List Waiting) (o : Option Stipulation) (g : GameRead) → x ≡ y → p ≡ q
+pub retold : (s : PlainStudy) (x y : Plain) (p q : List ℕ) (b : ℕ) (ws : List Waiting) (o : Option Stipulation) (g : GameRead) → x ≡ y → p ≡ q
     → At (on_tree s x) p b ws o g → At (on_tree s y) q b ws o g
 retold s x y p q b ws o g e f at = subst (λ (z : Plain). At (on_tree s z) q b ws o g) e (subst (λ (z : List ℕ). At (on_tree s x) z b ws o g) f at)
 
@@ -457,7 +457,7 @@ module _ (m : Move) (mark : Mark) (b r : Forest Mark) (fb : FollowOk b) (vr : Va
       cut_line a b c d = simp append_assoc
 
 -- a piece of text was read
-record Piece (text rest : List ℕ) (s : Plainly) (path : List ℕ) (from : ℕ) (ws : List Waiting) (o : Option Stipulation) (g : GameRead) : Type 0 where
+record Piece (text rest : List ℕ) (s : PlainStudy) (path : List ℕ) (from : ℕ) (ws : List Waiting) (o : Option Stipulation) (g : GameRead) : Type 0 where
   back : List ℕ
   same : Same rest back
   reached : Reached text back s path from ws o g
@@ -465,7 +465,7 @@ record Piece (text rest : List ℕ) (s : Plainly) (path : List ℕ) (from : ℕ)
 abbrev waits : ℕ → Waiting
 waits from = record { replaced = 0; begun = from }
 
-opened : (u : Plainly) (path : List ℕ) (from : ℕ) (ws : List Waiting) (o : Option Stipulation) (rest text : List ℕ) → from ≤ length path → length ws < 256
+opened : (u : PlainStudy) (path : List ℕ) (from : ℕ) (ws : List Waiting) (o : Option Stipulation) (rest text : List ℕ) → from ≤ length path → length ws < 256
     → Same (32 ∷ 40 ∷ rest) text → (g : GameRead) → At u (path ++ 0 ∷ []) from ws o g → Piece text rest u path (length path) (waits from ∷ ws) o g
 opened u path from ws o rest text le few h g at =
     let cut = space_cut (40 ∷ rest) text h in
@@ -481,7 +481,7 @@ opened u path from ws o rest text le few h g at =
           (text_is u path (length path) (waits from ∷ ws) o gap.next cut.back (40 ∷ begin.back) begin.back begin.text open_line));
     }
 
-ended : (u : Plainly) (path : List ℕ) (k : ℕ) (way : List ℕ) (from : ℕ) (ws : List Waiting) (o : Option Stipulation) (rest text : List ℕ) → Same (41 ∷ rest) text
+ended : (u : PlainStudy) (path : List ℕ) (k : ℕ) (way : List ℕ) (from : ℕ) (ws : List Waiting) (o : Option Stipulation) (rest text : List ℕ) → Same (41 ∷ rest) text
     → (g : GameRead) → At u ((path ++ k ∷ []) ++ way) (length path) (waits from ∷ ws) o g → Piece text rest u (path ++ 0 ∷ []) from ws o g
 ended u path k way from ws o rest text h g at =
     let cut = word_cut (41 ∷ []) rest text (omega arith, omega arith, tt) h in
@@ -496,11 +496,11 @@ ended u path k way from ws o rest text h g at =
     }
 
 -- the text after the move of a variation was read
-record Body (s : Plainly) (t : Plain) (path : List ℕ) (k : ℕ) (rest text : List ℕ) (ws : List Waiting) (o : Option Stipulation) (g : GameRead) : Type 0 where
+record Body (s : PlainStudy) (t : Plain) (path : List ℕ) (k : ℕ) (rest text : List ℕ) (ws : List Waiting) (o : Option Stipulation) (g : GameRead) : Type 0 where
   way : List ℕ
   piece : Piece text rest (on_tree s t) ((path ++ k ∷ []) ++ way) (length path) ws o g
 
-module _ (m : Move) (mark : Mark) (b : Forest Mark) (fb : FollowOk b) (s : Plainly) (f : Plain) (path : List ℕ) (st : Start) (node : Node s f path st)
+module _ (m : Move) (mark : Mark) (b : Forest Mark) (fb : FollowOk b) (s : PlainStudy) (f : Plain) (path : List ℕ) (st : Start) (node : Node s f path st)
     (legal : is_legal st.position m ≡ true) (playable : IsPlayable (after st.position m) (plainly b)) (distinct : AreDistinct (plainly b)) (d : ℕ)
     (deep : length path + suc d ≡ 256) (within : IsWithin d (plainly b)) (ws : List Waiting) (few : length ws ≤ length path + 1) (o : Option Stipulation)
     (x : Plain) (new : place_from 0 m x ≡ None) (room : nodes_in (put f path x) + nodes_in (plainly b) + 2 ≤ 4096) where

@@ -18,7 +18,7 @@ use Rattle.study_marks.specs.declared.stipulation.Stipulation.{Stipulation}
 use Rattle.study_marks.specs.declared.tag.TagName.{TagName}
 use Rattle.study_marks.specs.declared.tag.TagName.TheVariants as tag_named
 use Rattle.study_marks.specs.Study.{tag_name}
-use Rattle.study_marks.specs.Edits.{Plainly, is_printable}
+use Rattle.study_marks.specs.Edits.{PlainStudy, is_printable}
 use Rattle.study_reply.specs.Names.{fen_name, san_name}
 use Rattle.study_games.specs.Bytes.{is_blank, is_letter, is_symbol_byte}
 use Rattle.study_games.specs.Tokens.{front, behind}
@@ -207,7 +207,7 @@ abbrev pub other_tags : List Pair → ℕ
 other_tags tags = at_most (length tags - known_count known_names tags)
 
 -- played moves that are not new nodes
-abbrev pub repeated_moves : Notes → Plainly → ℕ
+abbrev pub repeated_moves : Notes → PlainStudy → ℕ
 repeated_moves n s = n.moves - (size_of s.tree - 1)
 
 abbrev pub move_counts : Notes → ℕ → List (List ℕ × ℕ)

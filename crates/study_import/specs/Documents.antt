@@ -11,7 +11,7 @@ use Rattle.study_marks.specs.declared.stipulation.Stipulation.{Stipulation}
 use Rattle.study_marks.specs.declared.tag.TagName.{TagName}
 use Rattle.study_marks.specs.declared.refusal.Refusal.{Refusal}
 use Rattle.study_marks.specs.Study.{position_at}
-use Rattle.study_marks.specs.Edits.{Plainly, positioned, stipulated, inserted, tagged, insert_refusal, tag_refusal}
+use Rattle.study_marks.specs.Edits.{PlainStudy, with_position, with_stipulation, with_insertion, with_tag, insert_refusal, tag_refusal}
 use Rattle.study_command.specs.declared.command.FenCommand.TheVariants.{Position}
 use Rattle.study_command.specs.Parser.{Asked, fen_command, stipulate, insert, tag, pgn, Asks, command_of}
 
@@ -19,11 +19,11 @@ use Rattle.study_command.specs.Parser.{Asked, fen_command, stipulate, insert, ta
 pub data Document : Type 0 where
   empty : Document
   placed : Start → Document
-  composed : Plainly → Document
+  composed : PlainStudy → Document
 
 -- `position` keeps stipulation and tags of the study before
 abbrev pub with_start : Document → Start → Document
-with_start (composed old) start = composed (positioned old start)
+with_start (composed old) start = composed (with_position old start)
 with_start other start = placed start
 
 abbrev pub after_position : Document → Result Start FenFault → Option Document
@@ -31,7 +31,7 @@ after_position d (Err fault) = None
 after_position d (Ok start) = Some (with_start d start)
 
 -- a study with only the root, and no tag known
-abbrev pub new_study : Start → Stipulation → Plainly
+abbrev pub new_study : Start → Stipulation → PlainStudy
 new_study start aim = record {
   start = start;
   stipulation = aim;
@@ -42,20 +42,20 @@ new_study start aim = record {
 abbrev pub after_stipulate : Document → Stipulation → Option Document
 after_stipulate empty aim = None
 after_stipulate (placed start) aim = Some (composed (new_study start aim))
-after_stipulate (composed old) aim = Some (composed (stipulated old aim))
+after_stipulate (composed old) aim = Some (composed (with_stipulation old aim))
 
 -- a refused edit gives no document
-abbrev pub unless_refused : Option (Refusal (Unit {0})) → Plainly → Option Document
+abbrev pub unless_refused : Option (Refusal (Unit {0})) → PlainStudy → Option Document
 unless_refused None new = Some (composed new)
 unless_refused (Some refusal) new = None
 
 abbrev pub after_tag : Document → TagName → List ℕ → Option Document
-after_tag (composed old) name text = unless_refused (tag_refusal text) (tagged old name text)
+after_tag (composed old) name text = unless_refused (tag_refusal text) (with_tag old name text)
 after_tag other name text = None
 
-abbrev pub after_move : Plainly → List ℕ → Result Move SanFault → Option Document
+abbrev pub after_move : PlainStudy → List ℕ → Result Move SanFault → Option Document
 after_move old at (Err fault) = None
-after_move old at (Ok m) = unless_refused (insert_refusal old at m) (inserted old at m)
+after_move old at (Ok m) = unless_refused (insert_refusal old at m) (with_insertion old at m)
 
 abbrev pub after_insert : Document → List ℕ → List ℕ → Option Document
 after_insert (composed old) at san = after_move old at (move_of (position_at old at) san)

@@ -8,7 +8,7 @@ use Rattle.study_marks.specs.declared.stipulation.Goal.TheVariants.{MateIn}
 use Rattle.study_marks.specs.declared.stipulation.Stipulation.{Stipulation}
 use Rattle.study_marks.specs.declared.tag.TagName.{TagName}
 use Rattle.study_marks.specs.Study.{tag_name}
-use Rattle.study_marks.specs.Edits.{Plainly, tag_refusal}
+use Rattle.study_marks.specs.Edits.{PlainStudy, tag_refusal}
 use Rattle.study_command.specs.Lines.{script_lines}
 use Rattle.study_command.specs.Parser.{Asks, pgn, command_of}
 use Rattle.study_games.specs.Header.{Pair, tags_in, fault_in, tags_of, header_fault, value_of}
@@ -90,7 +90,7 @@ abbrev pub HasSixTags : Document → Type 0
 HasSixTags (composed s) = length s.tags ≡ 6
 HasSixTags other = Unit {0}
 
-abbrev pub document_then : Document → Option Plainly → Document
+abbrev pub document_then : Document → Option PlainStudy → Document
 document_then d None = d
 document_then d (Some s) = composed s
 

@@ -2,7 +2,7 @@
 use Rattle.std.specs.Prelude.{ℕ, Bool, true, false, not, ◌&&◌, ◌==◌, nat_le, List, length, codes, Option, Some, None, Result, Ok, Err, if◌then◌else◌}
 use Rattle.std.specs.Str.{bytes_eq}
 use Rattle.study_marks.specs.declared.stipulation.Stipulation.{Stipulation}
-use Rattle.study_marks.specs.Edits.{Plainly}
+use Rattle.study_marks.specs.Edits.{PlainStudy}
 use Rattle.study_games.specs.Games.{one_more}
 use Rattle.study_games.specs.Symbols.{said_of}
 use Rattle.study_games.specs.declared.symbols.Outcome.{Outcome}
@@ -89,7 +89,7 @@ pub record GameRead : Type 0 where
   pub reading : Reading
   pub notes : Notes
 
-abbrev pub game_of : Plainly → List ℕ → ℕ → List Waiting → ℕ → List ℕ → Notes → GameRead
+abbrev pub game_of : PlainStudy → List ℕ → ℕ → List Waiting → ℕ → List ℕ → Notes → GameRead
 game_of study path begun waiting cut inserts notes = record { reading = reading_of study path begun waiting cut inserts; notes = notes }
 
 pub record GameTaken : Type 0 where

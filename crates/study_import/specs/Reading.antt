@@ -3,11 +3,11 @@ use Rattle.std.specs.Prelude.{◌≡◌, ℕ, nat_le, nat_lt, List, [], ◌∷�
 use Rattle.std.specs.List.{list_all}
 use Rattle.study_board.specs.Position.{Position}
 use Rattle.study_moves.specs.declared.moves.Move.{Move}
-use Rattle.study_notation.specs.Written.{move_text}
+use Rattle.study_notation.specs.SanSpelling.{move_text}
 use Rattle.study_tree.specs.Paths.{path_text}
 use Rattle.study_marks.specs.Study.{position_at}
 use Rattle.study_notation.specs.declared.fault.SanFault.TheVariants.{NotSan}
-use Rattle.study_marks.specs.Edits.{Plainly, is_printable}
+use Rattle.study_marks.specs.Edits.{PlainStudy, is_printable}
 use Rattle.study_import.specs.declared.moves.MoveFault.{MoveFault}
 use Rattle.study_import.specs.declared.moves.MoveFault.TheVariants.{San, OutOfMemory}
 use Rattle.study_import.specs.Lines.{Lines}
@@ -16,7 +16,7 @@ use Rattle.study_games.specs.Symbols.{san_in}
 
 -- the study so far, the current line with the waiting ones, and the lines of the script that make the tree
 pub record Reading : Type 0 where
-  pub study : Plainly
+  pub study : PlainStudy
   pub lines : Lines
   pub inserts : List ℕ
 

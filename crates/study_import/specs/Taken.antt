@@ -1,7 +1,7 @@
 -- The effect of a token.
 use Rattle.std.specs.Prelude.{◌≡◌, ℕ, Bool, true, false, ◌==◌, nat_le, List, length, codes, Result, Ok, Err, if◌then◌else◌}
 use Rattle.std.specs.Str.{bytes_eq}
-use Rattle.study_marks.specs.Edits.{Plainly}
+use Rattle.study_marks.specs.Edits.{PlainStudy}
 use Rattle.study_import.specs.declared.lines.Waiting.{Waiting}
 use Rattle.study_import.specs.declared.lines.LineFault.{LineFault}
 use Rattle.study_import.specs.declared.lines.LineFault.TheVariants as line_fault
@@ -16,7 +16,7 @@ use Rattle.study_import.specs.Reading.{Reading, symbol_played}
 use Rattle.study_games.specs.Symbols.{said_of}
 use Rattle.study_games.specs.Tokens.{Token, blank, aside, opening, closing, star, tag, comment, rest, sign, symbol}
 
-abbrev pub reading_of : Plainly → List ℕ → ℕ → List Waiting → ℕ → List ℕ → Reading
+abbrev pub reading_of : PlainStudy → List ℕ → ℕ → List Waiting → ℕ → List ℕ → Reading
 reading_of study path begun waiting cut inserts = record { study = study; lines = lines_of path begun waiting cut; inserts = inserts }
 
 -- the state of reading, and whether the game ends here

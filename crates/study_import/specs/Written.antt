@@ -7,7 +7,7 @@ use Rattle.study_tree.specs.Edits.{IsWithin}
 use Rattle.study_marks.specs.declared.mark.Mark.{Mark}
 use Rattle.study_marks.specs.declared.tag.TagName.{TagName}
 use Rattle.study_marks.specs.Study.{Study, mapped, tag_of, IsPlayable, AreDistinct}
-use Rattle.study_marks.specs.Edits.{Plainly, is_tag_text}
+use Rattle.study_marks.specs.Edits.{PlainStudy, is_tag_text}
 use Rattle.study_command.specs.Parser.{trimmed}
 use Rattle.study_pgn.specs.Tags.{text_or_unknown}
 use Rattle.study_pgn.specs.Pgn.{pgn_text}
@@ -40,7 +40,7 @@ pub record CanBeMade (s : Study Mark) : Type 0 where
   pub few : nodes_in (plainly s.tree.below) + 1 ≤ 4096
 
 -- the same study without marks; for an unknown tag the text that is written for it
-abbrev pub unmarked_study : Study Mark → Plainly
+abbrev pub unmarked_study : Study Mark → PlainStudy
 unmarked_study s = record {
   start = s.start;
   stipulation = s.stipulation;

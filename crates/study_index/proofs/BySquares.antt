@@ -8,12 +8,12 @@ use Rattle.study_board.specs.declared.symmetry.Symmetry.{Symmetry}
 use Rattle.study_board.specs.Geometry.{file_of, rank_of}
 use Rattle.study_board.specs.Images.{differ}
 use Rattle.study_board.specs.Symmetry.{turned_square, turned_man, mirrored}
-use Rattle.study_index.specs.declared.filling.PlacedMan.{PlacedMan}
-use Rattle.study_values.specs.Filling.{man_slot_number}
+use Rattle.study_index.specs.declared.slot_order.PlacedMan.{PlacedMan}
+use Rattle.study_values.specs.Slots.{man_slot_number}
 use Rattle.study_values.specs.Index.{put, sorted}
-use Rattle.study_values.specs.Number.{place, listed_count, side_number, append_squares, number}
-use Rattle.study_values.specs.Canonical.{canonical_symmetry, last_two_exchanged, are_like, descends, turned_number, least, least_by, least_of}
-use Rattle.study_index.specs.Squares.{placed, put_placed, squares_placed, square_symmetry, counted_at, number_at, exchanged_at, descends_at, least_turned, least_at}
+use Rattle.study_values.specs.Number.{place, king_places, side_number, append_squares, number}
+use Rattle.study_values.specs.Canonical.{canonical_symmetry, last_two_exchanged, are_like, descends, turned_number, least, least_by, canonical_number}
+use Rattle.study_index.specs.Squares.{placed_man, put_placed, squares_placed, square_symmetry, counted_at, number_at, exchanged_at, descends_at, least_turned, least_at}
 
 abbrev pub AreOnBoard : List Man → Type 0
 AreOnBoard [] = Unit {0}
@@ -45,13 +45,13 @@ straight right false true x l =
     let e : rank_of x ≡ 7 - (7 - rank_of x) = sym (twice (rank_of x) (omega arith)) in
     ap (λ r. 8 * r + mirrored right (file_of x)) e
 
-across : (right top c : Bool)
+file_and_rank_swapped : (right top c : Bool)
     → TakeSame (record { files = right; ranks = top; diagonal = true; colours = false })
     (record { files = differ c right; ranks = top; diagonal = true; colours = c })
 unfolding turned_square
-across right top false x l = refl
-across true top true x l = refl
-across false top true x l =
+file_and_rank_swapped right top false x l = refl
+file_and_rank_swapped true top true x l = refl
+file_and_rank_swapped false top true x l =
     let e : file_of x ≡ 7 - (7 - file_of x) = sym (twice (file_of x) (omega arith)) in
     ap (λ f. 8 * f + mirrored top (rank_of x)) e
 
@@ -59,7 +59,7 @@ brought_so : (pawns diagonal c : Bool) (k : ℕ) → TakeSame (square_symmetry p
 unfolding square_symmetry canonical_symmetry
 brought_so true diagonal c k = with_pawns (nat_lt 3 (file_of k)) c
 brought_so false false c k = straight (nat_lt 3 (file_of k)) (nat_lt 3 (rank_of k)) c
-brought_so false true c k = across (nat_lt 3 (file_of k)) (nat_lt 3 (rank_of k)) c
+brought_so false true c k = file_and_rank_swapped (nat_lt 3 (file_of k)) (nat_lt 3 (rank_of k)) c
 
 module _ (pawns : Bool) (to_move : Side) (t u : Symmetry) (same : TakeSame t u) where
   counted_men : (n : ℕ) (ms : List Man) → AreOnBoard ms → counted_at (turned_square t) n (map square ms) ≡ append_squares n (map (turned_man u) ms)
@@ -71,14 +71,14 @@ module _ (pawns : Bool) (to_move : Side) (t u : Symmetry) (same : TakeSame t u) 
   unfolding number_at turned_number number
   number_men [] h = refl
   number_men (k ∷ ms) h =
-      ap (λ x. option_map (λ q. counted_at (turned_square t) (side_number to_move * listed_count pawns + q) (map square ms)) (place pawns x)) (same k.at h.0)
+      ap (λ x. option_map (λ q. counted_at (turned_square t) (side_number to_move * king_places pawns + q) (map square ms)) (place pawns x)) (same k.at h.0)
       ∙ by_place (place pawns (turned_square u k.at))
     where
       by_place : (o : Option ℕ)
-          → option_map (λ q. counted_at (turned_square t) (side_number to_move * listed_count pawns + q) (map square ms)) o
-          ≡ option_map (λ q. append_squares (side_number to_move * listed_count pawns + q) (map (turned_man u) ms)) o
+          → option_map (λ q. counted_at (turned_square t) (side_number to_move * king_places pawns + q) (map square ms)) o
+          ≡ option_map (λ q. append_squares (side_number to_move * king_places pawns + q) (map (turned_man u) ms)) o
       by_place None = refl
-      by_place (Some q) = ap (λ n. Some n) (counted_men (side_number to_move * listed_count pawns + q) ms h.1)
+      by_place (Some q) = ap (λ n. Some n) (counted_men (side_number to_move * king_places pawns + q) ms h.1)
 
   falls_men : (ms : List Man) → AreOnBoard ms → descends_at (turned_square t) (map square ms) ≡ descends u ms
   falls_men [] h = refl
@@ -130,8 +130,8 @@ two_least x y v w e f = rw (e, f) refl
 
 -- the least number of men by their squares
 pub least_of_squares : (pawns : Bool) (to_move : Side) (c : Bool) (ms : List Man) → AreOnBoard ms
-    → least_at pawns to_move c (are_like c ms) (map square ms) ≡ least_of pawns to_move c ms
-unfolding least_at least_of canonical_symmetry
+    → least_at pawns to_move c (are_like c ms) (map square ms) ≡ canonical_number pawns to_move c ms
+unfolding least_at canonical_number canonical_symmetry
 least_of_squares pawns to_move c [] h = refl
 least_of_squares true to_move c (k ∷ ms) h =
     least_by_squares true to_move (square_symmetry true false c k.at) (canonical_symmetry true false c k.at) (brought_so true false c k.at) (k ∷ ms) h
@@ -150,26 +150,26 @@ AreOnBoard-sorted : (c : Bool) (ms : List Man) → AreOnBoard ms → AreOnBoard 
 AreOnBoard-sorted c [] h = tt
 AreOnBoard-sorted c (m ∷ ms) h = AreOnBoard-put c m (sorted c ms) h.0 (AreOnBoard-sorted c ms h.1)
 
-placed-put : (c : Bool) (m : Man) (xs : List Man) → put_placed (placed c m) (map (placed c) xs) ≡ map (placed c) (put c m xs)
+placed-put : (c : Bool) (m : Man) (xs : List Man) → put_placed (placed_man c m) (map (placed_man c) xs) ≡ map (placed_man c) (put c m xs)
 unfolding put put_placed
 placed-put c m [] = refl
 placed-put c m (x ∷ xs) =
     elim (nat_le (man_slot_number c x) (man_slot_number c m))
-    as (λ b. cond b (placed c x ∷ put_placed (placed c m) (map (placed c) xs)) (placed c m ∷ placed c x ∷ map (placed c) xs) ≡ map (placed c) (cond b (x ∷ put c m xs) (m ∷ x ∷ xs))) [
-      | true ↦ ap (λ ks. placed c x ∷ ks) (placed-put c m xs)
+    as (λ b. cond b (placed_man c x ∷ put_placed (placed_man c m) (map (placed_man c) xs)) (placed_man c m ∷ placed_man c x ∷ map (placed_man c) xs) ≡ map (placed_man c) (cond b (x ∷ put c m xs) (m ∷ x ∷ xs))) [
+      | true ↦ ap (λ ks. placed_man c x ∷ ks) (placed-put c m xs)
       | false ↦ refl
     ]
 
-pub one_placed : (c : Bool) (m : Man) (k : PlacedMan) → k ≡ placed c m → k ∷ [] ≡ map (placed c) (sorted c (m ∷ []))
+pub one_placed : (c : Bool) (m : Man) (k : PlacedMan) → k ≡ placed_man c m → k ∷ [] ≡ map (placed_man c) (sorted c (m ∷ []))
 unfolding put
 one_placed c m k e = ap (λ n. n ∷ []) e
 
 -- one more man is inserted among the others
-pub more_placed : (c : Bool) (m : Man) (ms : List Man) (k : PlacedMan) (ks xs : List PlacedMan) → k ≡ placed c m
-    → ks ≡ put_placed k xs → xs ≡ map (placed c) (sorted c ms) → ks ≡ map (placed c) (sorted c (m ∷ ms))
-more_placed c m ms k ks xs d e f = e ∙ ap (λ n. put_placed n xs) d ∙ ap (λ z. put_placed (placed c m) z) f ∙ placed-put c m (sorted c ms)
+pub more_placed : (c : Bool) (m : Man) (ms : List Man) (k : PlacedMan) (ks xs : List PlacedMan) → k ≡ placed_man c m
+    → ks ≡ put_placed k xs → xs ≡ map (placed_man c) (sorted c ms) → ks ≡ map (placed_man c) (sorted c (m ∷ ms))
+more_placed c m ms k ks xs d e f = e ∙ ap (λ n. put_placed n xs) d ∙ ap (λ z. put_placed (placed_man c m) z) f ∙ placed-put c m (sorted c ms)
 
-squares-placed : (c : Bool) (ms : List Man) → squares_placed (map (placed c) ms) ≡ map square ms
+squares-placed : (c : Bool) (ms : List Man) → squares_placed (map (placed_man c) ms) ≡ map square ms
 squares-placed c [] = refl
 squares-placed c (m ∷ ms) = ap (λ xs. m.at ∷ xs) (squares-placed c ms)
 
@@ -178,7 +178,7 @@ abbrev pub like_placed : List PlacedMan → Bool
 like_placed (a ∷ b ∷ x ∷ y ∷ []) = x.slot == y.slot
 like_placed ks = false
 
-like-placed : (c : Bool) (ms : List Man) → like_placed (map (placed c) ms) ≡ are_like c ms
+like-placed : (c : Bool) (ms : List Man) → like_placed (map (placed_man c) ms) ≡ are_like c ms
 like-placed c [] = refl
 like-placed c (a ∷ []) = refl
 like-placed c (a ∷ b ∷ []) = refl
@@ -187,8 +187,8 @@ like-placed c (a ∷ b ∷ x ∷ y ∷ []) = refl
 like-placed c (a ∷ b ∷ x ∷ y ∷ z ∷ ms) = refl
 
 -- the least number of men by their slots and squares, sorted
-pub least_of_placed : (pawns : Bool) (to_move : Side) (c : Bool) (ms : List Man) (ks : List PlacedMan) → AreOnBoard ms → ks ≡ map (placed c) (sorted c ms)
-    → least_at pawns to_move c (like_placed ks) (squares_placed ks) ≡ least_of pawns to_move c (sorted c ms)
+pub least_of_placed : (pawns : Bool) (to_move : Side) (c : Bool) (ms : List Man) (ks : List PlacedMan) → AreOnBoard ms → ks ≡ map (placed_man c) (sorted c ms)
+    → least_at pawns to_move c (like_placed ks) (squares_placed ks) ≡ canonical_number pawns to_move c (sorted c ms)
 least_of_placed pawns to_move c ms ks h e =
     let on = AreOnBoard-sorted c ms h in
     ap (λ xs. least_at pawns to_move c (like_placed xs) (squares_placed xs)) e

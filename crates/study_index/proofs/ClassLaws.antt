@@ -14,7 +14,7 @@ use Rattle.study_board.proofs.ImagesOfImages.{IsTurnable-from_valid, image_back,
 use Rattle.study_moves.specs.Rules.{after}
 use Rattle.study_moves.specs.Symmetry.{image_move}
 use Rattle.study_moves.specs.Game.{IsLegal}
-use Rattle.study_moves.specs.EnPassant.{has_legal_en_passant, without_passed, bare}
+use Rattle.study_moves.specs.EnPassant.{has_legal_en_passant, without_passed, without_idle_passed_square}
 use Rattle.study_moves.specs.Laws.{HasSameGame}
 use Rattle.study_moves.specs.Alike.{AreAlike, Leads}
 use Rattle.study_moves.proofs.RulesOfImages.{after-turned, image_legal}
@@ -29,8 +29,8 @@ use Rattle.study_material.specs.declared.class.Class.{Class}
 use Rattle.study_material.specs.Lists.{Lists, of, lists_exchanged, lists, ordered, is_exchanged, is_swapped}
 use Rattle.study_material.specs.Class.{lists_of, IsOf}
 use Rattle.study_material.proofs.ClassOfImage.{ordered-image, swapped-image, compare_lists, black_first, white_first, equal}
-use Rattle.study_values.specs.Filling.{IsFilling}
-use Rattle.study_values.specs.Number.{number, listed_count, kinds_have_pawn, has_both_pawns, numbers_of, cells_of}
+use Rattle.study_values.specs.Slots.{IsFilling}
+use Rattle.study_values.specs.Number.{number, king_places, kinds_have_pawn, has_both_pawns, numbers_of, cells_of}
 use Rattle.study_values.specs.Number.{with_bit, has_bit, without_bit, IsLeastNumber, IsIndex}
 use Rattle.study_index.specs.Decoded.{slots_of, passed_behind, IsDecoded}
 use Rattle.study_index.specs.Laws.{AreAlikeIn}
@@ -46,7 +46,7 @@ live_cells : (c : Class) → lists_of c ≡ of (Pawn ∷ []) (Pawn ∷ []) → c
 live_cells c e = ap cells_for e
   where
     numbers_for : Lists → ℕ
-    numbers_for l = 2 * listed_count (kinds_have_pawn l.white || kinds_have_pawn l.black) * 64 ^ (1 + length l.white + length l.black)
+    numbers_for l = 2 * king_places (kinds_have_pawn l.white || kinds_have_pawn l.black) * 64 ^ (1 + length l.white + length l.black)
 
     cells_for : Lists → ℕ
     cells_for l = cond (has_both_pawns l) (2 * numbers_for l) (numbers_for l)
@@ -80,7 +80,7 @@ pub record IsRead (c : Class) (n : ℕ) (q : Position) : Type 0 where
   pub valid : IsValid q
   pub of_class : IsOf c q
   pub in_order : is_swapped q.men ≡ false
-  pub is_bare : bare q ≡ q
+  pub is_bare : without_idle_passed_square q ≡ q
   pub index : IsIndex q n
 
 pub entry : (c : Class) (n : ℕ) (q : Position) → IsDecoded c n q → IsRead c n q
@@ -145,11 +145,11 @@ same_least : (c : Class) (p q : Position) (n : ℕ) → AreAlikeIn c p q → IsO
 same_least c p q n h o i =
     let s = h.alike.images.by in
     let v = (AgreesWithBare-from_valid p h.alike.left).valid in
-    let keeps : Keeps s (bare p) = λ e. h.kept (equal_lists c p o (subst (λ xs. (lists xs).white ≡ (lists xs).black) (bare_men p) e)) in
-    let j : IsLeastNumber (image s (bare p)) n =
-    IsLeastNumber-image s (bare p) n v h.alike.images.admitted keeps
-    (IsLeastNumber-passed p (bare p) n (sym (bare_men p)) (sym (bare_to_move p)) i) in
-    IsLeastNumber-passed (bare q) q n (bare_men q) (bare_to_move q) (subst (λ (r : Position). IsLeastNumber r n) (sym h.alike.images.is) j)
+    let keeps : Keeps s (without_idle_passed_square p) = λ e. h.kept (equal_lists c p o (subst (λ xs. (lists xs).white ≡ (lists xs).black) (bare_men p) e)) in
+    let j : IsLeastNumber (image s (without_idle_passed_square p)) n =
+    IsLeastNumber-image s (without_idle_passed_square p) n v h.alike.images.admitted keeps
+    (IsLeastNumber-passed p (without_idle_passed_square p) n (sym (bare_men p)) (sym (bare_to_move p)) i) in
+    IsLeastNumber-passed (without_idle_passed_square q) q n (bare_men q) (bare_to_move q) (subst (λ (r : Position). IsLeastNumber r n) (sym h.alike.images.is) j)
 
 pub same_index : (c : Class) (p q : Position) (n : ℕ) → AreAlikeIn c p q → IsOf c p → IsIndex p n → IsIndex q n
 same_index c p q n h o i = record {
@@ -170,8 +170,8 @@ alike_back c p q h =
         images = record {
           by = back s;
           admitted = subst (λ (x : Position). admits x (back s) ≡ true) (sym h.alike.images.is)
-              (admits_image s (back s) (bare p) v a ∙ admits_back s (bare p) a);
-          is = sym (subst (λ (x : Position). image (back s) x ≡ bare p) (sym h.alike.images.is) (image_back s (bare p) (IsTurnable-from_valid s (bare p) v a)));
+              (admits_image s (back s) (without_idle_passed_square p) v a ∙ admits_back s (without_idle_passed_square p) a);
+          is = sym (subst (λ (x : Position). image (back s) x ≡ without_idle_passed_square p) (sym h.alike.images.is) (image_back s (without_idle_passed_square p) (IsTurnable-from_valid s (without_idle_passed_square p) v a)));
         };
       };
       kept = h.kept;
@@ -183,13 +183,13 @@ alike_move c p q r h l =
     let m = l.0 in
     let b = AgreesWithBare-from_valid p h.alike.left in
     let d = AgreesWithBare-from_valid q h.alike.right in
-    let t = IsTurnable-from_valid s (bare p) b.valid h.alike.images.admitted in
-    let lb : IsLegal (bare p) m = b.legal m ∙ l.1 in
+    let t = IsTurnable-from_valid s (without_idle_passed_square p) b.valid h.alike.images.admitted in
+    let lb : IsLegal (without_idle_passed_square p) m = b.legal m ∙ l.1 in
     let m' = image_move s m in
-    let lq : IsLegal (bare q) m' = subst (λ (x : Position). IsLegal x m') (sym h.alike.images.is) (image_legal s (bare p) t m lb) in
+    let lq : IsLegal (without_idle_passed_square q) m' = subst (λ (x : Position). IsLegal x m') (sym h.alike.images.is) (image_legal s (without_idle_passed_square p) t m lb) in
     let l' : IsLegal q m' = sym (d.legal m') ∙ lq in
     let same : after q m' ≡ image s r =
-    sym (d.after m' l') ∙ ap (λ x. after x m') h.alike.images.is ∙ after-turned s (bare p) t m lb ∙ ap (image s) (b.after m l.1 ∙ l.2) in
+    sym (d.after m' l') ∙ ap (λ x. after x m') h.alike.images.is ∙ after-turned s (without_idle_passed_square p) t m lb ∙ ap (image s) (b.after m l.1 ∙ l.2) in
     let v : IsValid r = subst IsValid l.2 (IsValid-after p m h.alike.left l.1) in
     let a : admits r s ≡ true = subst (λ (x : Position). admits x s ≡ true) l.2 (admits_after s p m l.1 (sym (admits_bare s p) ∙ h.alike.images.admitted)) in (
       after q m',
@@ -198,7 +198,7 @@ alike_move c p q r h l =
         alike = record {
           left = v;
           right = IsValid-after q m' h.alike.right l';
-          images = record { by = s; admitted = admits_bare s r ∙ a; is = ap bare same ∙ bare_image s r (IsTurnable-from_valid s r v a) };
+          images = record { by = s; admitted = admits_bare s r ∙ a; is = ap without_idle_passed_square same ∙ bare_image s r (IsTurnable-from_valid s r v a) };
         };
         kept = h.kept;
       },
@@ -209,14 +209,14 @@ same_game p q h =
     let s = h.images.by in
     let b = AgreesWithBare-from_valid p h.left in
     let d = AgreesWithBare-from_valid q h.right in
-    let t = IsTurnable-from_valid s (bare p) b.valid h.images.admitted in
-    joined p (bare p) q b.game (joined (bare p) (bare q) q
-    (subst (λ (r : Position). HasSameGame (bare p) r) (sym h.images.is) (record {
-      mate = (IsMate-image s (bare p) t, IsMate-from_image s (bare p) t);
-      stalemate = (IsStalemate-image s (bare p) t, IsStalemate-from_image s (bare p) t);
-      mates = λ n. (MatesWithin-image n s (bare p) t, MatesWithin-from_image s (bare p) t n);
-      mated = λ n. (IsMatedWithin-image n s (bare p) t, IsMatedWithin-from_image s (bare p) t n);
-    })) (turned_round q (bare q) d.game))
+    let t = IsTurnable-from_valid s (without_idle_passed_square p) b.valid h.images.admitted in
+    joined p (without_idle_passed_square p) q b.game (joined (without_idle_passed_square p) (without_idle_passed_square q) q
+    (subst (λ (r : Position). HasSameGame (without_idle_passed_square p) r) (sym h.images.is) (record {
+      mate = (IsMate-image s (without_idle_passed_square p) t, IsMate-from_image s (without_idle_passed_square p) t);
+      stalemate = (IsStalemate-image s (without_idle_passed_square p) t, IsStalemate-from_image s (without_idle_passed_square p) t);
+      mates = λ n. (MatesWithin-image n s (without_idle_passed_square p) t, MatesWithin-from_image s (without_idle_passed_square p) t n);
+      mated = λ n. (IsMatedWithin-image n s (without_idle_passed_square p) t, IsMatedWithin-from_image s (without_idle_passed_square p) t n);
+    })) (turned_round q (without_idle_passed_square q) d.game))
   where
     joined : (p q r : Position) → HasSameGame p q → HasSameGame q r → HasSameGame p r
     joined p q r h k = record {
@@ -238,7 +238,7 @@ HasParts-number : (p : Position) (n : ℕ) (v : IsValid p) (i : IsIndex p n) →
 HasParts-number p n v i = IsLeastNumber-unique p (without_bit n) i.number (HasParts-from p n v i).least i.least
 
 -- the passed square of a position that is its own bare form is the one that the bit encodes
-told_passed : (q : Position) (xs : List Man) (b : Bool) → IsValid q → bare q ≡ q → IsFilling false q.men xs
+told_passed : (q : Position) (xs : List Man) (b : Bool) → IsValid q → without_idle_passed_square q ≡ q → IsFilling false q.men xs
     → has_legal_en_passant q ≡ b → q.passed ≡ passed_behind b q.to_move xs
 told_passed q xs true v own f e = live_behind q xs v f.each_once e
 told_passed q xs false v own f e = not_live_passed q own e
@@ -253,7 +253,7 @@ equal_back c p o e = by_test (is_exchanged (lists p.men)) (subst (λ (l : Lists)
     by_test false e = e
 
 -- the image of the bare form by the symmetry of its index is read off the index
-numbered_bare : (c : Class) (p b : Position) (n : ℕ) → IsValid p → IsValid b → bare p ≡ b → bare b ≡ b → IsOf c b
+numbered_bare : (c : Class) (p b : Position) (n : ℕ) → IsValid p → IsValid b → without_idle_passed_square p ≡ b → without_idle_passed_square b ≡ b → IsOf c b
     → IsIndex b n → (q : Position) × IsDecoded c n q × AreAlikeIn c q p
 numbered_bare c p b n v w plain own o i =
     let t = i.least.number.by in
@@ -268,7 +268,7 @@ numbered_bare c p b n v w plain own o i =
     swapped-image t b.men keeps ∙ ap (λ s. differ s (is_swapped b.men)) i.least.number.colours
     ∙ differ_same (is_swapped b.men) in
     let same : lists q.men ≡ lists_of c = sym (of_class ∙ unchanged (lists q.men) in_order) in
-    let own_image : bare q ≡ q = bare_image t b turn ∙ ap (image t) own in
+    let own_image : without_idle_passed_square q ≡ q = bare_image t b turn ∙ ap (image t) own in
     let live : has_legal_en_passant q ≡ has_legal_en_passant b = live_along t b q (own_image ∙ sym (ap (image t) own)) in
     let index : IsIndex q n = record {
       number = i.number;
@@ -314,9 +314,9 @@ numbered_bare c p b n v w plain own o i =
 -- each position has a number that is read as a position that is alike
 pub numbered : (c : Class) (p : Position) (n : ℕ) → IsValid p → IsOf c p → IsIndex p n → (q : Position) × IsDecoded c n q × AreAlikeIn c q p
 numbered c p n v o i =
-    numbered_bare c p (bare p) n v (AgreesWithBare-from_valid p v).valid refl (bare_twice p) (o ∙ ap (λ xs. ordered (lists xs)) (sym (bare_men p)))
+    numbered_bare c p (without_idle_passed_square p) n v (AgreesWithBare-from_valid p v).valid refl (bare_twice p) (o ∙ ap (λ xs. ordered (lists xs)) (sym (bare_men p)))
     (record {
       number = i.number;
-      least = IsLeastNumber-passed p (bare p) i.number (sym (bare_men p)) (sym (bare_to_move p)) i.least;
+      least = IsLeastNumber-passed p (without_idle_passed_square p) i.number (sym (bare_men p)) (sym (bare_to_move p)) i.least;
       is = i.is ∙ ap (λ l. with_bit l i.number) (sym (live_bare p));
     })

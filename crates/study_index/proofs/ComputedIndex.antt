@@ -17,7 +17,7 @@ use Rattle.study_board.proofs.Valid.{IsFaultless-from_first, IsAscending-from_so
 use Rattle.study_material.specs.declared.class.Class.{Class}
 use Rattle.study_material.specs.Lists.{is_swapped}
 use Rattle.study_index.specs.declared.decoding.Slot.{Slot}
-use Rattle.study_values.specs.Number.{IsLeastNumber, IsIndex, listed_count, numbers_of, cells_of, without_bit}
+use Rattle.study_values.specs.Number.{IsLeastNumber, IsIndex, king_places, numbers_of, cells_of, without_bit}
 use Rattle.study_index.specs.Decoded.{IsDecoded, AreSlots, slots_of, slots_have_pawn, men_of, told_men, listed_square, man}
 use borrow.Author.Tests.{ltb-true}
 use Rattle.study_index.specs.Computed.{position_told, is_entry, position_numbered}
@@ -44,7 +44,7 @@ IsIndex-index_of p v = record { number = least_number p; least = IsLeastNumber-l
 pub index_of-only : (p : Position) (n : ℕ) → IsValid p → IsIndex p n → n ≡ index_of p
 index_of-only p n v i = IsIndex-unique p n (index_of p) i (IsIndex-index_of p v)
 
-listed_small : (pawns : Bool) (q : ℕ) → q < listed_count pawns → listed_square pawns q < 64
+listed_small : (pawns : Bool) (q : ℕ) → q < king_places pawns → listed_square pawns q < 64
 unfolding listed_square
 listed_small true q l = omega arith
 listed_small false q l = small (nat_lt q 4) (nat_lt q 7) (nat_lt q 9) refl refl refl
@@ -55,7 +55,7 @@ listed_small false q l = small (nat_lt q 4) (nat_lt q 7) (nat_lt q 9) refl refl 
     small false false true e f g = omega arith
     small false false false e f g = omega arith
 
-mod_small : (pawns : Bool) (h : ℕ) → h % listed_count pawns < listed_count pawns
+mod_small : (pawns : Bool) (h : ℕ) → h % king_places pawns < king_places pawns
 mod_small true h = omega arith
 mod_small false h = omega arith
 
@@ -65,23 +65,23 @@ OnBoard m = m.at < 64
 one_on : (s : Slot) (x : ℕ) (xs : List Man) → x < 64 → All OnBoard xs → All OnBoard (man s x ∷ xs)
 one_on s x xs l h = All-cons OnBoard (man s x) xs l h
 
-one_more : (s : Slot) (pawns : Bool) (q : ℕ) (xs : List Man) → q < listed_count pawns → All OnBoard xs → All OnBoard (man s (listed_square pawns q) ∷ xs)
+one_more : (s : Slot) (pawns : Bool) (q : ℕ) (xs : List Man) → q < king_places pawns → All OnBoard xs → All OnBoard (man s (listed_square pawns q) ∷ xs)
 one_more s pawns q xs l h = one_on s (listed_square pawns q) xs (listed_small pawns q l) h
 
 on_board : (pawns : Bool) (slots : List Slot) (n : ℕ) → AreSlots slots → All OnBoard (men_of pawns slots n)
 on_board pawns (k ∷ b ∷ []) n a =
     let last = man b (n % 64) ∷ [] in
-    one_more k pawns (n / 64 % listed_count pawns) last (mod_small pawns (n / 64)) (one_on b (n % 64) [] (omega arith) (All-nil OnBoard))
+    one_more k pawns (n / 64 % king_places pawns) last (mod_small pawns (n / 64)) (one_on b (n % 64) [] (omega arith) (All-nil OnBoard))
 on_board pawns (k ∷ b ∷ x ∷ []) n a =
     let last = man x (n % 64) ∷ [] in
     let further = man b (n / 64 % 64) ∷ last in
-    one_more k pawns (n / 64 / 64 % listed_count pawns) further (mod_small pawns (n / 64 / 64))
+    one_more k pawns (n / 64 / 64 % king_places pawns) further (mod_small pawns (n / 64 / 64))
     (one_on b (n / 64 % 64) last (omega arith) (one_on x (n % 64) [] (omega arith) (All-nil OnBoard)))
 on_board pawns (k ∷ b ∷ x ∷ y ∷ []) n a =
     let last = man y (n % 64) ∷ [] in
     let third = man x (n / 64 % 64) ∷ last in
     let further = man b (n / 64 / 64 % 64) ∷ third in
-    one_more k pawns (n / 64 / 64 / 64 % listed_count pawns) further (mod_small pawns (n / 64 / 64 / 64))
+    one_more k pawns (n / 64 / 64 / 64 % king_places pawns) further (mod_small pawns (n / 64 / 64 / 64))
     (one_on b (n / 64 / 64 % 64) third (omega arith) (one_on x (n / 64 % 64) last (omega arith) (one_on y (n % 64) [] (omega arith) (All-nil OnBoard))))
 on_board pawns [] n a = absurd a
 on_board pawns (k ∷ []) n a = absurd a

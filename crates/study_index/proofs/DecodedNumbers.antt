@@ -8,8 +8,8 @@ use Rattle.study_board.specs.Symmetry.{turned_side}
 use Rattle.study_moves.specs.EnPassant.{has_legal_en_passant}
 use Rattle.study_material.specs.declared.class.Class.{Class}
 use Rattle.study_material.specs.Lists.{is_exchanged, is_swapped}
-use Rattle.study_values.specs.Canonical.{least_of}
-use Rattle.study_values.specs.Filling.{IsFilling}
+use Rattle.study_values.specs.Canonical.{canonical_number}
+use Rattle.study_values.specs.Slots.{IsFilling}
 use Rattle.study_values.specs.Number.{has_pawn, with_bit, has_bit, without_bit, IsLeastNumber}
 use Rattle.study_index.specs.Decoded.{slots_of, slots_have_pawn, told_men, told_side, passed_behind, is_cell, IsPlaced, HasLeast, IsDecoded}
 use Rattle.study_index.proofs.ClassSlots.{AreSlots-class, class_in_order}
@@ -30,13 +30,13 @@ placed_least c n o p l =
     let unswapped : is_swapped p.men ≡ false = ap (λ k. is_exchanged k) (lists-filled c p.men men back filled_so) ∙ class_in_order c in
     let fills : IsFilling false p.men men = record { each_once = back; in_slots = IsInSlots-men_of pawns (slots_of c) n a } in
     let same : has_pawn p.men ≡ pawns = has_pawn-slots p.men men (slots_of c) back filled_so in
-    least_is p men (least_of pawns (told_side (slots_of c) n) false men) l.valid
+    least_is p men (canonical_number pawns (told_side (slots_of c) n) false men) l.valid
     (subst (λ b. IsFilling b p.men men) (sym unswapped) fills)
     (as_is (is_swapped p.men) (has_pawn p.men) unswapped same l.same_side)
   where
     as_is : (b h : Bool) → b ≡ false → h ≡ slots_have_pawn (slots_of c) → p.to_move ≡ told_side (slots_of c) n
-        → least_of (slots_have_pawn (slots_of c)) (told_side (slots_of c) n) false (told_men (slots_of c) n)
-        ≡ least_of h (turned_side b p.to_move) b (told_men (slots_of c) n)
+        → canonical_number (slots_have_pawn (slots_of c)) (told_side (slots_of c) n) false (told_men (slots_of c) n)
+        ≡ canonical_number h (turned_side b p.to_move) b (told_men (slots_of c) n)
     as_is b h e f g = rw (e, f, g) refl
 
 the_same : (m n : ℕ) (o : Option ℕ) → o ≡ Some m → o ≡ Some n → m ≡ n

@@ -52,9 +52,9 @@ a_pawn_of_four : cells_of KRKP ≡ 16777216
 a_pawn_of_four = refl
 
 -- the men that 20,543 encodes for king and rook against king
-told : told_men (slots_of KRK) 20543 ≡ man White King 10 ∷ man Black King 0 ∷ man White Rook 63 ∷ []
+decode_men : told_men (slots_of KRK) 20543 ≡ man White King 10 ∷ man Black King 0 ∷ man White Rook 63 ∷ []
 unfolding listed_square
-told = refl
+decode_men = refl
 
 slots : slots_of KRKP ≡ slot_for White King ∷ slot_for Black King ∷ slot_for White Rook ∷ slot_for Black Pawn ∷ []
 slots = refl

@@ -17,7 +17,7 @@ use Rattle.study_board.specs.Men.{is_man, same_side, same_kind}
 use Rattle.study_board.specs.Position.{Position, IsValid, AllAbove, IsAscending, has_one_king}
 use Rattle.study_board.proofs.Lists.{count_by-cons}
 use Rattle.study_board.proofs.Valid.{IsFaultless-from_first}
-use Rattle.study_values.specs.Filling.{slot_number, man_slot_number, NoneBefore, IsInSlots, IsFilling}
+use Rattle.study_values.specs.Slots.{slot_number, man_slot_number, NoneBefore, IsInSlots, IsFilling}
 use Rattle.study_board.specs.Symmetry.{turned_side}
 use Rattle.study_values.specs.Canonical.{last_two_exchanged, are_like}
 

@@ -7,10 +7,10 @@ use Rattle.study_board.specs.Symmetry.{image, admits}
 use Rattle.study_board.specs.Images.{differ, composed, back}
 use Rattle.study_board.proofs.ImagesValid.{any_turned, seats, valid_image}
 use Rattle.study_board.proofs.ImagesOfImages.{IsTurnable-from_valid, image_joined, image_back, admits_image, admits_joined, admits_back}
-use Rattle.study_moves.specs.EnPassant.{has_legal_en_passant, without_passed, bare}
+use Rattle.study_moves.specs.EnPassant.{has_legal_en_passant, without_passed, without_idle_passed_square}
 use Rattle.study_material.specs.Lists.{Lists, lists, is_swapped}
 use Rattle.study_material.proofs.ClassOfImage.{turned_lists, lists-image, swapped-image}
-use Rattle.study_values.specs.Filling.{IsFilling}
+use Rattle.study_values.specs.Slots.{IsFilling}
 use Rattle.study_values.specs.Number.{has_pawn, number, IsNumber, IsLeastNumber}
 
 -- if the two lists are equal the colours are kept
@@ -74,14 +74,14 @@ IsNumber-passed p q n e f h =
 pub IsLeastNumber-passed : (p q : Position) (n : ℕ) → p.men ≡ q.men → p.to_move ≡ q.to_move → IsLeastNumber p n → IsLeastNumber q n
 IsLeastNumber-passed p q n e f h = record { number = IsNumber-passed p q n e f h.number; least = λ m k. h.least m (IsNumber-passed q p m (sym e) (sym f) k) }
 
-pub bare_men : (p : Position) → (bare p).men ≡ p.men
+pub bare_men : (p : Position) → (without_idle_passed_square p).men ≡ p.men
 bare_men p = by_live (has_legal_en_passant p)
   where
     by_live : (b : Bool) → (cond b p (without_passed p)).men ≡ p.men
     by_live true = refl
     by_live false = refl
 
-pub bare_to_move : (p : Position) → (bare p).to_move ≡ p.to_move
+pub bare_to_move : (p : Position) → (without_idle_passed_square p).to_move ≡ p.to_move
 bare_to_move p = by_live (has_legal_en_passant p)
   where
     by_live : (b : Bool) → (cond b p (without_passed p)).to_move ≡ p.to_move

@@ -17,7 +17,7 @@ use Rattle.study_board.specs.Symmetry.{turned_square, turned_man, image, admits}
 use Rattle.study_board.proofs.ImagesValid.{valid_image}
 use Rattle.study_material.specs.declared.class.Class.{Class}
 use Rattle.study_material.proofs.ClassOfImage.{IsPermutation-turned}
-use Rattle.study_values.specs.Filling.{IsInSlots}
+use Rattle.study_values.specs.Slots.{IsInSlots}
 use Rattle.study_values.specs.Number.{number, place, has_pawn, with_bit, without_bit}
 use Rattle.study_index.specs.declared.decoding.Slot.{Slot}
 use Rattle.study_index.specs.Decoded.{slot_filled, slots_of, slots_have_pawn, AreSlots, men_of, told_men, told_side}

@@ -10,13 +10,13 @@ use Rattle.study_board.specs.declared.symmetry.Symmetry.{Symmetry}
 use Rattle.study_board.specs.Geometry.{file_of, rank_of}
 use Rattle.study_board.specs.Symmetry.{turned_square}
 use Rattle.study_index.specs.declared.decoding.Slot.{Slot}
-use Rattle.study_values.specs.Filling.{man_slot_number}
-use Rattle.study_values.specs.Number.{place, listed_count}
-use Rattle.study_values.specs.Canonical.{are_like, least, least_of}
+use Rattle.study_values.specs.Slots.{man_slot_number}
+use Rattle.study_values.specs.Number.{place, king_places}
+use Rattle.study_values.specs.Canonical.{are_like, least, canonical_number}
 use Rattle.study_index.specs.Squares.{square_symmetry, number_at, exchanged_at, least_turned, least_at}
 use Rattle.study_index.specs.Decoded.{slot_filled, AreSlots, listed_square, men_of, head, side_numbered}
 use Rattle.study_index.specs.Stepped.{are_like_slots}
-use Rattle.study_index.specs.LeastImage.{turned_across, exchanged, ascending_if, lesser, is_on_diagonal, least_image, squares}
+use Rattle.study_index.specs.LeastImage.{with_squares_transposed, exchanged, ascending_if, lesser, is_on_diagonal, least_image, squares}
 use Rattle.study_index.proofs.Symmetries.{all_below, at_below}
 use Rattle.study_index.proofs.NumbersReadOff.{place-king, head_back, filled-men_of}
 use Rattle.study_index.proofs.BySquares.{AreOnBoard, least_of_squares}
@@ -60,7 +60,7 @@ record IsHome (pawns : Bool) (s : ℕ) : Type 0 where
   pub symmetry : (across : Bool) → square_symmetry pawns (not pawns && across) false s ≡ record { files = false; ranks = false; diagonal = not pawns && across; colours = false }
   pub on_board : s < 64
 
-home : (pawns : Bool) (q : ℕ) → q < listed_count pawns → IsHome pawns (listed_square pawns q)
+home : (pawns : Bool) (q : ℕ) → q < king_places pawns → IsHome pawns (listed_square pawns q)
 unfolding square_symmetry
 home true q l =
     let s = listed_square true q in
@@ -91,7 +91,7 @@ placed_across q l =
 
 -- ---- the numbers of the squares that a number encodes
 
-few_places : (pawns : Bool) (h : ℕ) → h % listed_count pawns < listed_count pawns
+few_places : (pawns : Bool) (h : ℕ) → h % king_places pawns < king_places pawns
 few_places true h = omega arith
 few_places false h = omega arith
 
@@ -105,17 +105,17 @@ on_board pawns (k ∷ b ∷ x ∷ y ∷ z ∷ fs) n a = absurd a
 
 module _ (pawns : Bool) where
   abbrev side_of : List Slot → ℕ → Side
-  side_of slots n = side_numbered (head slots n / listed_count pawns)
+  side_of slots n = side_numbered (head slots n / king_places pawns)
 
-  straight_number : (slots : List Slot) (n : ℕ) → AreSlots slots → nat_lt (head slots n / listed_count pawns) 2 ≡ true
+  straight_number : (slots : List Slot) (n : ℕ) → AreSlots slots → nat_lt (head slots n / king_places pawns) 2 ≡ true
       → number_at pawns (side_of slots n) (turned_square straight) (squares (men_of pawns slots n)) ≡ Some n
   unfolding number_at
   straight_number (k ∷ b ∷ []) n a c =
-      rw (straight_is (listed_square pawns (n / 64 % listed_count pawns)), straight_is (n % 64), place-king pawns (n / 64))
+      rw (straight_is (listed_square pawns (n / 64 % king_places pawns)), straight_is (n % 64), place-king pawns (n / 64))
       (ap (λ x. Some x) (let h = head_back pawns (n / 64) c in omega (arith, h)))
   straight_number (k ∷ b ∷ x ∷ []) n a c =
       rw (
-        straight_is (listed_square pawns (n / 64 / 64 % listed_count pawns)),
+        straight_is (listed_square pawns (n / 64 / 64 % king_places pawns)),
         straight_is (n / 64 % 64),
         straight_is (n % 64),
         place-king pawns (n / 64 / 64),
@@ -123,7 +123,7 @@ module _ (pawns : Bool) where
       (ap (λ x. Some x) (let h = head_back pawns (n / 64 / 64) c in omega (arith, h)))
   straight_number (k ∷ b ∷ x ∷ y ∷ []) n a c =
       rw (
-        straight_is (listed_square pawns (n / 64 / 64 / 64 % listed_count pawns)),
+        straight_is (listed_square pawns (n / 64 / 64 / 64 % king_places pawns)),
         straight_is (n / 64 / 64 % 64),
         straight_is (n / 64 % 64),
         straight_is (n % 64),
@@ -134,14 +134,14 @@ module _ (pawns : Bool) where
   straight_number (k ∷ []) n a c = absurd a
   straight_number (k ∷ b ∷ x ∷ y ∷ z ∷ fs) n a c = absurd a
 
-  straight_exchanged : (k b x y : Slot) (n : ℕ) → nat_lt (n / 64 / 64 / 64 / listed_count pawns) 2 ≡ true
-      → number_at pawns (side_numbered (n / 64 / 64 / 64 / listed_count pawns)) (turned_square straight)
+  straight_exchanged : (k b x y : Slot) (n : ℕ) → nat_lt (n / 64 / 64 / 64 / king_places pawns) 2 ≡ true
+      → number_at pawns (side_numbered (n / 64 / 64 / 64 / king_places pawns)) (turned_square straight)
       (exchanged_at (squares (men_of pawns (k ∷ b ∷ x ∷ y ∷ []) n)))
       ≡ Some (exchanged n)
   unfolding number_at exchanged
   straight_exchanged k b x y n c =
       rw (
-        straight_is (listed_square pawns (n / 64 / 64 / 64 % listed_count pawns)),
+        straight_is (listed_square pawns (n / 64 / 64 / 64 % king_places pawns)),
         straight_is (n / 64 / 64 % 64),
         straight_is (n / 64 % 64),
         straight_is (n % 64),
@@ -149,7 +149,7 @@ module _ (pawns : Bool) where
       )
       (ap (λ x. Some x) (let h = head_back pawns (n / 64 / 64 / 64) c in omega (arith, h)))
 
-  least_straight : (slots : List Slot) (n : ℕ) → AreSlots slots → nat_lt (head slots n / listed_count pawns) 2 ≡ true
+  least_straight : (slots : List Slot) (n : ℕ) → AreSlots slots → nat_lt (head slots n / king_places pawns) 2 ≡ true
       → least_turned pawns (side_of slots n) (turned_square straight) (are_like_slots slots) (squares (men_of pawns slots n))
       ≡ Some (ascending_if (are_like_slots slots) n)
   unfolding least_turned ascending_if
@@ -184,8 +184,8 @@ by_diagonal false f q m e = refl
 
 across_number : (slots : List Slot) (n : ℕ) → AreSlots slots → nat_lt (head slots n / 10) 2 ≡ true
     → number_at false (side_numbered (head slots n / 10)) (turned_square diagonal) (squares (men_of false slots n))
-    ≡ cond (is_on_diagonal (head slots n % 10)) (Some (turned_across slots n)) None
-unfolding number_at turned_across
+    ≡ cond (is_on_diagonal (head slots n % 10)) (Some (with_squares_transposed slots n)) None
+unfolding number_at with_squares_transposed
 across_number (k ∷ b ∷ []) n a c =
     rw (placed_across (n / 64 % 10) (few_places false (n / 64)), across_is (n % 64))
     (by_diagonal (is_on_diagonal (n / 64 % 10)) _ (n / 64 % 10) _
@@ -208,8 +208,8 @@ across_number (k ∷ b ∷ x ∷ y ∷ z ∷ fs) n a c = absurd a
 across_exchanged : (k b x y : Slot) (n : ℕ) → nat_lt (n / 64 / 64 / 64 / 10) 2 ≡ true
     → number_at false (side_numbered (n / 64 / 64 / 64 / 10)) (turned_square diagonal)
     (exchanged_at (squares (men_of false (k ∷ b ∷ x ∷ y ∷ []) n)))
-    ≡ cond (is_on_diagonal (n / 64 / 64 / 64 % 10)) (Some (exchanged (turned_across (k ∷ b ∷ x ∷ y ∷ []) n))) None
-unfolding number_at turned_across exchanged
+    ≡ cond (is_on_diagonal (n / 64 / 64 / 64 % 10)) (Some (exchanged (with_squares_transposed (k ∷ b ∷ x ∷ y ∷ []) n))) None
+unfolding number_at with_squares_transposed exchanged
 across_exchanged k b x y n c =
     rw (placed_across (n / 64 / 64 / 64 % 10) (few_places false (n / 64 / 64 / 64)), across_is (n / 64 / 64 % 64), across_is (n / 64 % 64), across_is (n % 64))
     (by_diagonal (is_on_diagonal (n / 64 / 64 / 64 % 10)) _ (n / 64 / 64 / 64 % 10) _
@@ -227,20 +227,20 @@ across_exchanged k b x y n c =
 
 least_across : (slots : List Slot) (n : ℕ) → AreSlots slots → nat_lt (head slots n / 10) 2 ≡ true
     → least_turned false (side_numbered (head slots n / 10)) (turned_square diagonal) (are_like_slots slots) (squares (men_of false slots n))
-    ≡ cond (is_on_diagonal (head slots n % 10)) (Some (ascending_if (are_like_slots slots) (turned_across slots n))) None
-unfolding least_turned ascending_if turned_across turned_square
+    ≡ cond (is_on_diagonal (head slots n % 10)) (Some (ascending_if (are_like_slots slots) (with_squares_transposed slots n))) None
+unfolding least_turned ascending_if with_squares_transposed turned_square
 least_across (k ∷ b ∷ []) n a c = across_number (k ∷ b ∷ []) n a c
 least_across (k ∷ b ∷ x ∷ []) n a c = across_number (k ∷ b ∷ x ∷ []) n a c
 least_across (k ∷ b ∷ x ∷ y ∷ []) n a c =
     chosen (are_like_slots (k ∷ b ∷ x ∷ y ∷ [])) _ _ (is_on_diagonal (n / 64 / 64 / 64 % 10)) _ _
-    (exchanged (turned_across (k ∷ b ∷ x ∷ y ∷ []) n)) (turned_across (k ∷ b ∷ x ∷ y ∷ []) n)
+    (exchanged (with_squares_transposed (k ∷ b ∷ x ∷ y ∷ []) n)) (with_squares_transposed (k ∷ b ∷ x ∷ y ∷ []) n)
     (lower k b x y) (across_exchanged k b x y n c) (across_number (k ∷ b ∷ x ∷ y ∷ []) n a c)
   where
     last : (h i j : ℕ) → i < 64 → j < 64 → (((h * 64 + i) * 64 + j) % 64 ≡ j) × (((h * 64 + i) * 64 + j) / 64 % 64 ≡ i)
     last h i j l m = (omega arith, omega arith)
 
     lower : (k b x y : Slot) → nat_lt (turned_square diagonal (n % 64)) (turned_square diagonal (n / 64 % 64))
-        ≡ nat_lt (turned_across (k ∷ b ∷ x ∷ y ∷ []) n % 64) (turned_across (k ∷ b ∷ x ∷ y ∷ []) n / 64 % 64)
+        ≡ nat_lt (with_squares_transposed (k ∷ b ∷ x ∷ y ∷ []) n % 64) (with_squares_transposed (k ∷ b ∷ x ∷ y ∷ []) n / 64 % 64)
     lower k b x y =
         let e = last (n / 64 / 64 / 64 * 64 + (8 * (n / 64 / 64 % 64 % 8) + n / 64 / 64 % 64 / 8)) (8 * (n / 64 % 64 % 8) + n / 64 % 64 / 8)
         (8 * (n % 64 % 8) + n % 64 / 8) (omega arith) (omega arith) in
@@ -279,9 +279,9 @@ lesser_if true x y = by_test (nat_lt y x)
     by_test true = refl
     by_test false = refl
 
-least_home : (pawns : Bool) (slots : List Slot) (n : ℕ) (rest : List ℕ) → AreSlots slots → nat_lt (head slots n / listed_count pawns) 2 ≡ true
-    → squares (men_of pawns slots n) ≡ listed_square pawns (head slots n % listed_count pawns) ∷ rest
-    → least_at pawns (side_numbered (head slots n / listed_count pawns)) false (are_like_slots slots) (squares (men_of pawns slots n))
+least_home : (pawns : Bool) (slots : List Slot) (n : ℕ) (rest : List ℕ) → AreSlots slots → nat_lt (head slots n / king_places pawns) 2 ≡ true
+    → squares (men_of pawns slots n) ≡ listed_square pawns (head slots n % king_places pawns) ∷ rest
+    → least_at pawns (side_numbered (head slots n / king_places pawns)) false (are_like_slots slots) (squares (men_of pawns slots n))
     ≡ Some (least_image pawns (are_like_slots slots) slots n)
 unfolding least_at least_image
 least_home true slots n rest a c e =
@@ -303,10 +303,10 @@ least_home false slots n rest a c e =
     ∙ ap (λ (xs : List ℕ). least_turned false side (turned_square straight) like xs) (sym e) ∙ least_straight false slots n a c)
     (ap (λ t. least_turned false side (turned_square t) like (k ∷ rest)) (h.symmetry true)
     ∙ ap (λ (xs : List ℕ). least_turned false side (turned_square diagonal) like xs) (sym e) ∙ least_across slots n a c)
-    ∙ lesser_if (is_on_diagonal (head slots n % 10)) (ascending_if like n) (ascending_if like (turned_across slots n))
+    ∙ lesser_if (is_on_diagonal (head slots n % 10)) (ascending_if like n) (ascending_if like (with_squares_transposed slots n))
 
-least_squares : (pawns : Bool) (slots : List Slot) (n : ℕ) → AreSlots slots → nat_lt (head slots n / listed_count pawns) 2 ≡ true
-    → least_at pawns (side_numbered (head slots n / listed_count pawns)) false (are_like_slots slots) (squares (men_of pawns slots n))
+least_squares : (pawns : Bool) (slots : List Slot) (n : ℕ) → AreSlots slots → nat_lt (head slots n / king_places pawns) 2 ≡ true
+    → least_at pawns (side_numbered (head slots n / king_places pawns)) false (are_like_slots slots) (squares (men_of pawns slots n))
     ≡ Some (least_image pawns (are_like_slots slots) slots n)
 least_squares pawns (k ∷ b ∷ []) n a c = least_home pawns (k ∷ b ∷ []) n (n % 64 ∷ []) a c refl
 least_squares pawns (k ∷ b ∷ x ∷ []) n a c = least_home pawns (k ∷ b ∷ x ∷ []) n (n / 64 % 64 ∷ n % 64 ∷ []) a c refl
@@ -317,12 +317,12 @@ least_squares pawns (k ∷ []) n a c = absurd a
 least_squares pawns (k ∷ b ∷ x ∷ y ∷ z ∷ fs) n a c = absurd a
 
 -- the least number of the men that a number of the class encodes
-pub least_told : (pawns : Bool) (slots : List Slot) (n : ℕ) → AreSlots slots → nat_lt (head slots n / listed_count pawns) 2 ≡ true
-    → least_of pawns (side_numbered (head slots n / listed_count pawns)) false (men_of pawns slots n)
+pub least_told : (pawns : Bool) (slots : List Slot) (n : ℕ) → AreSlots slots → nat_lt (head slots n / king_places pawns) 2 ≡ true
+    → canonical_number pawns (side_numbered (head slots n / king_places pawns)) false (men_of pawns slots n)
     ≡ Some (least_image pawns (are_like_slots slots) slots n)
 least_told pawns slots n a c =
     let men = men_of pawns slots n in
-    let side = side_numbered (head slots n / listed_count pawns) in
+    let side = side_numbered (head slots n / king_places pawns) in
     let like : are_like false men ≡ are_like_slots slots = are_like-slots men ∙ ap (λ ss. are_like_slots ss) (filled-men_of pawns slots n a) in
     sym (least_of_squares pawns side false men (on_board pawns slots n a))
     ∙ ap (λ l. least_at pawns side false l (squares men)) like

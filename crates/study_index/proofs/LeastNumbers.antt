@@ -12,9 +12,9 @@ use Rattle.study_board.specs.declared.men.Man.{Man}
 use Rattle.study_board.specs.Position.{Position, IsValid}
 use Rattle.study_board.specs.declared.symmetry.Symmetry.{Symmetry}
 use Rattle.study_board.specs.Symmetry.{turned_square, turned_side, turned_man}
-use Rattle.study_values.specs.Filling.{IsFilling}
-use Rattle.study_values.specs.Number.{place, number, has_pawn, append_squares, listed_count, side_number}
-use Rattle.study_values.specs.Canonical.{canonical_symmetry, last_two_exchanged, are_like, descends, least, least_by, least_of, turned_number}
+use Rattle.study_values.specs.Slots.{IsFilling}
+use Rattle.study_values.specs.Number.{place, number, has_pawn, append_squares, king_places, side_number}
+use Rattle.study_values.specs.Canonical.{canonical_symmetry, last_two_exchanged, are_like, descends, least, least_by, canonical_number, turned_number}
 use Rattle.study_index.proofs.Fillings.{IsMaterial, IsMaterial-from_valid, HasKings-from_filling, fillings_of, exchanged-fills}
 use Rattle.study_index.proofs.Symmetries.{admitted, chosen-only, some-listed, chosen-admitted, chosen-colours, chosen-pawns}
 
@@ -89,17 +89,17 @@ least-falls pawns side t (a ∷ b ∷ x ∷ y ∷ []) e = by_place (place pawns 
 
     by_place : (o : Option ℕ) (u w : ℕ)
         → least
-        (option_map (λ q. (((side_number side * listed_count pawns + q) * 64 + turned_square t b.at) * 64 + u) * 64 + w)
+        (option_map (λ q. (((side_number side * king_places pawns + q) * 64 + turned_square t b.at) * 64 + u) * 64 + w)
         o)
-        (option_map (λ q. (((side_number side * listed_count pawns + q) * 64 + turned_square t b.at) * 64 + w) * 64 + u)
+        (option_map (λ q. (((side_number side * king_places pawns + q) * 64 + turned_square t b.at) * 64 + w) * 64 + u)
         o)
         ≡ cond (nat_lt w u)
-        (option_map (λ q. (((side_number side * listed_count pawns + q) * 64 + turned_square t b.at) * 64 + w) * 64 + u)
+        (option_map (λ q. (((side_number side * king_places pawns + q) * 64 + turned_square t b.at) * 64 + w) * 64 + u)
         o)
-        (option_map (λ q. (((side_number side * listed_count pawns + q) * 64 + turned_square t b.at) * 64 + u) * 64 + w)
+        (option_map (λ q. (((side_number side * king_places pawns + q) * 64 + turned_square t b.at) * 64 + u) * 64 + w)
         o)
     by_place None u w = none (nat_lt w u)
-    by_place (Some q) u w = some ((side_number side * listed_count pawns + q) * 64 + turned_square t b.at) u w (nat_lt w u) refl
+    by_place (Some q) u w = some ((side_number side * king_places pawns + q) * 64 + turned_square t b.at) u w (nat_lt w u) refl
 least-falls pawns side t [] e = absurd (false≢true e)
 least-falls pawns side t (a ∷ []) e = absurd (false≢true e)
 least-falls pawns side t (a ∷ b ∷ []) e = absurd (false≢true e)
@@ -164,9 +164,9 @@ number-listed : (pawns : Bool) (side : Side) (t : Symmetry) (k : Man) (rest : Li
     → turned_number pawns side t (k ∷ rest) ≡ Some n → (q : ℕ) × (place pawns (turned_square t k.at) ≡ Some q)
 unfolding turned_number number
 number-listed pawns side t k rest n e =
-    let go : (o : Option ℕ) → option_map (λ q. append_squares (side_number side * listed_count pawns + q) (map (turned_man t) rest)) o ≡ Some n
+    let go : (o : Option ℕ) → option_map (λ q. append_squares (side_number side * king_places pawns + q) (map (turned_man t) rest)) o ≡ Some n
     → (q : ℕ) × (o ≡ Some q) =
-    λ o. elim o as (λ v. option_map (λ q. append_squares (side_number side * listed_count pawns + q) (map (turned_man t) rest)) v ≡ Some n → (q : ℕ) × (v ≡ Some q))
+    λ o. elim o as (λ v. option_map (λ q. append_squares (side_number side * king_places pawns + q) (map (turned_man t) rest)) v ≡ Some n → (q : ℕ) × (v ≡ Some q))
     [ None ↦ λ d. cc | Some q ↦ λ d. (q, refl) ]
     in go (place pawns (turned_square t k.at)) e
 
@@ -229,7 +229,7 @@ module _ (c : Bool) (p : Position) (k : Man) (rest : List Man) (v : IsValid p) (
   listed_number d q e =
       let t = canonical_symmetry pawns d c k.at in
       let b : c ≡ t.colours = sym (chosen-colours pawns d c k.at) in
-      let n = append_squares (side_number side * listed_count pawns + q) (map (turned_man t) rest) in
+      let n = append_squares (side_number side * king_places pawns + q) (map (turned_man t) rest) in
       (n, record { filling = k ∷ rest; fills = subst (λ b. IsFilling b p.men (k ∷ rest)) b f; is = rw e refl })
 
   pub some_number : (n : ℕ) × IsNumberOf c p n
@@ -271,8 +271,8 @@ module _ (c : Bool) (p : Position) (k : Man) (rest : List Man) (v : IsValid p) (
   transposed : Option ℕ
   transposed = least_by pawns side (canonical_symmetry pawns true c k.at) (k ∷ rest)
 
-  pub IsLeast-least_of : IsLeast (IsNumberOf c p) (least_of pawns side c (k ∷ rest))
-  unfolding least_of straight transposed
+  pub IsLeast-least_of : IsLeast (IsNumberOf c p) (canonical_number pawns side c (k ∷ rest))
+  unfolding canonical_number straight transposed
   IsLeast-least_of =
       let go : (b : Bool) → pawns ≡ b → IsLeast (IsNumberOf c p) (cond b straight (least straight transposed)) =
       λ b. elim b as (λ v. pawns ≡ v → IsLeast (IsNumberOf c p) (cond v straight (least straight transposed))) [
@@ -286,11 +286,11 @@ module _ (c : Bool) (p : Position) (k : Man) (rest : List Man) (v : IsValid p) (
 
 -- the least number of a position that has one
 pub IsIndex-least_of : (c : Bool) (p : Position) (xs : List Man) (r : Option ℕ) → IsValid p → IsFilling c p.men xs
-    → r ≡ least_of (has_pawn p.men) (turned_side c p.to_move) c xs → (n : ℕ) × (r ≡ Some n) × IsIndexOf c p n
+    → r ≡ canonical_number (has_pawn p.men) (turned_side c p.to_move) c xs → (n : ℕ) × (r ≡ Some n) × IsIndexOf c p n
 IsIndex-least_of c p xs r v f e = at_some r (IsLeast-from_filling xs f r e)
   where
     IsLeast-from_filling : (xs : List Man) → IsFilling c p.men xs → (r : Option ℕ)
-        → r ≡ least_of (has_pawn p.men) (turned_side c p.to_move) c xs → IsLeast (IsNumberOf c p) r
+        → r ≡ canonical_number (has_pawn p.men) (turned_side c p.to_move) c xs → IsLeast (IsNumberOf c p) r
         × ((n : ℕ) × IsNumberOf c p n)
     IsLeast-from_filling [] f r e =
         absurd (let k = HasKings-from_filling c p.men [] (IsMaterial-from_valid c p v) f in

@@ -14,7 +14,7 @@ use Rattle.study_material.specs.Lists.{Lists, of, put_kind, kinds_of, lists, is_
 use Rattle.study_material.specs.Class.{lists_of}
 use Rattle.study_material.proofs.KindCounts.{kinds_of-IsPermutation, lists-IsPermutation}
 use Rattle.study_index.specs.declared.decoding.Slot.{Slot}
-use Rattle.study_values.specs.Filling.{slot_number, man_slot_number, NoneBefore, IsInSlots, IsFilling}
+use Rattle.study_values.specs.Slots.{slot_number, man_slot_number, NoneBefore, IsInSlots, IsFilling}
 use Rattle.study_index.specs.Decoded.{slot_filled, slot_for, slots_of}
 use Rattle.study_index.proofs.Fillings.{IsMaterial-from_valid, HasKings-from_filling}
 use Rattle.study_index.proofs.ClassSlots.{kinds_in, kinds_in-class}

@@ -7,7 +7,7 @@ use Rattle.study_board.specs.declared.men.Side.{Side}
 use Rattle.study_board.specs.declared.symmetry.Symmetry.{Symmetry}
 use Rattle.study_board.specs.Symmetry.{turned_square}
 use Rattle.study_index.specs.declared.decoding.Slot.{Slot}
-use Rattle.study_values.specs.Number.{place, listed_count, side_number}
+use Rattle.study_values.specs.Number.{place, king_places, side_number}
 use Rattle.study_index.specs.Decoded.{AreSlots, told_men}
 use Rattle.study_index.specs.Squares.{number_at}
 use Rattle.study_index.specs.Stepped.{moved_to}
@@ -50,7 +50,7 @@ head_of side f o q e = rw (sym e) refl
 -- the number of the men with the king on a listed square
 pub listed_number : (pawns : Bool) (slots : List Slot) (side : Side) (n a q : ℕ) → AreSlots slots → a < 64 → Some q ≡ place pawns a
     → number_at pawns side (turned_square (king_symmetry pawns a)) (squares (moved_to 0 a (told_men slots n)))
-    ≡ Some (with_head slots (side_number side * listed_count pawns + q) n)
+    ≡ Some (with_head slots (side_number side * king_places pawns + q) n)
 unfolding number_at with_head
 listed_number pawns (k ∷ b ∷ []) side n a q s on e =
     let t = listed_stays pawns a q on e in

@@ -19,7 +19,7 @@ use Rattle.study_board.specs.Position.{Position, IsValid, could_be_passed, has_m
 use Rattle.study_board.proofs.Valid.{IsFaultless-from_first}
 use Rattle.study_moves.specs.declared.moves.Move.{Move}
 use Rattle.study_moves.specs.Rules.{is_en_passant, is_square, is_legal}
-use Rattle.study_moves.specs.EnPassant.{is_taken, has_legal_en_passant, without_passed, bare}
+use Rattle.study_moves.specs.EnPassant.{is_capturable_en_passant, has_legal_en_passant, without_passed, without_idle_passed_square}
 use Rattle.study_index.specs.Decoded.{square_behind, square_behind_pawn}
 use Rattle.study_moves.proofs.MenOfList.{IsAmong, some_among, same_square, found_among}
 use Rattle.study_moves.proofs.NoMoveBetween.{HasMover-from_is_legal}
@@ -66,7 +66,7 @@ passing_pawn q m x e =
     (and_parts (is_pawn m && not (file_of m.at == file_of x)) (is_square q x) e).0).0
 
 -- the pawn that captures on the passed square
-capturing_pawn : (p : Position) (x : ℕ) → IsValid p → is_taken p (Some x) ≡ true → 1 ≤ many p.to_move Pawn p.men
+capturing_pawn : (p : Position) (x : ℕ) → IsValid p → is_capturable_en_passant p (Some x) ≡ true → 1 ≤ many p.to_move Pawn p.men
 capturing_pawn p x v e =
     let r = some_among (λ man. is_en_passant p.passed man x && is_legal p (record { origin = man.at; target = x; promoted = None })) p.men e in
     let man = r.0 in
@@ -88,13 +88,13 @@ pub live_pawns : (p : Position) → IsValid p → has_legal_en_passant p ≡ tru
     → (x : ℕ) × (p.passed ≡ Some x) × (could_be_passed p.men p.to_move x ≡ true) × (1 ≤ many White Pawn p.men) × (1 ≤ many Black Pawn p.men)
 live_pawns p v taken = by_passed p.passed refl taken
   where
-    at_square : (x : ℕ) → p.passed ≡ Some x → passed_possible p.men p.to_move (Some x) ≡ true → is_taken p (Some x) ≡ true
+    at_square : (x : ℕ) → p.passed ≡ Some x → passed_possible p.men p.to_move (Some x) ≡ true → is_capturable_en_passant p (Some x) ≡ true
         → (y : ℕ) × (p.passed ≡ Some y) × (could_be_passed p.men p.to_move y ≡ true) × (1 ≤ many White Pawn p.men) × (1 ≤ many Black Pawn p.men)
     at_square x e possible taken =
         let both = both_pawns p.men p.to_move (capturing_pawn p x v taken) (jumped_pawn p.men p.to_move x possible) in
         (x, e, possible, both.0, both.1)
 
-    by_passed : (q : Option ℕ) → p.passed ≡ q → is_taken p q ≡ true
+    by_passed : (q : Option ℕ) → p.passed ≡ q → is_capturable_en_passant p q ≡ true
         → (y : ℕ) × (p.passed ≡ Some y) × (could_be_passed p.men p.to_move y ≡ true) × (1 ≤ many White Pawn p.men) × (1 ≤ many Black Pawn p.men)
     by_passed None e t = absurd (false≢true t)
     by_passed (Some x) e t =
@@ -163,10 +163,10 @@ live_behind p xs v same taken =
         ap (λ z. Some z) back ∙ sym (among White (x + 8) parts.1 white)
 
 -- whether a position is live depends only on its bare form
-live-bare : (p : Position) → has_legal_en_passant p ≡ is_some (bare p).passed
+live-bare : (p : Position) → has_legal_en_passant p ≡ is_some (without_idle_passed_square p).passed
 live-bare p = by_live (has_legal_en_passant p) refl
   where
-    some_passed : (q : Option ℕ) → is_taken p q ≡ true → is_some q ≡ true
+    some_passed : (q : Option ℕ) → is_capturable_en_passant p q ≡ true → is_some q ≡ true
     some_passed None e = absurd (false≢true e)
     some_passed (Some x) e = refl
 
@@ -175,26 +175,26 @@ live-bare p = by_live (has_legal_en_passant p) refl
     by_live false e = refl
 
 -- a position that has an image as its bare form is live exactly if the image is
-pub live_along : (s : Symmetry) (p q : Position) → bare q ≡ image s (bare p) → has_legal_en_passant q ≡ has_legal_en_passant p
-live_along s p q e = live-bare q ∙ ap (λ (r : Position). is_some r.passed) e ∙ turned s (bare p).passed ∙ sym (live-bare p)
+pub live_along : (s : Symmetry) (p q : Position) → without_idle_passed_square q ≡ image s (without_idle_passed_square p) → has_legal_en_passant q ≡ has_legal_en_passant p
+live_along s p q e = live-bare q ∙ ap (λ (r : Position). is_some r.passed) e ∙ turned s (without_idle_passed_square p).passed ∙ sym (live-bare p)
   where
     turned : (s : Symmetry) (o : Option ℕ) → is_some (turned_passed s o) ≡ is_some o
     turned s None = refl
     turned s (Some x) = refl
 
 -- the bare form is its own bare form
-pub bare_twice : (p : Position) → bare (bare p) ≡ bare p
+pub bare_twice : (p : Position) → without_idle_passed_square (without_idle_passed_square p) ≡ without_idle_passed_square p
 bare_twice p = by_live (has_legal_en_passant p) refl
   where
-    by_live : (b : Bool) → has_legal_en_passant p ≡ b → (let q : Position = cond b p (without_passed p) in bare q ≡ q)
+    by_live : (b : Bool) → has_legal_en_passant p ≡ b → (let q : Position = cond b p (without_passed p) in without_idle_passed_square q ≡ q)
     by_live true e = rw e refl
     by_live false e = refl
 
-pub live_bare : (p : Position) → has_legal_en_passant (bare p) ≡ has_legal_en_passant p
-live_bare p = live-bare (bare p) ∙ ap (λ (r : Position). is_some r.passed) (bare_twice p) ∙ sym (live-bare p)
+pub live_bare : (p : Position) → has_legal_en_passant (without_idle_passed_square p) ≡ has_legal_en_passant p
+live_bare p = live-bare (without_idle_passed_square p) ∙ ap (λ (r : Position). is_some r.passed) (bare_twice p) ∙ sym (live-bare p)
 
 -- a position that is its own bare form and is not live has no passed square
-pub not_live_passed : (p : Position) → bare p ≡ p → has_legal_en_passant p ≡ false → p.passed ≡ None
+pub not_live_passed : (p : Position) → without_idle_passed_square p ≡ p → has_legal_en_passant p ≡ false → p.passed ≡ None
 not_live_passed p e f = sym (ap (λ (r : Position). r.passed) e) ∙ by_live (has_legal_en_passant p) f
   where
     by_live : (b : Bool) → b ≡ false → (cond b p (without_passed p)).passed ≡ None

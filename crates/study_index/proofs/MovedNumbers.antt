@@ -10,10 +10,10 @@ use Rattle.study_board.specs.Position.{Position}
 use Rattle.study_board.specs.Symmetry.{turned_side}
 use Rattle.study_material.specs.declared.class.Class.{Class}
 use Rattle.study_material.specs.Lists.{is_exchanged, is_swapped}
-use Rattle.study_values.specs.Filling.{man_slot_number, NoneBefore, IsInSlots, IsFilling}
+use Rattle.study_values.specs.Slots.{man_slot_number, NoneBefore, IsInSlots, IsFilling}
 use Rattle.study_values.specs.Number.{has_pawn, with_bit, without_bit, IsLeastNumber}
 use Rattle.study_index.specs.Decoded.{slot_filled, slots_of, slots_have_pawn, told_men, told_side}
-use Rattle.study_values.specs.Canonical.{least_of}
+use Rattle.study_values.specs.Canonical.{canonical_number}
 use Rattle.study_values.specs.Index.{index_of}
 use Rattle.study_index.specs.Moved.{IsMoved}
 use Rattle.study_index.proofs.NumbersReadOff.{filled-men_of, has_pawn-slots, IsInSlots-men_of}
@@ -57,7 +57,7 @@ IsInSlots-kept x a (m ∷ ms) h = (
 -- the least number of men in the order of the slots of a class is that of their position
 pub least_number_is : (c : Class) (p : Position) (men : List Man) (side : Side) (r : Option ℕ) → IsValid p → IsPermutation p.men men
     → map slot_filled men ≡ slots_of c → IsInSlots false men → p.to_move ≡ side
-    → r ≡ least_of (slots_have_pawn (slots_of c)) side false men → (n : ℕ) × (r ≡ Some n) × IsLeastNumber p n
+    → r ≡ canonical_number (slots_have_pawn (slots_of c)) side false men → (n : ℕ) × (r ≡ Some n) × IsLeastNumber p n
 least_number_is c p men side r valid same filled in_slots to_move e =
     let slots = slots_of c in
     let pawns = slots_have_pawn slots in
@@ -68,13 +68,13 @@ least_number_is c p men side r valid same filled in_slots to_move e =
     (e ∙ as_is (is_swapped p.men) (has_pawn p.men) pawns p.to_move side men unswapped with_pawn to_move)
   where
     as_is : (w h g : Bool) (y z : Side) (men : List Man) → w ≡ false → h ≡ g → y ≡ z
-        → least_of g z false men ≡ least_of h (turned_side w y) w men
+        → canonical_number g z false men ≡ canonical_number h (turned_side w y) w men
     as_is w h g y z men e f k = rw (e, f, k) refl
 
 -- and its index, if no capture in passing is legal
 pub least_index : (c : Class) (p : Position) (men : List Man) (side : Side) (r : Option ℕ) → IsValid p → IsPermutation p.men men
     → map slot_filled men ≡ slots_of c → IsInSlots false men → p.to_move ≡ side → has_legal_en_passant p ≡ false
-    → r ≡ least_of (slots_have_pawn (slots_of c)) side false men → r ≡ Some (index_of p)
+    → r ≡ canonical_number (slots_have_pawn (slots_of c)) side false men → r ≡ Some (index_of p)
 least_index c p men side r valid same filled in_slots to_move dead e =
     let found = least_number_is c p men side r valid same filled in_slots to_move e in
     found.1 ∙ ap (λ (k : ℕ). Some k)
@@ -82,7 +82,7 @@ least_index c p men side r valid same filled in_slots to_move dead e =
 
 -- the least number of the men that a number encodes, one of them on another square, is the index of their position
 pub moved_number : (c : Class) (n x a : ℕ) (p : Position) (r : Option ℕ) → IsMoved c n x a p
-    → r ≡ least_of (slots_have_pawn (slots_of c)) (other_side (told_side (slots_of c) (without_bit n))) false
+    → r ≡ canonical_number (slots_have_pawn (slots_of c)) (other_side (told_side (slots_of c) (without_bit n))) false
     (map (moved_if x a) (told_men (slots_of c) (without_bit n))) → r ≡ Some (index_of p)
 moved_number c n x a p r t e =
     let slots = slots_of c in

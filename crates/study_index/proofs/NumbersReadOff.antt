@@ -19,8 +19,8 @@ use Rattle.study_index.proofs.MenInOrder.{ascending_same}
 use Rattle.study_board.proofs.Faults.{first_fault_same}
 use Rattle.study_moves.specs.EnPassant.{has_legal_en_passant}
 use Rattle.study_index.specs.declared.decoding.Slot.{Slot}
-use Rattle.study_values.specs.Filling.{IsInSlots, man_slot_number}
-use Rattle.study_values.specs.Number.{place, listed_count, number, has_pawn, append_squares, side_number, with_bit, has_bit, without_bit, IsLeastNumber, IsIndex}
+use Rattle.study_values.specs.Slots.{IsInSlots, man_slot_number}
+use Rattle.study_values.specs.Number.{place, king_places, number, has_pawn, append_squares, side_number, with_bit, has_bit, without_bit, IsLeastNumber, IsIndex}
 use Rattle.study_index.specs.Decoded.{slot_filled, IsDecodedAt, AreSlots, listed_square, slots_have_pawn, man, head, men_of}
 use Rattle.study_index.specs.Decoded.{side_numbered, told_men, told_side, passed_behind, is_cell, IsPlaced, IsFaulty}
 use Rattle.study_index.proofs.Symmetries.{all_below, at_below}
@@ -34,17 +34,17 @@ pub is_number-true : (q : ℕ) (o : Option ℕ) → is_number q o ≡ true → o
 is_number-true q None e = absurd (false≢true e)
 is_number-true q (Some r) e = ap (λ x. Some x) (let d : r ≡ q = grind (arith, nat_tests) in d)
 
-place_test : (pawns : Bool) → all_below (listed_count pawns) (λ q. is_number q (place pawns (listed_square pawns q))) ≡ true
+place_test : (pawns : Bool) → all_below (king_places pawns) (λ q. is_number q (place pawns (listed_square pawns q))) ≡ true
 unfolding place listed_square
 place_test true = refl
 place_test false = refl
 
-pub place-listed : (pawns : Bool) (q : ℕ) → q < listed_count pawns → place pawns (listed_square pawns q) ≡ Some q
-place-listed pawns q l = is_number-true q _ (at_below (listed_count pawns) (λ q. is_number q (place pawns (listed_square pawns q))) (place_test pawns) q l)
+pub place-listed : (pawns : Bool) (q : ℕ) → q < king_places pawns → place pawns (listed_square pawns q) ≡ Some q
+place-listed pawns q l = is_number-true q _ (at_below (king_places pawns) (λ q. is_number q (place pawns (listed_square pawns q))) (place_test pawns) q l)
 
 abbrev pub listed_back : Bool → ℕ → Option ℕ → Bool
 listed_back pawns s None = true
-listed_back pawns s (Some q) = (listed_square pawns q == s) && nat_lt q (listed_count pawns)
+listed_back pawns s (Some q) = (listed_square pawns q == s) && nat_lt q (king_places pawns)
 
 listed_test : (pawns : Bool) → all_below 64 (λ s. listed_back pawns s (place pawns s)) ≡ true
 unfolding place listed_square
@@ -55,31 +55,31 @@ both : (x y : Bool) → (x && y) ≡ true → (x ≡ true) × (y ≡ true)
 both true y e = (refl, e)
 both false y e = absurd (false≢true e)
 
-pub listed-place : (pawns : Bool) (s q : ℕ) → s < 64 → place pawns s ≡ Some q → (listed_square pawns q ≡ s) × (q < listed_count pawns)
+pub listed-place : (pawns : Bool) (s q : ℕ) → s < 64 → place pawns s ≡ Some q → (listed_square pawns q ≡ s) × (q < king_places pawns)
 listed-place pawns s q l e =
     let t : listed_back pawns s (Some q) ≡ true =
     subst (λ o. listed_back pawns s o ≡ true) e
     (at_below 64 (λ s. listed_back pawns s (place pawns s)) (listed_test pawns) s l) in
-    let parts = both (listed_square pawns q == s) (nat_lt q (listed_count pawns)) t in
-    (eqb-true (listed_square pawns q) s parts.0, ltb-true q (listed_count pawns) parts.1)
+    let parts = both (listed_square pawns q == s) (nat_lt q (king_places pawns)) t in
+    (eqb-true (listed_square pawns q) s parts.0, ltb-true q (king_places pawns) parts.1)
 
 -- the parts of a number
 pub number-parts : (pawns : Bool) (side : Side) (k : Man) (rest : List Man) (n : ℕ) → number pawns side (k ∷ rest) ≡ Some n
-    → (q : ℕ) × (place pawns k.at ≡ Some q) × (n ≡ append_squares (side_number side * listed_count pawns + q) rest)
+    → (q : ℕ) × (place pawns k.at ≡ Some q) × (n ≡ append_squares (side_number side * king_places pawns + q) rest)
 unfolding number
 number-parts pawns side k rest n e =
-    let go : (o : Option ℕ) → option_map (λ q. append_squares (side_number side * listed_count pawns + q) rest) o ≡ Some n
-    → (q : ℕ) × (o ≡ Some q) × (n ≡ append_squares (side_number side * listed_count pawns + q) rest) =
-    λ o. elim o as (λ v. option_map (λ q. append_squares (side_number side * listed_count pawns + q) rest) v ≡ Some n
-    → (q : ℕ) × (v ≡ Some q) × (n ≡ append_squares (side_number side * listed_count pawns + q) rest))
+    let go : (o : Option ℕ) → option_map (λ q. append_squares (side_number side * king_places pawns + q) rest) o ≡ Some n
+    → (q : ℕ) × (o ≡ Some q) × (n ≡ append_squares (side_number side * king_places pawns + q) rest) =
+    λ o. elim o as (λ v. option_map (λ q. append_squares (side_number side * king_places pawns + q) rest) v ≡ Some n
+    → (q : ℕ) × (v ≡ Some q) × (n ≡ append_squares (side_number side * king_places pawns + q) rest))
     [ None ↦ λ d. cc | Some q ↦ λ d. (q, refl, cc) ]
     in
     let r = go (place pawns (k.at)) e in
     (r.0, r.1, r.2)
 
 -- the side and the king's place
-pub head_parts : (pawns : Bool) (side : Side) (q h : ℕ) → q < listed_count pawns → h ≡ side_number side * listed_count pawns + q
-    → (h % listed_count pawns ≡ q) × (side ≡ side_numbered (h / listed_count pawns)) × (nat_lt (h / listed_count pawns) 2 ≡ true)
+pub head_parts : (pawns : Bool) (side : Side) (q h : ℕ) → q < king_places pawns → h ≡ side_number side * king_places pawns + q
+    → (h % king_places pawns ≡ q) × (side ≡ side_numbered (h / king_places pawns)) × (nat_lt (h / king_places pawns) 2 ≡ true)
 head_parts true White q h l e = (omega arith, (let z : h / 32 ≡ 0 = omega arith in rw z refl), (let z : h / 32 ≡ 0 = omega arith in rw z refl))
 head_parts true Black q h l e = (omega arith, (let z : h / 32 ≡ 1 = omega arith in rw z refl), (let z : h / 32 ≡ 1 = omega arith in rw z refl))
 head_parts false White q h l e = (omega arith, (let z : h / 10 ≡ 0 = omega arith in rw z refl), (let z : h / 10 ≡ 0 = omega arith in rw z refl))
@@ -88,8 +88,8 @@ head_parts false Black q h l e = (omega arith, (let z : h / 10 ≡ 1 = omega ari
 -- the data read off the number of men
 pub record IsRead (pawns : Bool) (side : Side) (fs : List Man) (n : ℕ) : Type 0 where
   pub men : fs ≡ men_of pawns (map slot_filled fs) n
-  pub side_is : side ≡ side_numbered (head (map slot_filled fs) n / listed_count pawns)
-  pub cell : nat_lt (head (map slot_filled fs) n / listed_count pawns) 2 ≡ true
+  pub side_is : side ≡ side_numbered (head (map slot_filled fs) n / king_places pawns)
+  pub cell : nat_lt (head (map slot_filled fs) n / king_places pawns) 2 ≡ true
 
 pub IsRead-number : (pawns : Bool) (side : Side) (fs : List Man) (n : ℕ) → AreSlots (map slot_filled fs)
     → All (λ m. m.at < 64) fs → number pawns side fs ≡ Some n → IsRead pawns side fs n
@@ -97,7 +97,7 @@ IsRead-number pawns side (k ∷ b ∷ []) n a all e =
     let p = number-parts pawns side k (b ∷ []) n e in
     let lk = all 0 k (omega arith) in let lb = all 1 b (omega arith) in
     let l = listed-place pawns k.at p.0 lk p.1 in
-    let h : n / 64 ≡ side_number side * listed_count pawns + p.0 = (let w = p.2 in omega (arith, w)) in
+    let h : n / 64 ≡ side_number side * king_places pawns + p.0 = (let w = p.2 in omega (arith, w)) in
     let d : n % 64 ≡ b.at = (let w = p.2 in omega (arith, w)) in
     let r = head_parts pawns side p.0 (n / 64) l.1 h in
     record {
@@ -112,10 +112,10 @@ IsRead-number pawns side (k ∷ b ∷ x ∷ []) n a all e =
     let p = number-parts pawns side k (b ∷ x ∷ []) n e in
     let lk = all 0 k (omega arith) in let lb = all 1 b (omega arith) in let lx = all 2 x (omega arith) in
     let l = listed-place pawns k.at p.0 lk p.1 in
-    let w : n ≡ ((side_number side * listed_count pawns + p.0) * 64 + b.at) * 64 + x.at = p.2 in
-    let d : n / 64 ≡ (side_number side * listed_count pawns + p.0) * 64 + b.at = omega arith in
+    let w : n ≡ ((side_number side * king_places pawns + p.0) * 64 + b.at) * 64 + x.at = p.2 in
+    let d : n / 64 ≡ (side_number side * king_places pawns + p.0) * 64 + b.at = omega arith in
     let d' : n % 64 ≡ x.at = omega arith in
-    let h : n / 64 / 64 ≡ side_number side * listed_count pawns + p.0 = omega arith in
+    let h : n / 64 / 64 ≡ side_number side * king_places pawns + p.0 = omega arith in
     let h' : n / 64 % 64 ≡ b.at = omega arith in
     let r = head_parts pawns side p.0 (n / 64 / 64) l.1 h in
     record {
@@ -131,12 +131,12 @@ IsRead-number pawns side (k ∷ b ∷ x ∷ y ∷ []) n a all e =
     let p = number-parts pawns side k (b ∷ x ∷ y ∷ []) n e in
     let lk = all 0 k (omega arith) in let lb = all 1 b (omega arith) in let lx = all 2 x (omega arith) in let ly = all 3 y (omega arith) in
     let l = listed-place pawns k.at p.0 lk p.1 in
-    let w : n ≡ (((side_number side * listed_count pawns + p.0) * 64 + b.at) * 64 + x.at) * 64 + y.at = p.2 in
-    let d : n / 64 ≡ ((side_number side * listed_count pawns + p.0) * 64 + b.at) * 64 + x.at = omega arith in
+    let w : n ≡ (((side_number side * king_places pawns + p.0) * 64 + b.at) * 64 + x.at) * 64 + y.at = p.2 in
+    let d : n / 64 ≡ ((side_number side * king_places pawns + p.0) * 64 + b.at) * 64 + x.at = omega arith in
     let d' : n % 64 ≡ y.at = omega arith in
-    let g : n / 64 / 64 ≡ (side_number side * listed_count pawns + p.0) * 64 + b.at = omega arith in
+    let g : n / 64 / 64 ≡ (side_number side * king_places pawns + p.0) * 64 + b.at = omega arith in
     let g' : n / 64 % 64 ≡ x.at = omega arith in
-    let h : n / 64 / 64 / 64 ≡ side_number side * listed_count pawns + p.0 = omega arith in
+    let h : n / 64 / 64 / 64 ≡ side_number side * king_places pawns + p.0 = omega arith in
     let h' : n / 64 / 64 % 64 ≡ b.at = omega arith in
     let r = head_parts pawns side p.0 (n / 64 / 64 / 64) l.1 h in
     record {
@@ -162,18 +162,18 @@ side_back h e =
     [ true ↦ λ d. (let z : h ≡ 0 = grind (arith, nat_tests) in sym z) | false ↦ λ d. (let z : h ≡ 1 = grind (arith, nat_tests) in sym z) ]
     in go (eqb h 0) refl
 
-pub head_back : (pawns : Bool) (h : ℕ) → nat_lt (h / listed_count pawns) 2 ≡ true
-    → side_number (side_numbered (h / listed_count pawns)) * listed_count pawns + h % listed_count pawns ≡ h
+pub head_back : (pawns : Bool) (h : ℕ) → nat_lt (h / king_places pawns) 2 ≡ true
+    → side_number (side_numbered (h / king_places pawns)) * king_places pawns + h % king_places pawns ≡ h
 head_back true h e = (let s = side_back (h / 32) e in omega (arith, s))
 head_back false h e = (let s = side_back (h / 10) e in omega (arith, s))
 
-pub place-king : (pawns : Bool) (h : ℕ) → place pawns ((listed_square pawns (h % listed_count pawns))) ≡ Some (h % listed_count pawns)
+pub place-king : (pawns : Bool) (h : ℕ) → place pawns ((listed_square pawns (h % king_places pawns))) ≡ Some (h % king_places pawns)
 place-king true h = place-listed true (h % 32) (omega arith)
 place-king false h = place-listed false (h % 10) (omega arith)
 
 pub number-men_of : (pawns : Bool) (slots : List Slot) (n : ℕ) → AreSlots slots
-    → nat_lt (head slots n / listed_count pawns) 2 ≡ true
-    → number pawns (side_numbered (head slots n / listed_count pawns)) (men_of pawns slots n) ≡ Some n
+    → nat_lt (head slots n / king_places pawns) 2 ≡ true
+    → number pawns (side_numbered (head slots n / king_places pawns)) (men_of pawns slots n) ≡ Some n
 unfolding number
 number-men_of pawns (k ∷ b ∷ []) n a c =
     rw (place-king pawns (n / 64)) (ap (λ x. Some x) (let h = head_back pawns (n / 64) c in omega (arith, h)))
@@ -237,12 +237,12 @@ IsOfMen-decoded slots n q a d =
     (subst (λ h. number h q.to_move f ≡ Some b) p d.read_off.is) in
     let men : f ≡ told_men slots b = subst (λ s. f ≡ men_of (slots_have_pawn slots) s b) d.read_off.slots_are r.men in
     let move : q.to_move ≡ told_side slots b =
-    subst (λ s. q.to_move ≡ side_numbered (head s b / listed_count (slots_have_pawn slots))) d.read_off.slots_are r.side_is in
+    subst (λ s. q.to_move ≡ side_numbered (head s b / king_places (slots_have_pawn slots))) d.read_off.slots_are r.side_is in
     record {
       same = subst (λ l. IsPermutation l q.men) men (IsPermutation-sym q.men f d.read_off.fills.each_once);
       move = move;
       passed = d.read_off.passed ∙ ap (λ s. passed_behind (has_bit n) s f) move ∙ ap (λ l. passed_behind (has_bit n) (told_side slots b) l) men;
-      cell = subst (λ s. nat_lt (head s b / listed_count (slots_have_pawn slots)) 2 ≡ true) d.read_off.slots_are r.cell;
+      cell = subst (λ s. nat_lt (head s b / king_places (slots_have_pawn slots)) 2 ≡ true) d.read_off.slots_are r.cell;
     }
 
 -- a number that is not a cell is not decoded

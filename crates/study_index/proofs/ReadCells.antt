@@ -12,7 +12,7 @@ use Rattle.study_board.specs.declared.fault.PositionFault.{PositionFault}
 use Rattle.study_board.specs.Geometry.{rank_of}
 use Rattle.study_board.specs.Position.{Position, is_empty, has_man, could_be_passed, passed_possible, first_fault}
 use Rattle.study_board.proofs.Valid.{IsFaultless-from_first}
-use Rattle.study_moves.specs.EnPassant.{has_legal_en_passant, is_taken}
+use Rattle.study_moves.specs.EnPassant.{has_legal_en_passant, is_capturable_en_passant}
 use Rattle.study_material.specs.declared.class.Class.{Class}
 use Rattle.study_index.specs.declared.decoding.Slot.{Slot}
 use Rattle.study_values.specs.Number.{numbers_of, cells_of, with_bit, has_bit, without_bit}
@@ -54,7 +54,7 @@ not_parts c n m b s e f g h =
     [ inl faulty ↦ no_position (slots_of c) n (AreSlots-class c) faulty | inr other ↦ not_least c n other ]
 
 dead_without : (p : Position) → p.passed ≡ None → has_legal_en_passant p ≡ false
-dead_without p e = ap (is_taken p) e
+dead_without p e = ap (is_capturable_en_passant p) e
 
 pub some_plain : (c : Class) (n : ℕ) (s : List Slot) (o : Option Position) → n < cells_of c → n < 16777216
     → s ≡ slots_of c → IfSome o (Read s n false) → IfSome o (IsDecoded c n)

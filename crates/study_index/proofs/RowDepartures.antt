@@ -12,12 +12,12 @@ use Rattle.study_material.specs.declared.class.Class.TheVariants.{KQNK, KQPK, KR
 use Rattle.study_material.specs.declared.class.Class.TheVariants.{KNNK, KNPK, KPPK, KQKQ, KQKR, KQKB, KQKN, KQKP, KRKR}
 use Rattle.study_material.specs.declared.class.Class.TheVariants.{KRKB, KRKN, KRKP, KBKB, KBKN, KBKP, KNKN, KNKP, KPKP}
 use Rattle.study_index.specs.declared.decoding.Slot.{Slot}
-use Rattle.study_index.specs.declared.row_way.RowTerms.{RowTerms}
-use Rattle.study_index.specs.declared.row_way.RowWay.TheVariants.{Sum, LeastImage, King}
-use Rattle.study_values.specs.Number.{listed_count, side_number, without_bit, numbers_of, cells_of}
+use Rattle.study_index.specs.declared.row_index_rule.RowIndexTerms.{RowIndexTerms}
+use Rattle.study_index.specs.declared.row_index_rule.RowIndexRule.TheVariants.{Sum, LeastImage, King}
+use Rattle.study_values.specs.Number.{king_places, side_number, without_bit, numbers_of, cells_of}
 use Rattle.study_index.specs.Decoded.{slots_of, slots_have_pawn, AreSlots, head, side_numbered, told_men, told_side}
-use Rattle.study_index.specs.Stepped.{are_like_slots, square_weight, square_told, IsStepped}
-use Rattle.study_index.specs.Departure.{keeps_image, StandsOn}
+use Rattle.study_index.specs.Stepped.{are_like_slots, square_weight, square_of_slot, IsStepped}
+use Rattle.study_index.specs.Departure.{is_canonical_as_is, StandsOn}
 use Rattle.study_index.specs.LeastImage.{turned_by, least_image, is_on_diagonal, with_head}
 use Rattle.study_index.specs.RowDeparture.{row_with, IsRowSum, IsLeastOfRowSum, IsRowSumOfKing, IsRowOfLast, IsKingInRow, IsRowFoundBy}
 use Rattle.study_index.proofs.ClassSlots.{AreSlots-class, is_cell-below, number_below}
@@ -101,26 +101,26 @@ turned_in_row k m y l = by_test (nat_lt (64 * m) (64 * k)) refl
 -- the sum for each number of a row
 abbrev IsSumInRow : ℕ → ℕ → ℕ → ℕ → ℕ → ℕ → Type 0
 IsSumInRow places count m i y a =
-    turned_by places count (64 * m + y) - square_told count i (64 * m + y) * square_weight count i + a * square_weight count i
-    ≡ 64 * ((turned_by places count (64 * m) - square_told count i (64 * m) * square_weight count i) / 64 + a * (square_weight count i / 64)) + y
+    turned_by places count (64 * m + y) - square_of_slot count i (64 * m + y) * square_weight count i + a * square_weight count i
+    ≡ 64 * ((turned_by places count (64 * m) - square_of_slot count i (64 * m) * square_weight count i) / 64 + a * (square_weight count i / 64)) + y
 
-sum_of_three : (pawns : Bool) (m y a : ℕ) → y < 64 → square_told 3 1 (64 * m) * 64 ≤ turned_by (listed_count pawns) 3 (64 * m)
-    → IsSumInRow (listed_count pawns) 3 m 1 y a
+sum_of_three : (pawns : Bool) (m y a : ℕ) → y < 64 → square_of_slot 3 1 (64 * m) * 64 ≤ turned_by (king_places pawns) 3 (64 * m)
+    → IsSumInRow (king_places pawns) 3 m 1 y a
 sum_of_three true m y a l b = let t = turned_in_row 2048 m y l in joined _ _ _ _ 1 y a l t.whole t.grows (ap (λ (n : ℕ). n % 64) (left_of m y l)) b
 sum_of_three false m y a l b = let t = turned_in_row 640 m y l in joined _ _ _ _ 1 y a l t.whole t.grows (ap (λ (n : ℕ). n % 64) (left_of m y l)) b
 
-second_of_four : (pawns : Bool) (m y a : ℕ) → y < 64 → square_told 4 1 (64 * m) * 4096 ≤ turned_by (listed_count pawns) 4 (64 * m)
-    → IsSumInRow (listed_count pawns) 4 m 1 y a
+second_of_four : (pawns : Bool) (m y a : ℕ) → y < 64 → square_of_slot 4 1 (64 * m) * 4096 ≤ turned_by (king_places pawns) 4 (64 * m)
+    → IsSumInRow (king_places pawns) 4 m 1 y a
 second_of_four true m y a l b = let t = turned_in_row 131072 m y l in joined _ _ _ _ 64 y a l t.whole t.grows (omega (arith, l)) b
 second_of_four false m y a l b = let t = turned_in_row 40960 m y l in joined _ _ _ _ 64 y a l t.whole t.grows (omega (arith, l)) b
 
-third_of_four : (pawns : Bool) (m y a : ℕ) → y < 64 → square_told 4 2 (64 * m) * 64 ≤ turned_by (listed_count pawns) 4 (64 * m)
-    → IsSumInRow (listed_count pawns) 4 m 2 y a
+third_of_four : (pawns : Bool) (m y a : ℕ) → y < 64 → square_of_slot 4 2 (64 * m) * 64 ≤ turned_by (king_places pawns) 4 (64 * m)
+    → IsSumInRow (king_places pawns) 4 m 2 y a
 third_of_four true m y a l b = let t = turned_in_row 131072 m y l in joined _ _ _ _ 1 y a l t.whole t.grows (omega (arith, l)) b
 third_of_four false m y a l b = let t = turned_in_row 40960 m y l in joined _ _ _ _ 1 y a l t.whole t.grows (omega (arith, l)) b
 
-sum_in_row : (pawns : Bool) (slots : List Slot) (m i y a : ℕ) → AreSlots slots → nat_lt (head slots (64 * m) / listed_count pawns) 2 ≡ true
-    → 1 ≤ i → i + 1 < length slots → y < 64 → IsSumInRow (listed_count pawns) (length slots) m i y a
+sum_in_row : (pawns : Bool) (slots : List Slot) (m i y a : ℕ) → AreSlots slots → nat_lt (head slots (64 * m) / king_places pawns) 2 ≡ true
+    → 1 ≤ i → i + 1 < length slots → y < 64 → IsSumInRow (king_places pawns) (length slots) m i y a
 sum_in_row pawns (k ∷ b ∷ []) m zero y a s c one few l = absurd (omega (arith, one))
 sum_in_row pawns (k ∷ b ∷ []) m (suc i) y a s c one few l = absurd (omega (arith, few))
 sum_in_row pawns (k ∷ b ∷ x ∷ []) m zero y a s c one few l = absurd (omega (arith, one))
@@ -152,13 +152,13 @@ last_in_row (k ∷ b ∷ x ∷ z ∷ w ∷ fs) m y d s l = absurd s
 -- the sum with the last man on another square
 abbrev IsSumOfLast : ℕ → ℕ → ℕ → ℕ → ℕ → Type 0
 IsSumOfLast places count m y a =
-    turned_by places count (64 * m + y) - square_told count (count - 1) (64 * m + y) * square_weight count (count - 1)
+    turned_by places count (64 * m + y) - square_of_slot count (count - 1) (64 * m + y) * square_weight count (count - 1)
     + a * square_weight count (count - 1) ≡ 64 * (turned_by places count (64 * m) / 64) + a
 
 last_joined : (t u v y a : ℕ) → t % 64 ≡ 0 → u ≡ t + y → v ≡ y → u - v * 1 + a * 1 ≡ 64 * (t / 64) + a
 last_joined t u v y a e f d = omega (arith, e, f, d)
 
-sum_of_last : (pawns : Bool) (slots : List Slot) (m y a : ℕ) → AreSlots slots → y < 64 → IsSumOfLast (listed_count pawns) (length slots) m y a
+sum_of_last : (pawns : Bool) (slots : List Slot) (m y a : ℕ) → AreSlots slots → y < 64 → IsSumOfLast (king_places pawns) (length slots) m y a
 sum_of_last true (k ∷ b ∷ []) m y a s l = let t = turned_in_row 32 m y l in last_joined _ _ _ y a t.whole t.grows (omega (arith, l))
 sum_of_last false (k ∷ b ∷ []) m y a s l = let t = turned_in_row 10 m y l in last_joined _ _ _ y a t.whole t.grows (omega (arith, l))
 sum_of_last true (k ∷ b ∷ x ∷ []) m y a s l = let t = turned_in_row 2048 m y l in last_joined _ _ _ y a t.whole t.grows (omega (arith, l))
@@ -199,9 +199,9 @@ head_put (k ∷ []) h n s = absurd s
 head_put (k ∷ b ∷ x ∷ w ∷ v ∷ fs) h n s = absurd s
 
 -- with the king off the diagonal, or with pawns, no other image has a lesser number
-king_kept : (pawns like : Bool) (slots : List Slot) (side q n : ℕ) → AreSlots slots → like ≡ false → q < listed_count pawns
+king_kept : (pawns like : Bool) (slots : List Slot) (side q n : ℕ) → AreSlots slots → like ≡ false → q < king_places pawns
     → (pawns || not (is_on_diagonal q)) ≡ true
-    → least_image pawns like slots (with_head slots (side * listed_count pawns + q) n) ≡ with_head slots (side * listed_count pawns + q) n
+    → least_image pawns like slots (with_head slots (side * king_places pawns + q) n) ≡ with_head slots (side * king_places pawns + q) n
 king_kept true false slots side q n s e l o = image_kept true false _ slots _ refl refl
 king_kept false false slots side q n s e l o =
     image_kept false false (is_on_diagonal q) slots _ o
@@ -269,30 +269,30 @@ module _ (c : Class) (r : ℕ) where
       ∙ ap (λ (n : ℕ). head slots n) (sym (first_in_row r))
 
   -- no number of the row is mirrored, if the first is not
-  keeps_in_row : (y : ℕ) → y < 64 → keeps_image (slots_of c) (without_bit (64 * r)) ≡ true
-      → keeps_image (slots_of c) (without_bit (64 * r + y)) ≡ true
+  keeps_in_row : (y : ℕ) → y < 64 → is_canonical_as_is (slots_of c) (without_bit (64 * r)) ≡ true
+      → is_canonical_as_is (slots_of c) (without_bit (64 * r + y)) ≡ true
   keeps_in_row y l keeps =
       ap (λ (h : ℕ). not (are_like_slots (slots_of c)) && (slots_have_pawn (slots_of c) || not (is_on_diagonal (h % 10)))) (heads_in_row y l) ∙ keeps
 
   -- the terms of a man of a slot after the first and before the last
-  abbrev pub AreTermsOf : ℕ → RowTerms → Type 0
+  abbrev pub AreTermsOf : ℕ → RowIndexTerms → Type 0
   AreTermsOf i t =
-      (t.rest ≡ (turned_by (listed_count (slots_have_pawn (slots_of c))) (length (slots_of c)) (without_bit (64 * r))
-      - square_told (length (slots_of c)) i (without_bit (64 * r)) * square_weight (length (slots_of c)) i) / 64)
+      (t.rest ≡ (turned_by (king_places (slots_have_pawn (slots_of c))) (length (slots_of c)) (without_bit (64 * r))
+      - square_of_slot (length (slots_of c)) i (without_bit (64 * r)) * square_weight (length (slots_of c)) i) / 64)
       × (t.weight ≡ square_weight (length (slots_of c)) i / 64)
 
-  sum_of_row : (i y a : ℕ) (t : RowTerms) → 64 * r < cells_of c → 1 ≤ i → i + 1 < length (slots_of c) → y < 64 → AreTermsOf i t
-      → turned_by (listed_count (slots_have_pawn (slots_of c))) (length (slots_of c)) (without_bit (64 * r + y))
-      - square_told (length (slots_of c)) i (without_bit (64 * r + y)) * square_weight (length (slots_of c)) i
+  sum_of_row : (i y a : ℕ) (t : RowIndexTerms) → 64 * r < cells_of c → 1 ≤ i → i + 1 < length (slots_of c) → y < 64 → AreTermsOf i t
+      → turned_by (king_places (slots_have_pawn (slots_of c))) (length (slots_of c)) (without_bit (64 * r + y))
+      - square_of_slot (length (slots_of c)) i (without_bit (64 * r + y)) * square_weight (length (slots_of c)) i
       + a * square_weight (length (slots_of c)) i ≡ 64 * row_with t a + y
   sum_of_row i y a t below one few l is =
       let slots = slots_of c in
       let pawns = slots_have_pawn slots in
       let m = without_bit (64 * r) / 64 in
-      let cell : nat_lt (head slots (64 * m) / listed_count pawns) 2 ≡ true =
-      ap (λ (k : ℕ). nat_lt (head slots k / listed_count pawns) 2) (sym (first_in_row r))
+      let cell : nat_lt (head slots (64 * m) / king_places pawns) 2 ≡ true =
+      ap (λ (k : ℕ). nat_lt (head slots k / king_places pawns) 2) (sym (first_in_row r))
       ∙ is_cell-below c (without_bit (64 * r)) ∙ below_test (without_bit (64 * r)) (numbers_of c) (number_below c (64 * r) below) in
-      let sums : ℕ → ℕ = λ k. turned_by (listed_count pawns) (length slots) k - square_told (length slots) i k * square_weight (length slots) i in
+      let sums : ℕ → ℕ = λ k. turned_by (king_places pawns) (length slots) k - square_of_slot (length slots) i k * square_weight (length slots) i in
       ap (λ (k : ℕ). sums k + a * square_weight (length slots) i) (bit_in_row r y l)
       ∙ sum_in_row pawns slots m i y a (AreSlots-class c) cell one few l
       ∙ ap (λ (k : ℕ). 64 * (sums k / 64 + a * (square_weight (length slots) i / 64)) + y) (sym (first_in_row r))
@@ -305,8 +305,8 @@ module _ (c : Class) (r : ℕ) where
       as_terms u v w z e f = rw (e, f) refl
 
   -- if no number of the row is mirrored
-  pub IsRowSum-terms : (i x : ℕ) (t : RowTerms) → 64 * r < cells_of c → 1 ≤ i → i + 1 < length (slots_of c)
-      → keeps_image (slots_of c) (without_bit (64 * r)) ≡ true
+  pub IsRowSum-terms : (i x : ℕ) (t : RowIndexTerms) → 64 * r < cells_of c → 1 ≤ i → i + 1 < length (slots_of c)
+      → is_canonical_as_is (slots_of c) (without_bit (64 * r)) ≡ true
       → ((d : Man) → (slice_index_or (told_men (slots_of c) (without_bit (64 * r))) i d).at ≡ x) → AreTermsOf i t → IsRowSum c r x t
   IsRowSum-terms i x t below one few keeps stands is a on y p l moved =
       let n = 64 * r + y in
@@ -316,7 +316,7 @@ module _ (c : Class) (r : ℕ) where
       ∙ sum_of_row i y a t below one few l is
 
   -- and if some may be
-  pub IsLeastOfRowSum-terms : (i x : ℕ) (t : RowTerms) → 64 * r < cells_of c → 1 ≤ i → i + 1 < length (slots_of c)
+  pub IsLeastOfRowSum-terms : (i x : ℕ) (t : RowIndexTerms) → 64 * r < cells_of c → 1 ≤ i → i + 1 < length (slots_of c)
       → ((d : Man) → (slice_index_or (told_men (slots_of c) (without_bit (64 * r))) i d).at ≡ x) → AreTermsOf i t → IsLeastOfRowSum c r x t
   IsLeastOfRowSum-terms i x t below one few stands is a y p on l moved =
       let slots = slots_of c in
@@ -327,11 +327,11 @@ module _ (c : Class) (r : ℕ) where
       ∙ ap (λ (k : ℕ). least_image (slots_have_pawn slots) (are_like_slots slots) slots k) (sum_of_row i y a t below one few l is)
 
   -- the last man
-  pub IsRowOfLast-turned : keeps_image (slots_of c) (without_bit (64 * r)) ≡ true → 64 * r < cells_of c
-      → IsRowOfLast c r (turned_by (listed_count (slots_have_pawn (slots_of c))) (length (slots_of c)) (without_bit (64 * r)) / 64)
+  pub IsRowOfLast-turned : is_canonical_as_is (slots_of c) (without_bit (64 * r)) ≡ true → 64 * r < cells_of c
+      → IsRowOfLast c r (turned_by (king_places (slots_have_pawn (slots_of c))) (length (slots_of c)) (without_bit (64 * r)) / 64)
   IsRowOfLast-turned keeps below y a p l on moved =
       let slots = slots_of c in
-      let places = listed_count (slots_have_pawn slots) in
+      let places = king_places (slots_have_pawn slots) in
       let count = length slots in
       let n = 64 * r + y in
       let m = without_bit (64 * r) / 64 in
@@ -341,15 +341,15 @@ module _ (c : Class) (r : ℕ) where
       let stands : StandsOn c n i y =
       λ d. ap (λ (k : ℕ). (slice_index_or (told_men slots k) i d).at) (bit_in_row r y l) ∙ last_in_row slots m y d s l in
       added_sum c n i a p (row_below c r y below l) few.0 few.1 on (keeps_in_row y l keeps) (IsStepped-moved c n i y a p few.1 stands moved)
-      ∙ ap (λ (k : ℕ). turned_by places count k - square_told count i k * square_weight count i + a * square_weight count i) (bit_in_row r y l)
+      ∙ ap (λ (k : ℕ). turned_by places count k - square_of_slot count i k * square_weight count i + a * square_weight count i) (bit_in_row r y l)
       ∙ sum_of_last (slots_have_pawn slots) slots m y a s l
       ∙ ap (λ (k : ℕ). 64 * (turned_by places count k / 64) + a) (sym (first_in_row r))
 
   -- the terms of the white king
-  pub IsRowSumOfKing-terms : (x : ℕ) (t : RowTerms) → 1 < length (slots_of c) → are_like_slots (slots_of c) ≡ false
+  pub IsRowSumOfKing-terms : (x : ℕ) (t : RowIndexTerms) → 1 < length (slots_of c) → are_like_slots (slots_of c) ≡ false
       → ((d : Man) → (slice_index_or (told_men (slots_of c) (without_bit (64 * r))) 0 d).at ≡ x)
       → t.rest
-      ≡ side_number (other_side (told_side (slots_of c) (without_bit (64 * r)))) * listed_count (slots_have_pawn (slots_of c)) * 64 ^ (length (slots_of c) - 2)
+      ≡ side_number (other_side (told_side (slots_of c) (without_bit (64 * r)))) * king_places (slots_have_pawn (slots_of c)) * 64 ^ (length (slots_of c) - 2)
       + without_bit (64 * r) / 64 % 64 ^ (length (slots_of c) - 2)
       → t.weight ≡ 64 ^ (length (slots_of c) - 2) → IsRowSumOfKing c r x t
   IsRowSumOfKing-terms x t few unlike stands e f a k on at y p l moved =
@@ -358,7 +358,7 @@ module _ (c : Class) (r : ℕ) where
       let n = 64 * r + y in
       let m = without_bit (64 * r) / 64 in
       let q = at.0 in
-      let z : ℕ → ℕ = λ h. side_number (other_side (side_numbered (h / listed_count pawns))) * listed_count pawns in
+      let z : ℕ → ℕ = λ h. side_number (other_side (side_numbered (h / king_places pawns))) * king_places pawns in
       let step : IsStepped c n 0 a p = IsStepped-moved c n 0 x a p (omega (arith, few)) (stands_in_row 0 x y l few stands) moved in
       king_index c n a p (with_head slots (z (head slots (without_bit n)) + q) (without_bit n)) step
       (sym (listed_number pawns slots (other_side (told_side slots (without_bit n))) (without_bit n) a q (AreSlots-class c) on at.1))
@@ -372,27 +372,27 @@ module _ (c : Class) (r : ℕ) where
       as_terms : (u v w z : ℕ) → u ≡ w → v ≡ z → 64 * (u + at.0 * v) + y ≡ 64 * (w + at.0 * z) + y
       as_terms u v w z e f = rw (e, f) refl
 
-  pub found_row_sum : (x : ℕ) (t : RowTerms) → IsRowSum c r x t → IsRowFoundBy c r x (Sum t)
+  pub found_row_sum : (x : ℕ) (t : RowIndexTerms) → IsRowSum c r x t → IsRowFoundBy c r x (Sum t)
   found_row_sum x t h = record {
-    sum = λ u e. subst (λ (v : RowTerms). IsRowSum c r x v) (let g : t ≡ u = cc in g) h;
+    sum = λ u e. subst (λ (v : RowIndexTerms). IsRowSum c r x v) (let g : t ≡ u = cc in g) h;
     image = λ u e. absurd cc;
     king = λ u e. absurd cc;
     stands = λ u e. absurd cc;
   }
 
-  pub found_row_image : (x : ℕ) (t : RowTerms) → IsLeastOfRowSum c r x t → IsRowFoundBy c r x (LeastImage t)
+  pub found_row_image : (x : ℕ) (t : RowIndexTerms) → IsLeastOfRowSum c r x t → IsRowFoundBy c r x (LeastImage t)
   found_row_image x t h = record {
     sum = λ u e. absurd cc;
-    image = λ u e. subst (λ (v : RowTerms). IsLeastOfRowSum c r x v) (let g : t ≡ u = cc in g) h;
+    image = λ u e. subst (λ (v : RowIndexTerms). IsLeastOfRowSum c r x v) (let g : t ≡ u = cc in g) h;
     king = λ u e. absurd cc;
     stands = λ u e. absurd cc;
   }
 
-  pub found_row_king : (x : ℕ) (t : RowTerms) → (are_like_slots (slots_of c) ≡ false → IsRowSumOfKing c r x t) → IsKingInRow c r x
+  pub found_row_king : (x : ℕ) (t : RowIndexTerms) → (are_like_slots (slots_of c) ≡ false → IsRowSumOfKing c r x t) → IsKingInRow c r x
       → IsRowFoundBy c r x (King t)
   found_row_king x t h stands = record {
     sum = λ u e. absurd cc;
     image = λ u e. absurd cc;
-    king = λ u e unlike. subst (λ (v : RowTerms). IsRowSumOfKing c r x v) (let g : t ≡ u = cc in g) (h unlike);
+    king = λ u e unlike. subst (λ (v : RowIndexTerms). IsRowSumOfKing c r x v) (let g : t ≡ u = cc in g) (h unlike);
     stands = λ u e. stands;
   }

@@ -6,7 +6,7 @@ use Rattle.std.specs.List.Sorted.{IsPermutation}
 use Rattle.std.proofs.lemmas.List.Sorted.{IsPermutation-insert, IsPermutation-cons, IsPermutation-trans, IsPermutation-refl}
 use Rattle.std.proofs.lemmas.Bool.Decides.{nat_tests}
 use Rattle.study_board.specs.declared.men.Man.{Man}
-use Rattle.study_values.specs.Filling.{man_slot_number, NoneBefore, IsInSlots, IsFilling}
+use Rattle.study_values.specs.Slots.{man_slot_number, NoneBefore, IsInSlots, IsFilling}
 use Rattle.study_values.specs.Index.{put, sorted}
 use Rattle.study_index.proofs.Fillings.{NoneBefore-less}
 

@@ -12,13 +12,13 @@ use Rattle.study_board.specs.Men.{other_side}
 use Rattle.study_board.specs.Position.{Position}
 use Rattle.study_material.specs.declared.class.Class.{Class}
 use Rattle.study_index.specs.declared.decoding.Slot.{Slot}
-use Rattle.study_values.specs.Filling.{man_slot_number, NoneBefore, IsInSlots}
-use Rattle.study_values.specs.Number.{number, side_number, listed_count, without_bit, numbers_of, cells_of}
+use Rattle.study_values.specs.Slots.{man_slot_number, NoneBefore, IsInSlots}
+use Rattle.study_values.specs.Number.{number, side_number, king_places, without_bit, numbers_of, cells_of}
 use Rattle.study_index.specs.Decoded.{slot_filled, slots_of, slots_have_pawn, AreSlots, men_of, head, side_numbered, told_men, told_side}
-use Rattle.study_values.specs.Canonical.{least_of}
+use Rattle.study_values.specs.Canonical.{canonical_number}
 use Rattle.study_values.specs.Index.{index_of}
-use Rattle.study_index.specs.Stepped.{moved_to, stepped, are_like_slots, IsStepped, NumbersStep, square_weight, square_told}
-use Rattle.study_index.specs.Departure.{keeps_image}
+use Rattle.study_index.specs.Stepped.{moved_to, stepped, are_like_slots, IsStepped, NumbersStep, square_weight, square_of_slot}
+use Rattle.study_index.specs.Departure.{is_canonical_as_is}
 use Rattle.study_index.specs.LeastImage.{turned_by, stepped_by, least_image, ascending_if, is_on_diagonal}
 use Rattle.study_index.proofs.NumbersReadOff.{place-king, IsRead-number, filled-men_of, IsInSlots-men_of}
 use Rattle.study_index.proofs.ClassSlots.{AreSlots-class, is_cell-below, number_below}
@@ -31,8 +31,8 @@ use Rattle.study_index.proofs.MovedNumbers.{least_index}
 abbrev IsTurned : ℕ → ℕ → ℕ → Type 0
 IsTurned places h x = ((h < places) × (x ≡ h + places)) ⊎ ((places ≤ h) × (x + places ≡ h))
 
-head_turned : (pawns : Bool) (h : ℕ) → nat_lt (h / listed_count pawns) 2 ≡ true
-    → IsTurned (listed_count pawns) h (side_number (other_side (side_numbered (h / listed_count pawns))) * listed_count pawns + h % listed_count pawns)
+head_turned : (pawns : Bool) (h : ℕ) → nat_lt (h / king_places pawns) 2 ≡ true
+    → IsTurned (king_places pawns) h (side_number (other_side (side_numbered (h / king_places pawns))) * king_places pawns + h % king_places pawns)
 head_turned true h e = by_test (nat_lt h 32) refl
   where
     by_test : (b : Bool) → nat_lt h 32 ≡ b → IsTurned 32 h (side_number (other_side (side_numbered (h / 32))) * 32 + h % 32)
@@ -73,34 +73,34 @@ one_or i j l = by_test (nat_lt j i) refl
     by_test false t = inl (let g : i ≤ j = grind (arith, nat_tests) in omega (arith, g, l))
 
 -- the weight of a square is part of the number with the other side to move
-within_two : (places n x : ℕ) → IsTurned places (n / 64) x → square_told 2 1 n * square_weight 2 1 ≤ turned_by places 2 n
+within_two : (places n x : ℕ) → IsTurned places (n / 64) x → square_of_slot 2 1 n * square_weight 2 1 ≤ turned_by places 2 n
 within_two places n x h = let t = turned_two places n x h in omega (arith, t)
 
 within_three : (places n x : ℕ) → IsTurned places (n / 64 / 64) x
-    → (square_told 3 1 n * square_weight 3 1 ≤ turned_by places 3 n) × (square_told 3 2 n * square_weight 3 2 ≤ turned_by places 3 n)
+    → (square_of_slot 3 1 n * square_weight 3 1 ≤ turned_by places 3 n) × (square_of_slot 3 2 n * square_weight 3 2 ≤ turned_by places 3 n)
 within_three places n x h = let t = turned_three places n x h in (omega (arith, t), omega (arith, t))
 
 within_four : (places n x : ℕ) → IsTurned places (n / 64 / 64 / 64) x
-    → (square_told 4 1 n * square_weight 4 1 ≤ turned_by places 4 n) × (square_told 4 2 n * square_weight 4 2 ≤ turned_by places 4 n)
-    × (square_told 4 3 n * square_weight 4 3 ≤ turned_by places 4 n)
+    → (square_of_slot 4 1 n * square_weight 4 1 ≤ turned_by places 4 n) × (square_of_slot 4 2 n * square_weight 4 2 ≤ turned_by places 4 n)
+    × (square_of_slot 4 3 n * square_weight 4 3 ≤ turned_by places 4 n)
 within_four places n x h = let t = turned_four places n x h in (omega (arith, t), omega (arith, t), omega (arith, t))
 
-pub told_within : (pawns : Bool) (slots : List Slot) (n i : ℕ) → AreSlots slots → nat_lt (head slots n / listed_count pawns) 2 ≡ true → 1 ≤ i → i < length slots
-    → square_told (length slots) i n * square_weight (length slots) i ≤ turned_by (listed_count pawns) (length slots) n
+pub told_within : (pawns : Bool) (slots : List Slot) (n i : ℕ) → AreSlots slots → nat_lt (head slots n / king_places pawns) 2 ≡ true → 1 ≤ i → i < length slots
+    → square_of_slot (length slots) i n * square_weight (length slots) i ≤ turned_by (king_places pawns) (length slots) n
 told_within pawns (k ∷ b ∷ []) n i s c l m =
     let e : 1 ≡ i = omega arith in
-    subst (λ (j : ℕ). square_told 2 j n * square_weight 2 j ≤ turned_by (listed_count pawns) 2 n) e
-    (within_two (listed_count pawns) n _ (head_turned pawns (n / 64) c))
+    subst (λ (j : ℕ). square_of_slot 2 j n * square_weight 2 j ≤ turned_by (king_places pawns) 2 n) e
+    (within_two (king_places pawns) n _ (head_turned pawns (n / 64) c))
 told_within pawns (k ∷ b ∷ x ∷ []) n i s c l m =
-    let t = within_three (listed_count pawns) n _ (head_turned pawns (n / 64 / 64) c) in
-    let P : ℕ → Type 0 = λ j. square_told 3 j n * square_weight 3 j ≤ turned_by (listed_count pawns) 3 n in
+    let t = within_three (king_places pawns) n _ (head_turned pawns (n / 64 / 64) c) in
+    let P : ℕ → Type 0 = λ j. square_of_slot 3 j n * square_weight 3 j ≤ turned_by (king_places pawns) 3 n in
     elim (one_or i 1 l) [
       | inl e ↦ subst P e t.0
       | inr g ↦ (let e : 2 ≡ i = omega arith in subst P e t.1)
     ]
 told_within pawns (k ∷ b ∷ x ∷ y ∷ []) n i s c l m =
-    let t = within_four (listed_count pawns) n _ (head_turned pawns (n / 64 / 64 / 64) c) in
-    let P : ℕ → Type 0 = λ j. square_told 4 j n * square_weight 4 j ≤ turned_by (listed_count pawns) 4 n in
+    let t = within_four (king_places pawns) n _ (head_turned pawns (n / 64 / 64 / 64) c) in
+    let P : ℕ → Type 0 = λ j. square_of_slot 4 j n * square_weight 4 j ≤ turned_by (king_places pawns) 4 n in
     elim (one_or i 1 l) [
       | inl e ↦ subst P e t.0
       | inr g ↦ elim (one_or i 2 g) [
@@ -130,29 +130,29 @@ unfolding stepped_by
 replaced_in_four places n x a h = let t = turned_four places n x h in (omega (arith, t), omega (arith, t), omega (arith, t))
 
 -- the number of the men that a number encodes, one of which has moved
-stepped_number : (pawns : Bool) (slots : List Slot) (n i a : ℕ) → AreSlots slots → nat_lt (head slots n / listed_count pawns) 2 ≡ true → 1 ≤ i → i < length slots
-    → number pawns (other_side (side_numbered (head slots n / listed_count pawns))) (moved_to i a (men_of pawns slots n))
-    ≡ Some (stepped_by (listed_count pawns) (length slots) n i a)
+stepped_number : (pawns : Bool) (slots : List Slot) (n i a : ℕ) → AreSlots slots → nat_lt (head slots n / king_places pawns) 2 ≡ true → 1 ≤ i → i < length slots
+    → number pawns (other_side (side_numbered (head slots n / king_places pawns))) (moved_to i a (men_of pawns slots n))
+    ≡ Some (stepped_by (king_places pawns) (length slots) n i a)
 unfolding number
 stepped_number pawns (k ∷ b ∷ []) n i a s c l m =
     let e : 1 ≡ i = omega arith in
-    subst (λ (j : ℕ). number pawns (other_side (side_numbered (n / 64 / listed_count pawns))) (moved_to j a (men_of pawns (k ∷ b ∷ []) n))
-    ≡ Some (stepped_by (listed_count pawns) 2 n j a)) e
-    (rw (place-king pawns (n / 64)) (ap (λ x. Some x) (replaced_two (listed_count pawns) n _ a (head_turned pawns (n / 64) c))))
+    subst (λ (j : ℕ). number pawns (other_side (side_numbered (n / 64 / king_places pawns))) (moved_to j a (men_of pawns (k ∷ b ∷ []) n))
+    ≡ Some (stepped_by (king_places pawns) 2 n j a)) e
+    (rw (place-king pawns (n / 64)) (ap (λ x. Some x) (replaced_two (king_places pawns) n _ a (head_turned pawns (n / 64) c))))
 stepped_number pawns (k ∷ b ∷ x ∷ []) n i a s c l m =
-    let t = replaced_in_three (listed_count pawns) n _ a (head_turned pawns (n / 64 / 64) c) in
+    let t = replaced_in_three (king_places pawns) n _ a (head_turned pawns (n / 64 / 64) c) in
     let P : ℕ → Type 0 =
-    λ j. number pawns (other_side (side_numbered (n / 64 / 64 / listed_count pawns))) (moved_to j a (men_of pawns (k ∷ b ∷ x ∷ []) n))
-    ≡ Some (stepped_by (listed_count pawns) 3 n j a) in
+    λ j. number pawns (other_side (side_numbered (n / 64 / 64 / king_places pawns))) (moved_to j a (men_of pawns (k ∷ b ∷ x ∷ []) n))
+    ≡ Some (stepped_by (king_places pawns) 3 n j a) in
     elim (one_or i 1 l) [
       | inl e ↦ subst P e (rw (place-king pawns (n / 64 / 64)) (ap (λ x. Some x) t.0))
       | inr g ↦ (let e : 2 ≡ i = omega arith in subst P e (rw (place-king pawns (n / 64 / 64)) (ap (λ x. Some x) t.1)))
     ]
 stepped_number pawns (k ∷ b ∷ x ∷ y ∷ []) n i a s c l m =
-    let t = replaced_in_four (listed_count pawns) n _ a (head_turned pawns (n / 64 / 64 / 64) c) in
+    let t = replaced_in_four (king_places pawns) n _ a (head_turned pawns (n / 64 / 64 / 64) c) in
     let P : ℕ → Type 0 =
-    λ j. number pawns (other_side (side_numbered (n / 64 / 64 / 64 / listed_count pawns))) (moved_to j a (men_of pawns (k ∷ b ∷ x ∷ y ∷ []) n))
-    ≡ Some (stepped_by (listed_count pawns) 4 n j a) in
+    λ j. number pawns (other_side (side_numbered (n / 64 / 64 / 64 / king_places pawns))) (moved_to j a (men_of pawns (k ∷ b ∷ x ∷ y ∷ []) n))
+    ≡ Some (stepped_by (king_places pawns) 4 n j a) in
     elim (one_or i 1 l) [
       | inl e ↦ subst P e (rw (place-king pawns (n / 64 / 64 / 64)) (ap (λ x. Some x) t.0))
       | inr g ↦ elim (one_or i 2 g) [
@@ -202,26 +202,26 @@ IsInSlots-moved i a (m ∷ ms) h = by_test (i == 0) (NoneBefore-moved (man_slot_
 pub read_least : (c : Class) (men : List Man) (side : Side) (m : ℕ) → map slot_filled men ≡ slots_of c → All (λ x. x.at < 64) men
     → number (slots_have_pawn (slots_of c)) side men ≡ Some m
     → Some (least_image (slots_have_pawn (slots_of c)) (are_like_slots (slots_of c)) (slots_of c) m)
-    ≡ least_of (slots_have_pawn (slots_of c)) side false men
+    ≡ canonical_number (slots_have_pawn (slots_of c)) side false men
 read_least c men side m filled on is =
     let slots = slots_of c in
     let pawns = slots_have_pawn slots in
     let s = AreSlots-class c in
     let read = IsRead-number pawns side men m (subst (λ (ss : List Slot). AreSlots ss) (sym filled) s) on is in
-    let there : nat_lt (head slots m / listed_count pawns) 2 ≡ true =
-    subst (λ (ss : List Slot). nat_lt (head ss m / listed_count pawns) 2 ≡ true) filled read.cell in
+    let there : nat_lt (head slots m / king_places pawns) 2 ≡ true =
+    subst (λ (ss : List Slot). nat_lt (head ss m / king_places pawns) 2 ≡ true) filled read.cell in
     let same : men ≡ men_of pawns slots m = subst (λ (ss : List Slot). men ≡ men_of pawns ss m) filled read.men in
-    let turned : side ≡ side_numbered (head slots m / listed_count pawns) =
-    subst (λ (ss : List Slot). side ≡ side_numbered (head ss m / listed_count pawns)) filled read.side_is in
+    let turned : side ≡ side_numbered (head slots m / king_places pawns) =
+    subst (λ (ss : List Slot). side ≡ side_numbered (head ss m / king_places pawns)) filled read.side_is in
     sym (least_told pawns slots m s there) ∙ sym (as_read pawns side _ men _ turned same)
   where
-    as_read : (w : Bool) (x y : Side) (xs ys : List Man) → x ≡ y → xs ≡ ys → least_of w x false xs ≡ least_of w y false ys
+    as_read : (w : Bool) (x y : Side) (xs ys : List Man) → x ≡ y → xs ≡ ys → canonical_number w x false xs ≡ canonical_number w y false ys
     as_read w x y xs ys e f = rw (e, f) refl
 
 -- the index of the position of n, with one man moved and the other side to move
 pub stepped_index : (c : Class) (n i a : ℕ) (p : Position) → n < cells_of c → 1 ≤ i → i < length (slots_of c) → IsStepped c n i a p
     → index_of p ≡ least_image (slots_have_pawn (slots_of c)) (are_like_slots (slots_of c)) (slots_of c)
-    (stepped_by (listed_count (slots_have_pawn (slots_of c))) (length (slots_of c)) (without_bit n) i a)
+    (stepped_by (king_places (slots_have_pawn (slots_of c))) (length (slots_of c)) (without_bit n) i a)
 stepped_index c n i a p below one few t =
     let slots = slots_of c in
     let pawns = slots_have_pawn slots in
@@ -230,9 +230,9 @@ stepped_index c n i a p below one few t =
     let men = moved_to i a told in
     let s = AreSlots-class c in
     let side : Side = other_side (told_side slots b) in
-    let m = stepped_by (listed_count pawns) (length slots) b i a in
+    let m = stepped_by (king_places pawns) (length slots) b i a in
     let filled : map slot_filled men ≡ slots = filled_moved i a told ∙ filled-men_of pawns slots b s in
-    let cell : nat_lt (head slots b / listed_count pawns) 2 ≡ true = is_cell-below c b ∙ below_test b (numbers_of c) (number_below c n below) in
+    let cell : nat_lt (head slots b / king_places pawns) 2 ≡ true = is_cell-below c b ∙ below_test b (numbers_of c) (number_below c n below) in
     let is : number pawns side men ≡ Some m = stepped_number pawns slots b i a s cell one few in
     let on : All (λ x. x.at < 64) men = All-permutation (λ x. x.at < 64) p.men men t.men t.valid.on_board in
     sym (the_same _ _
@@ -312,8 +312,8 @@ image_kept w true d slots m e f = absurd (false≢true e)
 
 -- the number after the man of a slot has moved is the sum
 added_index : (c : Class) (n i a : ℕ) (p : Position) → n < cells_of c → 1 ≤ i → i < length (slots_of c) → a < 64
-    → keeps_image (slots_of c) (without_bit n) ≡ true → IsStepped c n i a p
-    → index_of p ≡ stepped_by (listed_count (slots_have_pawn (slots_of c))) (length (slots_of c)) (without_bit n) i a
+    → is_canonical_as_is (slots_of c) (without_bit n) ≡ true → IsStepped c n i a p
+    → index_of p ≡ stepped_by (king_places (slots_have_pawn (slots_of c))) (length (slots_of c)) (without_bit n) i a
 added_index c n i a p below one few on keeps t =
     stepped_index c n i a p below one few t ∙ by_pawn (slots_have_pawn (slots_of c)) keeps (is_cell-below c (without_bit n) ∙ below_test (without_bit n) (numbers_of c) (number_below c n below))
   where
@@ -321,9 +321,9 @@ added_index c n i a p below one few on keeps t =
     below_test m k l = grind (arith, nat_tests)
 
     by_pawn : (w : Bool) → (not (are_like_slots (slots_of c)) && (w || not (is_on_diagonal (head (slots_of c) (without_bit n) % 10)))) ≡ true
-        → nat_lt (head (slots_of c) (without_bit n) / listed_count w) 2 ≡ true
-        → least_image w (are_like_slots (slots_of c)) (slots_of c) (stepped_by (listed_count w) (length (slots_of c)) (without_bit n) i a)
-        ≡ stepped_by (listed_count w) (length (slots_of c)) (without_bit n) i a
+        → nat_lt (head (slots_of c) (without_bit n) / king_places w) 2 ≡ true
+        → least_image w (are_like_slots (slots_of c)) (slots_of c) (stepped_by (king_places w) (length (slots_of c)) (without_bit n) i a)
+        ≡ stepped_by (king_places w) (length (slots_of c)) (without_bit n) i a
     by_pawn true k cell = image_kept true (are_like_slots (slots_of c)) _ (slots_of c) _ k refl
     by_pawn false k cell =
         image_kept false (are_like_slots (slots_of c)) (is_on_diagonal (head (slots_of c) (without_bit n) % 10)) (slots_of c) _ k
@@ -331,9 +331,9 @@ added_index c n i a p below one few on keeps t =
 
 -- the weight of the old square is subtracted before that of the new one is added
 taken_first : (c : Class) (n i a : ℕ) → n < cells_of c → 1 ≤ i → i < length (slots_of c)
-    → stepped_by (listed_count (slots_have_pawn (slots_of c))) (length (slots_of c)) (without_bit n) i a
-    ≡ turned_by (listed_count (slots_have_pawn (slots_of c))) (length (slots_of c)) (without_bit n)
-    - square_told (length (slots_of c)) i (without_bit n) * square_weight (length (slots_of c)) i + a * square_weight (length (slots_of c)) i
+    → stepped_by (king_places (slots_have_pawn (slots_of c))) (length (slots_of c)) (without_bit n) i a
+    ≡ turned_by (king_places (slots_have_pawn (slots_of c))) (length (slots_of c)) (without_bit n)
+    - square_of_slot (length (slots_of c)) i (without_bit n) * square_weight (length (slots_of c)) i + a * square_weight (length (slots_of c)) i
 unfolding stepped_by
 taken_first c n i a below one few =
     as_sum _ _ _ (told_within (slots_have_pawn (slots_of c)) (slots_of c) (without_bit n) i (AreSlots-class c)
@@ -346,15 +346,15 @@ taken_first c n i a below one few =
     as_sum t m s l = omega arith
 
 pub added_sum : (c : Class) (n i a : ℕ) (p : Position) → n < cells_of c → 1 ≤ i → i < length (slots_of c) → a < 64
-    → keeps_image (slots_of c) (without_bit n) ≡ true → IsStepped c n i a p
-    → index_of p ≡ turned_by (listed_count (slots_have_pawn (slots_of c))) (length (slots_of c)) (without_bit n)
-    - square_told (length (slots_of c)) i (without_bit n) * square_weight (length (slots_of c)) i + a * square_weight (length (slots_of c)) i
+    → is_canonical_as_is (slots_of c) (without_bit n) ≡ true → IsStepped c n i a p
+    → index_of p ≡ turned_by (king_places (slots_have_pawn (slots_of c))) (length (slots_of c)) (without_bit n)
+    - square_of_slot (length (slots_of c)) i (without_bit n) * square_weight (length (slots_of c)) i + a * square_weight (length (slots_of c)) i
 added_sum c n i a p below one few on keeps t = added_index c n i a p below one few on keeps t ∙ taken_first c n i a below one few
 
 pub added_image : (c : Class) (n i a : ℕ) (p : Position) → n < cells_of c → 1 ≤ i → i < length (slots_of c) → IsStepped c n i a p
     → index_of p ≡ least_image (slots_have_pawn (slots_of c)) (are_like_slots (slots_of c)) (slots_of c)
-    (turned_by (listed_count (slots_have_pawn (slots_of c))) (length (slots_of c)) (without_bit n)
-    - square_told (length (slots_of c)) i (without_bit n) * square_weight (length (slots_of c)) i + a * square_weight (length (slots_of c)) i)
+    (turned_by (king_places (slots_have_pawn (slots_of c))) (length (slots_of c)) (without_bit n)
+    - square_of_slot (length (slots_of c)) i (without_bit n) * square_weight (length (slots_of c)) i + a * square_weight (length (slots_of c)) i)
 added_image c n i a p below one few t =
     stepped_index c n i a p below one few t
     ∙ ap (λ (m : ℕ). least_image (slots_have_pawn (slots_of c)) (are_like_slots (slots_of c)) (slots_of c) m) (taken_first c n i a below one few)
@@ -366,5 +366,5 @@ numbers-step c n i a p pawn unlike below one few t =
     ∙ as_added _ _ (slots_of c) (without_bit n) pawn unlike
   where
     as_added : (w l : Bool) (slots : List Slot) (b : ℕ) → w ≡ true → l ≡ false
-        → least_image w l slots (stepped_by (listed_count w) (length slots) b i a) ≡ stepped (length slots) b i a
+        → least_image w l slots (stepped_by (king_places w) (length slots) b i a) ≡ stepped (length slots) b i a
     as_added w l slots b e f = rw (e, f) refl

@@ -10,7 +10,7 @@ use Rattle.study_board.specs.Men.{same_side, same_kind, is_man}
 use Rattle.study_board.specs.Position.{has_one_king}
 use Rattle.study_board.proofs.Lists.{count_by-cons}
 use Rattle.study_index.specs.declared.decoding.Slot.{Slot}
-use Rattle.study_values.specs.Filling.{slot_number}
+use Rattle.study_values.specs.Slots.{slot_number}
 use Rattle.study_index.specs.Decoded.{number_of_slot, AreSlots, man, told_men}
 
 white_king : (side : Side) (kind : Kind) → slot_number side kind ≡ 0 → (side ≡ White) × (kind ≡ King)

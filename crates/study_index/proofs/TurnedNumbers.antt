@@ -12,9 +12,9 @@ use Rattle.study_board.specs.Position.{Position, IsValid}
 use Rattle.study_board.specs.Symmetry.{turned_side, turned_man}
 use Rattle.study_material.specs.Lists.{is_swapped}
 use Rattle.study_material.proofs.ClassOfImage.{IsPermutation-turned}
-use Rattle.study_values.specs.Filling.{man_slot_number, NoneBefore, IsInSlots, IsFilling}
+use Rattle.study_values.specs.Slots.{man_slot_number, NoneBefore, IsInSlots, IsFilling}
 use Rattle.study_values.specs.Number.{has_pawn, number, IsNumber, IsLeastNumber}
-use Rattle.study_values.specs.Canonical.{turned_number, least_of}
+use Rattle.study_values.specs.Canonical.{turned_number, canonical_number}
 use Rattle.study_values.specs.Index.{sorted}
 use Rattle.study_index.proofs.Slots.{IsFilling-sorted}
 use Rattle.study_index.proofs.LeastNumbers.{IsNumberOf, IsIndexOf, IsIndex-least_of}
@@ -103,14 +103,14 @@ IsLeastNumber-from p n h = record { number = IsNumber-from p n h.0; least = λ m
 
 -- the least number of a position that has one
 pub least_is : (p : Position) (xs : List Man) (r : Option ℕ) → IsValid p → IsFilling (is_swapped p.men) p.men xs
-    → r ≡ least_of (has_pawn p.men) (turned_side (is_swapped p.men) p.to_move) (is_swapped p.men) xs → (n : ℕ)
+    → r ≡ canonical_number (has_pawn p.men) (turned_side (is_swapped p.men) p.to_move) (is_swapped p.men) xs → (n : ℕ)
     × (r ≡ Some n) × IsLeastNumber p n
 least_is p xs r v f e = let h = IsIndex-least_of (is_swapped p.men) p xs r v f e in (h.0, h.1, IsLeastNumber-from p h.0 h.2)
 
 -- the same for the number that the code computes
 pub least_found : (p : Position) (men : List Man) (c pawns : Bool) (to_move side : Side) (r : Option ℕ)
     → men ≡ p.men → IsValid p → c ≡ is_swapped p.men → pawns ≡ has_pawn men → to_move ≡ p.to_move
-    → side ≡ turned_side c to_move → r ≡ least_of pawns side c (sorted c men) → (n : ℕ) × (r ≡ Some n)
+    → side ≡ turned_side c to_move → r ≡ canonical_number pawns side c (sorted c men) → (n : ℕ) × (r ≡ Some n)
     × IsLeastNumber p n
 least_found p men c pawns to_move side r m v b h t s e =
     least_is p (sorted (is_swapped p.men) p.men) r v (IsFilling-sorted (is_swapped p.men) p.men) (e ∙ rw (h, s, t, m, b) refl)

@@ -12,7 +12,7 @@ use Rattle.study_board.specs.Symmetry.{image}
 use Rattle.study_board.proofs.ImagesValid.{valid_image}
 use Rattle.study_moves.specs.EnPassant.{has_legal_en_passant}
 use Rattle.study_material.proofs.MenBesideKings.{few_men}
-use Rattle.study_values.specs.Number.{number, listed_count, side_number, append_squares, with_bit, has_bit, without_bit, has_pawn, IsNumber, IsLeastNumber, IsIndex}
+use Rattle.study_values.specs.Number.{number, king_places, side_number, append_squares, with_bit, has_bit, without_bit, has_pawn, IsNumber, IsLeastNumber, IsIndex}
 use Rattle.study_index.proofs.NumbersReadOff.{number-parts, listed-place}
 
 pub without-with : (b : Bool) (m : ℕ) → m < 16777216 → without_bit (with_bit b m) ≡ m
@@ -34,7 +34,7 @@ counted_small h (a ∷ b ∷ c ∷ []) l few all =
     (let la = all 0 a (omega arith) in let lb = all 1 b (omega arith) in let lc = all 2 c (omega arith) in omega (arith, la, lb, lc))
 counted_small h (a ∷ b ∷ c ∷ d ∷ xs) l few all = absurd (omega arith)
 
-small_head : (pawns : Bool) (side : Side) (q : ℕ) → q < listed_count pawns → side_number side * listed_count pawns + q < 64
+small_head : (pawns : Bool) (side : Side) (q : ℕ) → q < king_places pawns → side_number side * king_places pawns + q < 64
 small_head true White q l = omega arith
 small_head true Black q l = omega arith
 small_head false White q l = omega arith
@@ -48,7 +48,7 @@ counted pawns side (k ∷ rest) n few all e =
     let p = number-parts pawns side k rest n e in
     let l = listed-place pawns k.at p.0 (all 0 k (omega arith)) p.1 in
     subst (λ m. m < 16777216) (sym p.2)
-    (counted_small (side_number side * listed_count pawns + p.0) rest (small_head pawns side p.0 l.1) (omega arith) (All-tail OnBoard k rest all))
+    (counted_small (side_number side * king_places pawns + p.0) rest (small_head pawns side p.0 l.1) (omega arith) (All-tail OnBoard k rest all))
 
 pub number_small : (p : Position) (n : ℕ) → IsValid p → IsNumber p n → n < 16777216
 number_small p n v h =

@@ -15,9 +15,9 @@ use Rattle.study_board.specs.Position.{Position, IsValid, first_fault}
 use Rattle.study_material.specs.declared.class.Class.{Class}
 use Rattle.study_material.specs.Class.{lists_of}
 use Rattle.study_index.specs.declared.decoding.Slot.{Slot}
-use Rattle.study_values.specs.Canonical.{least_of}
-use Rattle.study_values.specs.Filling.{IsFilling, slot_number}
-use Rattle.study_values.specs.Number.{number, listed_count, has_pawn, has_bit, without_bit, IsIndex}
+use Rattle.study_values.specs.Canonical.{canonical_number}
+use Rattle.study_values.specs.Slots.{IsFilling, slot_number}
+use Rattle.study_values.specs.Number.{number, king_places, has_pawn, has_bit, without_bit, IsIndex}
 
 -- the slot that a man fills
 abbrev pub slot_filled : Man → Slot
@@ -93,11 +93,11 @@ head slots n = n
 
 -- the men on the squares that the number encodes
 abbrev pub men_of : Bool → List Slot → ℕ → List Man
-men_of pawns (k ∷ b ∷ []) n = man k (listed_square pawns (n / 64 % listed_count pawns)) ∷ man b (n % 64) ∷ []
+men_of pawns (k ∷ b ∷ []) n = man k (listed_square pawns (n / 64 % king_places pawns)) ∷ man b (n % 64) ∷ []
 men_of pawns (k ∷ b ∷ x ∷ []) n =
-    man k (listed_square pawns (n / 64 / 64 % listed_count pawns)) ∷ man b (n / 64 % 64) ∷ man x (n % 64) ∷ []
+    man k (listed_square pawns (n / 64 / 64 % king_places pawns)) ∷ man b (n / 64 % 64) ∷ man x (n % 64) ∷ []
 men_of pawns (k ∷ b ∷ x ∷ y ∷ []) n =
-    man k (listed_square pawns (n / 64 / 64 / 64 % listed_count pawns)) ∷ man b (n / 64 / 64 % 64) ∷ man x (n / 64 % 64) ∷ man y (n % 64) ∷ []
+    man k (listed_square pawns (n / 64 / 64 / 64 % king_places pawns)) ∷ man b (n / 64 / 64 % 64) ∷ man x (n / 64 % 64) ∷ man y (n % 64) ∷ []
 men_of pawns slots n = []
 
 abbrev pub side_numbered : ℕ → Side
@@ -105,18 +105,18 @@ side_numbered n = if n == 0 then White else Black
 
 -- the number is below the numbers of the class (not part of any public contract)
 abbrev pub is_cell : List Slot → ℕ → Bool
-is_cell slots n = nat_lt (head slots n / listed_count (slots_have_pawn slots)) 2
+is_cell slots n = nat_lt (head slots n / king_places (slots_have_pawn slots)) 2
 
 -- the men and the side to move that a number encodes
 abbrev pub told_men : List Slot → ℕ → List Man
 told_men slots n = men_of (slots_have_pawn slots) slots n
 
 abbrev pub told_side : List Slot → ℕ → Side
-told_side slots n = side_numbered (head slots n / listed_count (slots_have_pawn slots))
+told_side slots n = side_numbered (head slots n / king_places (slots_have_pawn slots))
 
 -- the least number of men who stand in the order of their slots
 abbrev pub HasLeast : Bool → Side → ℕ → List Man → Type 0
-HasLeast pawns to_move n men = least_of pawns to_move false men ≡ Some n
+HasLeast pawns to_move n men = canonical_number pawns to_move false men ≡ Some n
 
 -- the position of these men, in some order
 pub record IsPlaced (men : List Man) (to_move : Side) (passed : Option ℕ) (q : Position) : Type 0 where

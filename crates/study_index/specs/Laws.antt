@@ -4,7 +4,7 @@ use Rattle.std.specs.List.Sorted.{IsPermutation}
 use Rattle.study_board.specs.declared.men.Man.{Man}
 use Rattle.study_board.specs.Position.{Position, IsValid}
 use Rattle.study_board.specs.Images.{IsImage}
-use Rattle.study_moves.specs.EnPassant.{bare}
+use Rattle.study_moves.specs.EnPassant.{without_idle_passed_square}
 use Rattle.study_moves.specs.Game.{IsMate}
 use Rattle.study_moves.specs.Laws.{HasSameGame}
 use Rattle.study_moves.specs.Alike.{AreAlike, Leads}
@@ -27,7 +27,7 @@ pub record IsEntry (c : Class) (n : ℕ) (q : Position) : Type 0 where
   pub valid : IsValid q
   pub of_class : IsOf c q
   pub in_order : is_swapped q.men ≡ false
-  pub is_bare : bare q ≡ q
+  pub is_bare : without_idle_passed_square q ≡ q
   pub index : IsIndex q n
 
 -- the index as a function
@@ -49,7 +49,7 @@ pub record IsNumbered (c : Class) : Type 0 where
   pub decoded : (n : ℕ) (q : Position) → IsDecoded c n q → IsEntry c n q
   pub numbered : (p : Position) (n : ℕ) → IsValid p → IsOf c p → IsIndex p n → (q : Position) × IsDecoded c n q × AreAlikeIn c q p
   pub index_below : (p : Position) (n : ℕ) → IsValid p → IsOf c p → IsIndex p n → n < cells_of c
-  pub image : (p q : Position) (n : ℕ) → IsValid p → IsOf c p → IsIndex p n → IsDecoded c n q → IsImage (bare p) q
+  pub image : (p q : Position) (n : ℕ) → IsValid p → IsOf c p → IsIndex p n → IsDecoded c n q → IsImage (without_idle_passed_square p) q
   pub back : (p q : Position) → AreAlikeIn c p q → AreAlikeIn c q p
   pub move : (p q r : Position) → AreAlikeIn c p q → Leads p r → (s : Position) × Leads q s × AreAlikeIn c r s
   pub mated : (p q : Position) → AreAlikeIn c p q → IsMate p → IsMate q

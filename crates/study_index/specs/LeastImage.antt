@@ -6,19 +6,19 @@ use Rattle.study_board.specs.Geometry.{file_of, rank_of}
 use Rattle.study_board.specs.Symmetry.{mirrored}
 use Rattle.study_index.specs.declared.decoding.Slot.{Slot}
 use Rattle.study_index.specs.Decoded.{head}
-use Rattle.study_index.specs.Stepped.{square_weight, square_told}
+use Rattle.study_index.specs.Stepped.{square_weight, square_of_slot}
 
 -- a square with its file and its rank exchanged
-abbrev pub across : ℕ → ℕ
-across x = 8 * (x % 8) + x / 8
+abbrev pub file_and_rank_swapped : ℕ → ℕ
+file_and_rank_swapped x = 8 * (x % 8) + x / 8
 
 -- the number with each square after the first so exchanged
-unfoldable pub turned_across : List Slot → ℕ → ℕ
-turned_across (k ∷ b ∷ []) n = n / 64 * 64 + across (n % 64)
-turned_across (k ∷ b ∷ x ∷ []) n = (n / 64 / 64 * 64 + across (n / 64 % 64)) * 64 + across (n % 64)
-turned_across (k ∷ b ∷ x ∷ y ∷ []) n =
-    ((n / 64 / 64 / 64 * 64 + across (n / 64 / 64 % 64)) * 64 + across (n / 64 % 64)) * 64 + across (n % 64)
-turned_across slots n = n
+unfoldable pub with_squares_transposed : List Slot → ℕ → ℕ
+with_squares_transposed (k ∷ b ∷ []) n = n / 64 * 64 + file_and_rank_swapped (n % 64)
+with_squares_transposed (k ∷ b ∷ x ∷ []) n = (n / 64 / 64 * 64 + file_and_rank_swapped (n / 64 % 64)) * 64 + file_and_rank_swapped (n % 64)
+with_squares_transposed (k ∷ b ∷ x ∷ y ∷ []) n =
+    ((n / 64 / 64 / 64 * 64 + file_and_rank_swapped (n / 64 / 64 % 64)) * 64 + file_and_rank_swapped (n / 64 % 64)) * 64 + file_and_rank_swapped (n % 64)
+with_squares_transposed slots n = n
 
 -- the last two squares exchanged
 unfoldable pub exchanged : ℕ → ℕ
@@ -38,7 +38,7 @@ is_on_diagonal q = (q == 0) || (q == 4) || (q == 7) || (q == 9)
 -- the least number of the men that n encodes
 unfoldable pub least_image : Bool → Bool → List Slot → ℕ → ℕ
 least_image pawns like slots n =
-    if not pawns && is_on_diagonal (head slots n % 10) then lesser (ascending_if like n) (ascending_if like (turned_across slots n))
+    if not pawns && is_on_diagonal (head slots n % 10) then lesser (ascending_if like n) (ascending_if like (with_squares_transposed slots n))
     else ascending_if like n
 
 -- the symmetry that brings the white king's square to a listed one, without swapping the colours
@@ -64,7 +64,7 @@ turned_by places count n =
     if nat_lt n (places * 64 ^ (count - 1)) then n + places * 64 ^ (count - 1) else n - places * 64 ^ (count - 1)
 
 unfoldable pub stepped_by : ℕ → ℕ → ℕ → ℕ → ℕ → ℕ
-stepped_by places count n i a = turned_by places count n + a * square_weight count i - square_told count i n * square_weight count i
+stepped_by places count n i a = turned_by places count n + a * square_weight count i - square_of_slot count i n * square_weight count i
 
 -- the squares of men
 abbrev pub squares : List Man → List ℕ

@@ -6,14 +6,14 @@ use Rattle.study_board.specs.declared.men.Man.{Man}
 use Rattle.study_board.specs.declared.symmetry.Symmetry.{Symmetry}
 use Rattle.study_board.specs.Geometry.{file_of, rank_of}
 use Rattle.study_board.specs.Symmetry.{turned_square}
-use Rattle.study_index.specs.declared.filling.PlacedMan.{PlacedMan}
-use Rattle.study_values.specs.Filling.{man_slot_number}
-use Rattle.study_values.specs.Number.{place, listed_count, side_number}
+use Rattle.study_index.specs.declared.slot_order.PlacedMan.{PlacedMan}
+use Rattle.study_values.specs.Slots.{man_slot_number}
+use Rattle.study_values.specs.Number.{place, king_places, side_number}
 use Rattle.study_values.specs.Canonical.{least}
 
 -- a man as its slot and its square
-abbrev pub placed : Bool → Man → PlacedMan
-placed c m = record { slot = man_slot_number c m; square = m.at }
+abbrev pub placed_man : Bool → Man → PlacedMan
+placed_man c m = record { slot = man_slot_number c m; square = m.at }
 
 -- a placed man inserted after those of no later slot
 unfoldable pub put_placed : PlacedMan → List PlacedMan → List PlacedMan
@@ -38,7 +38,7 @@ counted_at turn n (x ∷ xs) = counted_at turn (n * 64 + turn x) xs
 unfoldable pub number_at : Bool → Side → (ℕ → ℕ) → List ℕ → Option ℕ
 number_at pawns to_move turn [] = None
 number_at pawns to_move turn (k ∷ rest) =
-    option_map (λ q. counted_at turn (side_number to_move * listed_count pawns + q) rest) (place pawns (turn k))
+    option_map (λ q. counted_at turn (side_number to_move * king_places pawns + q) rest) (place pawns (turn k))
 
 abbrev pub exchanged_at : List ℕ → List ℕ
 exchanged_at (a ∷ b ∷ x ∷ y ∷ []) = a ∷ b ∷ y ∷ x ∷ []

@@ -25,16 +25,16 @@ abbrev pub side_weight : ℕ → ℕ
 side_weight count = 32 * 64 ^ (count - 1)
 
 -- the square that a number encodes for a slot after the first
-abbrev pub square_told : ℕ → ℕ → ℕ → ℕ
-square_told count i n = n / square_weight count i % 64
+abbrev pub square_of_slot : ℕ → ℕ → ℕ → ℕ
+square_of_slot count i n = n / square_weight count i % 64
 
 -- the number with the other side to move
-abbrev pub side_turned : ℕ → ℕ → ℕ
-side_turned count n = if nat_lt n (side_weight count) then n + side_weight count else n - side_weight count
+abbrev pub with_side_swapped : ℕ → ℕ → ℕ
+with_side_swapped count n = if nat_lt n (side_weight count) then n + side_weight count else n - side_weight count
 
 -- the number with the other side to move and the man of slot i on square a
 unfoldable pub stepped : ℕ → ℕ → ℕ → ℕ → ℕ
-stepped count n i a = side_turned count n + a * square_weight count i - square_told count i n * square_weight count i
+stepped count n i a = with_side_swapped count n + a * square_weight count i - square_of_slot count i n * square_weight count i
 
 -- the last two of four slots have like men
 abbrev pub are_like_slots : List Slot → Bool

@@ -3,7 +3,7 @@ ghost use Rattle.std.specs.Prelude.{◌≡◌, ◌&&◌, true, ◌+◌, ◌*◌,
 ghost use Rattle.study_board.specs.Position.{Position as Seen, has_one_king, in_order};
 ghost use Rattle.study_board.specs.declared.men.Side.TheVariants.{White, Black};
 ghost use Rattle.study_material.specs.Class.{lists_of};
-ghost use Rattle.study_values.specs.Number.{listed_count, cells_of};
+ghost use Rattle.study_values.specs.Number.{king_places, cells_of};
 ghost use Rattle.study_index.specs.Computed.{position_numbered};
 ghost use Rattle.study_index.specs.Decoded.{IsDecoded, AreSlots, slots_of, listed_square, slots_have_pawn};
 ghost use Rattle.study_index.specs.Decoded.{man, head, told_men, told_side, square_behind_pawn};
@@ -11,10 +11,10 @@ ghost use Rattle.study_index.specs.Decoded.{passed_behind, is_cell, IsPlaced, Is
 ghost use Rattle.study_index.specs.Stepped.{are_like_slots};
 ghost use Rattle.study_board.specs.Men.{other_side};
 
+use crate::canonical::least_image;
 use crate::en_passant::square_behind_pawn;
-use crate::least_image::least_image;
-use crate::number::listed_count;
-use crate::reading::{class_has_pawn, has_like_men, told_by};
+use crate::numbering::king_places;
+use crate::slot_men::{class_has_pawn, decode_men_in, has_like_men};
 use study_board::{Kind, Man, Position, Side, Square, has_fault, in_order};
 use study_material::Class;
 use study_moves::has_legal_en_passant;
@@ -30,7 +30,7 @@ pub struct Slot {
 #[inline]
 #[tactic(auto, unfolding(crate::specs::Decoded::listed_square))]
 pub fn listed_square(pawns: bool, place: u32) -> Square
-    requires { place < listed_count pawns }
+    requires { place < king_places pawns }
     ensures value { result ≡ listed_square pawns place }
 {
     let number = if pawns {
@@ -107,7 +107,7 @@ fn position_with_passed(men: &[Man], to_move: Side) -> Option<Position>
 
 /// The position of these men, if it is valid, with a passed square or without.
 #[inline]
-fn position_if(men: &[Man], to_move: Side, passed: bool) -> Option<Position>
+fn position_of_men(men: &[Man], to_move: Side, passed: bool) -> Option<Position>
     requires few { length men.now ≤ 4 }
     requires kings { (has_one_king men.now White && has_one_king men.now Black) ≡ true }
     ensures some { IfSome result (λ q. IsPlaced men.now to_move (passed_behind passed to_move men.now) q) }
@@ -153,8 +153,8 @@ fn decode_slots(slots: &[Slot], pawns: bool, like: bool, n: u32, passed: bool) -
     if !is_least(slots, pawns, like, n) {
         return None;
     }
-    let setup = told_by(slots, pawns, n);
-    position_if(setup.men.as_slice(), setup.to_move, passed)
+    let setup = decode_men_in(slots, pawns, n);
+    position_of_men(setup.men.as_slice(), setup.to_move, passed)
 }
 
 /// The position of a number without the bit.

@@ -5,31 +5,31 @@
 //! alike, and positions that are alike have the same number, like moves and the same game.
 #![tactic(auto)]
 
+mod canonical;
 mod colour_swap;
 mod decoding;
 mod departure;
 mod en_passant;
-mod filling;
+mod index_arithmetic;
+mod index_of;
+mod index_rule;
 mod laws;
-mod least;
-mod least_image;
-mod moved;
-mod number;
-mod reading;
+mod moved_index;
+mod numbering;
 mod row_departure;
-mod row_way;
-mod stepped;
+mod row_index_rule;
+mod slot_men;
+mod slot_order;
 mod transform;
-mod way;
 
 pub use decoding::decode;
-pub use departure::Departure;
+pub use departure::IndexAfterMove;
+pub use index_of::index;
 pub use laws::{
     alike_mates_agree, classes_are_numbered, numbers_are_read, numbers_step, numbers_tell,
     positions_have_an_index,
 };
-pub use least::index;
-pub use moved::{number_moved, number_stepped};
-pub use reading::{Setup, told};
-pub use row_departure::{RowDeparture, row_of_last};
+pub use moved_index::{index_after_move, index_after_step};
+pub use row_departure::{RowIndexAfterMove, row_of_last_man};
+pub use slot_men::{DecodedMen, decode_men};
 pub use study_values::{EN_PASSANT_BIT, cells};

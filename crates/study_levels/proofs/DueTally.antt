@@ -6,7 +6,7 @@ use Rattle.std.proofs.lemmas.List.Elements.{Contains-push, Contains-push_cases, 
 use Rattle.study_values.specs.declared.value.Value.{Value}
 use Rattle.study_values.specs.declared.value.Value.TheVariants.{Win, Loss, Draw}
 use Rattle.study_levels.specs.BestReplies.{lost_with, won_with, drawn_with, given_by}
-use Rattle.study_table.specs.Forced.{LeadsBy, Gives, GivesOutside}
+use Rattle.study_table.specs.Forced.{LeadsBy, GivesValue, GivesOutside}
 use Rattle.study_levels.proofs.TallyLemmas.{IsTally, IsTally-empty, IsTally-push, Gives-given_by}
 
 -- xs has the moves that pass
@@ -67,7 +67,7 @@ module _ {M : Type 0} (ok : M → Type 0) (f : M → Value) where
       subst P (λ j. (sym more j, sym el j, sym ew j, sym ed j)) pushed
 
 Gives-leads : {P : Type 0} (l l' : P → P → Type 0) (mate : P → Type 0) (f : P → Value) (p : P)
-    → ((q : P) → l p q → l' p q) → ((q : P) → l' p q → l p q) → (v : Value) → Gives l mate f p v → Gives l' mate f p v
+    → ((q : P) → l p q → l' p q) → ((q : P) → l' p q → l p q) → (v : Value) → GivesValue l mate f p v → GivesValue l' mate f p v
 Gives-leads l l' mate f p to from (Win zero) g = g
 Gives-leads l l' mate f p to from (Win (suc n)) g = record { to = g.to; move = to g.to g.move; is = g.is; least = λ q m k e. g.least q m (from q k) e }
 Gives-leads l l' mate f p to from (Loss zero) g = g

@@ -7,7 +7,7 @@ use Rattle.study_table.specs.Forced.{Mated, Mates, IsGame}
 use Rattle.study_values.specs.Cells.{value_of, label_of}
 use Rattle.study_table.specs.Right.{IsRightOutside}
 use Rattle.study_table.specs.Class.{IsClass}
-use Rattle.study_levels.specs.Propagation.{IsLostBy, IsWonCell, TellsWins, IsHeld, IsHeldCell, AreHeld}
+use Rattle.study_levels.specs.Propagation.{IsLostBy, IsWonCell, TellsWins, IsHeld, IsHeldCell, AreBoundedCells}
 use Rattle.study_table.proofs.ForcedLemmas.{Mates-le, Mates-Mated}
 use Rattle.study_table.proofs.AlongLemmas.{Mates-along, Mated-along}
 use Rattle.study_table.proofs.ClassLemmas.{true_or_false, image_keeps, label-home, label-outside}
@@ -74,7 +74,7 @@ module _ {P : Type 0} {leads : P → P → Type 0} {mate : P → Type 0} {known 
         ]
       ]
 
-  pub held-tells : (far : Bool) (k : ℕ) (cells : List ℕ) → AreHeld leads mate home far k position size cells → TellsWins leads mate k position cells
+  pub held-tells : (far : Bool) (k : ℕ) (cells : List ℕ) → AreBoundedCells leads mate home far k position size cells → TellsWins leads mate k position cells
   held-tells far k cells held n p e =
       let h = subst (λ (o : Option P). IsHeldCell leads mate home far k o (slice_index cells n)) e (held n (laws.below n p e)) in
       held-wins far k (slice_index cells n) p h

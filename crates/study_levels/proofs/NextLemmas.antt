@@ -7,7 +7,7 @@ use Rattle.study_table.specs.Forced.{Mated, Mates, IsWin, IsLoss, IsGame}
 use Rattle.study_values.specs.Cells.{value_of}
 use Rattle.study_table.specs.Right.{IsRightOutside}
 use Rattle.study_table.specs.Class.{IsClass}
-use Rattle.study_levels.specs.Propagation.{LeadsTo, IsHeld, IsHeldCell, AreHeld}
+use Rattle.study_levels.specs.Propagation.{LeadsTo, IsHeld, IsHeldCell, AreBoundedCells}
 use Rattle.study_table.proofs.ForcedLemmas.{Mates-le, Mates-Mated}
 use Rattle.study_table.proofs.ParityLemmas.{Mated-odd, Mates-even}
 use Rattle.study_table.proofs.ClassLemmas.{true_or_false, some_or_none}
@@ -44,7 +44,7 @@ module _ {P : Type 0} (leads : P → P → Type 0) (mate : P → Type 0) where
 module _ {P : Type 0} {leads : P → P → Type 0} {mate : P → Type 0} {known : P → Type 0} {home : P → Bool} {index : P
     → ℕ} {outside : P → Value} {position : ℕ → Option P} {size : ℕ} {image : P → P → Type 0}
     (laws : IsClass leads mate known home index outside position size image) (outer : IsRightOutside leads mate known home outside)
-    (far : Bool) (k : ℕ) (reach : far ≡ true → k < 254) (old : List ℕ) (held : AreHeld leads mate home far k position size old) where
+    (far : Bool) (k : ℕ) (reach : far ≡ true → k < 254) (old : List ℕ) (held : AreBoundedCells leads mate home far k position size old) where
   held-at : (n : ℕ) (p : P) → position n ≡ Some p → IsHeld leads mate home far k p (slice_index old n)
   held-at n p e = subst (λ (o : Option P). IsHeldCell leads mate home far k o (slice_index old n)) e (held n (laws.below n p e))
 
@@ -230,7 +230,7 @@ module _ {P : Type 0} {leads : P → P → Type 0} {mate : P → Type 0} {known 
       ⊎ ((j : ℕ) × (slice_index old j ≡ k + 1) × LeadsTo leads home index position i j)
       × (slice_index new i ≡ k + 2) × ((slice_index old i ≡ 0) ⊎ (k + 2 < slice_index old i)))
       → ((i j : ℕ) → j < size → slice_index old j ≡ k + 1 → LeadsTo leads home index position i j → (slice_index new i ≢ 0) × (slice_index new i ≤ k + 2))
-      → AreHeld leads mate home far (k + 1) position size new
+      → AreBoundedCells leads mate home far (k + 1) position size new
   level-even new even rise done n b = elim (some_or_none (position n)) [
     | inl s ↦ subst (λ (o : Option P). IsHeldCell leads mate home far (k + 1) o (slice_index new n)) (sym s.1) (elim (rise n) [
       | inl same ↦ same-even n (slice_index new n) s.0 even s.1 (sym same) (λ j l e t. done n j l e t)
@@ -367,7 +367,7 @@ module _ {P : Type 0} {leads : P → P → Type 0} {mate : P → Type 0} {known 
       }
 
     -- a level of wins
-    pub level-odd : AreHeld leads mate home far (k + 1) position size new
+    pub level-odd : AreBoundedCells leads mate home far (k + 1) position size new
     level-odd n b = elim (some_or_none (position n)) [
       | inl s ↦ subst (λ (o : Option P). IsHeldCell leads mate home far (k + 1) o (slice_index new n)) (sym s.1) (by_number k refl s.0 s.1)
       | inr none ↦ subst (λ (o : Option P). IsHeldCell leads mate home far (k + 1) o (slice_index new n)) (sym none) (

@@ -6,7 +6,7 @@ use Rattle.study_table.specs.Forced.{IsGame, IsRightBelow}
 use Rattle.study_values.specs.Cells.{value_of}
 use Rattle.study_table.specs.Right.{IsRightOutside, IsRightCell, AreRight, IsRightBelowCell, AreRightBelow}
 use Rattle.study_table.specs.Class.{IsClass}
-use Rattle.study_levels.specs.Propagation.{IsHeld, IsHeldCell, AreHeld}
+use Rattle.study_levels.specs.Propagation.{IsHeld, IsHeldCell, AreBoundedCells}
 use Rattle.study_table.proofs.ForcedLemmas.{Mates-le, IsGame-below}
 use Rattle.study_table.proofs.ClassLemmas.{some_or_none}
 use Rattle.study_table.proofs.LevelLemmas.{zero_or_not}
@@ -18,7 +18,7 @@ module _ {P : Type 0} {leads : P → P → Type 0} {mate : P → Type 0} {known 
     (laws : IsClass leads mate known home index outside position size image)
     (outer : IsRightOutside leads mate known home outside) (far : Bool) (cells : List ℕ) where
   still-next : (k : ℕ) → (far ≡ true → k < 254) → ((i : ℕ) → i < size → slice_index cells i ≤ k)
-      → AreHeld leads mate home far k position size cells → AreHeld leads mate home far (k + 1) position size cells
+      → AreBoundedCells leads mate home far k position size cells → AreBoundedCells leads mate home far (k + 1) position size cells
   still-next k reach near held = elim (even_or_odd k) [
     | inl even ↦ level-even laws outer far k reach cells held cells even (λ i. inl refl) (λ i j b s t. absurd (let l = near j b in omega (arith, s)))
     | inr odd ↦ level-odd laws outer far k reach cells held cells cells odd (λ i. inl refl)
@@ -29,23 +29,23 @@ module _ {P : Type 0} {leads : P → P → Type 0} {mate : P → Type 0} {known 
   ]
 
   pub still-all : (k i : ℕ) → (far ≡ true → k + i ≤ 254) → ((j : ℕ) → j < size → slice_index cells j ≤ k)
-      → AreHeld leads mate home far k position size cells → AreHeld leads mate home far (k + i) position size cells
-  still-all k zero reach near held = subst (λ (n : ℕ). AreHeld leads mate home far n position size cells) (let e : k ≡ k + 0 = omega arith in e) held
+      → AreBoundedCells leads mate home far k position size cells → AreBoundedCells leads mate home far (k + i) position size cells
+  still-all k zero reach near held = subst (λ (n : ℕ). AreBoundedCells leads mate home far n position size cells) (let e : k ≡ k + 0 = omega arith in e) held
   still-all k (suc i) reach near held =
-      subst (λ (n : ℕ). AreHeld leads mate home far n position size cells) (let e : k + i + 1 ≡ k + suc i = omega arith in e)
+      subst (λ (n : ℕ). AreBoundedCells leads mate home far n position size cells) (let e : k + i + 1 ≡ k + suc i = omega arith in e)
       (still-next (k + i) (λ f. let l = reach f in omega arith) (λ j b. let l = near j b in omega arith)
       (still-all k i (λ f. let l = reach f in omega arith) near held))
 
   -- up to the last level
   pub still-last : (k : ℕ) → k ≤ 254 → ((j : ℕ) → j < size → slice_index cells j ≤ k)
-      → AreHeld leads mate home far k position size cells → AreHeld leads mate home far 254 position size cells
+      → AreBoundedCells leads mate home far k position size cells → AreBoundedCells leads mate home far 254 position size cells
   still-last k l near held =
       let e : k + (254 - k) ≡ 254 = omega arith in
-      subst (λ (n : ℕ). AreHeld leads mate home far n position size cells) e (still-all k (254 - k) (λ f. omega arith) near held)
+      subst (λ (n : ℕ). AreBoundedCells leads mate home far n position size cells) e (still-all k (254 - k) (λ f. omega arith) near held)
 
   -- after the last level no cell is wrong about mates in fewer than 255 plies
   pub held-below : ((j : ℕ) → j < size → slice_index cells j ≤ 255)
-      → AreHeld leads mate home far 254 position size cells → AreRightBelow leads mate 255 position size cells
+      → AreBoundedCells leads mate home far 254 position size cells → AreRightBelow leads mate 255 position size cells
   held-below bytes held n b = by_position (position n) (held n b) (bytes n b)
     where
       c : ℕ
@@ -68,7 +68,7 @@ module _ {P : Type 0} {leads : P → P → Type 0} {mate : P → Type 0} {known 
     (laws : IsClass leads mate known home index outside position size image) (outer : IsRightOutside leads mate known home outside) (cells : List ℕ) where
   -- if every mate can be encoded, they are right
   pub still-right : (k : ℕ) → ((j : ℕ) → j < size → slice_index cells j ≤ k)
-      → AreHeld leads mate home false k position size cells → AreRight leads mate position size cells
+      → AreBoundedCells leads mate home false k position size cells → AreRight leads mate position size cells
   still-right k near held n b = elim (some_or_none (position n)) [
     | inr e ↦ subst (λ (o : Option P). IsRightCell leads mate o (slice_index cells n)) (sym e)
         (subst (λ (o : Option P). IsHeldCell leads mate home false k o (slice_index cells n)) e (held n b))
@@ -81,9 +81,9 @@ module _ {P : Type 0} {leads : P → P → Type 0} {mate : P → Type 0} {known 
     ])
   ]
     where
-      later : (m : ℕ) → AreHeld leads mate home false (k + m) position size cells
+      later : (m : ℕ) → AreBoundedCells leads mate home false (k + m) position size cells
       later m = still-all laws outer false cells k m (λ f. absurd (let no : false ≡ true = f in cc)) near held
 
-      at : (i : ℕ) → AreHeld leads mate home false i position size cells → (p : P) → position n ≡ Some p
+      at : (i : ℕ) → AreBoundedCells leads mate home false i position size cells → (p : P) → position n ≡ Some p
           → IsHeld leads mate home false i p (slice_index cells n)
       at i hold p e = subst (λ (o : Option P). IsHeldCell leads mate home false i o (slice_index cells n)) e (hold n b)

@@ -7,7 +7,7 @@ use Rattle.study_values.specs.declared.value.Value.{Value}
 use Rattle.study_values.specs.declared.value.Value.TheVariants.{Win, Loss, Draw}
 use Rattle.std.proofs.lemmas.List.{take_more}
 use Rattle.study_levels.specs.BestReplies.{lost_with, won_with, drawn_with, given_by}
-use Rattle.study_table.specs.Forced.{LeadsBy, Gives, HasLoss, HasOnlyWins, HasDraw}
+use Rattle.study_table.specs.Forced.{LeadsBy, GivesValue, HasLoss, HasOnlyWins, HasDraw}
 
 -- one of the moves has the value
 abbrev pub Seen : {M : Type 0} → (M → Value) → List M → Value → Type 0
@@ -181,11 +181,11 @@ module _ {P M : Type 0} (legal : P → M → Type 0) (after : P → M → P) (ma
       by_value Draw e = undrawn (found q Draw l e)
 
   abbrev Given : Value → Type 0
-  Given v = Gives (LeadsBy legal after) mate labels p v
+  Given v = GivesValue (LeadsBy legal after) mate labels p v
 
   pub Gives-given_by : (mated : Bool) (lost won : Option ℕ) (drawn : Bool) → IsTrue mated ↔ mate p
       → IsTally (λ m. labels (after p m)) ms lost won drawn
-      → Gives (LeadsBy legal after) mate labels p (given_by mated lost won drawn)
+      → GivesValue (LeadsBy legal after) mate labels p (given_by mated lost won drawn)
   Gives-given_by mated (Some n) won drawn tells t = subst (λ (k : ℕ). Given (Win k)) (sym (add-one n)) (given-lost n t.nearest)
   Gives-given_by mated None won true tells t = given-drawn t.nearest t.draw
   Gives-given_by mated None (Some n) false tells t = subst (λ (k : ℕ). Given (Loss k)) (sym (add-one n)) (given-won n t.nearest t.draw t.farthest)

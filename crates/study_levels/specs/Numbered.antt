@@ -4,12 +4,12 @@ use Rattle.study_board.specs.Sets.{has}
 use Rattle.study_moves.specs.declared.moves.Move.{Move}
 use Rattle.study_values.specs.declared.value.Value.{Value}
 use Rattle.study_levels.specs.declared.game.Location.{Location}
-use Rattle.study_table.specs.Forced.{LeadsBy, Mated, Gives, GivesOutside}
+use Rattle.study_table.specs.Forced.{LeadsBy, Mated, GivesValue, GivesOutside}
 use Rattle.study_values.specs.Cells.{label_of}
 use Rattle.study_table.specs.Class.{IsClass}
 use Rattle.study_levels.specs.Places.{IsPlace}
 use Rattle.study_table.specs.Right.{AreRight, IsRightOutside, IsGivenCell, IsOtherCell, HasFar}
-use Rattle.study_levels.specs.Propagation.{LeadsTo, IsLostBy, TellsWins, IsHeldCell, AreHeld, IsSetBy}
+use Rattle.study_levels.specs.Propagation.{LeadsTo, IsLostBy, TellsWins, IsHeldCell, AreBoundedCells, IsSetBy}
 
 -- The positions of a class, by numbers, and the moves among them and out of the class.
 pub record Numbered (P : Type 0) : Type 1 where
@@ -81,7 +81,7 @@ module _ {P : Type 0} where
 
   -- the value of a position by the cells
   abbrev pub CellsGive : Numbered P → List ℕ → P → Value → Type 0
-  CellsGive g cells p v = Gives (leads_in g) g.mate (label_by g cells) p v
+  CellsGive g cells p v = GivesValue (leads_in g) g.mate (label_by g cells) p v
 
   -- its value by the moves out of the class alone
   abbrev pub OutsideGives : Numbered P → P → Value → Type 0
@@ -107,7 +107,7 @@ module _ {P : Type 0} where
   IsUnknownIn g row set = OutsideIsRight g → (y : ℕ) → y < 64 → has set y ≡ true → CellIsHeld g false 0 (64 * row + y) 0
 
   abbrev pub CellsAreHeld : Numbered P → Bool → ℕ → List ℕ → Type 0
-  CellsAreHeld g far k cells = AreHeld (leads_in g) g.mate g.home far k g.position g.size cells
+  CellsAreHeld g far k cells = AreBoundedCells (leads_in g) g.mate g.home far k g.position g.size cells
 
   -- each cell has the game's value of its position
   abbrev pub CellsAreRight : Numbered P → List ℕ → Type 0

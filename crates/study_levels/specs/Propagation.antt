@@ -42,8 +42,8 @@ abbrev pub IsHeldCell : {P : Type 0} → (P → P → Type 0) → (P → Type 0)
 IsHeldCell leads mate home far k None c = c ≡ 0
 IsHeldCell leads mate home far k (Some p) c = IsHeld leads mate home far k p c
 
-abbrev pub AreHeld : {P : Type 0} → (P → P → Type 0) → (P → Type 0) → (P → Bool) → Bool → ℕ → (ℕ → Option P) → ℕ → List ℕ → Type 0
-AreHeld leads mate home far k position size cells = (n : ℕ) → n < size → IsHeldCell leads mate home far k (position n) (slice_index cells n)
+abbrev pub AreBoundedCells : {P : Type 0} → (P → P → Type 0) → (P → Type 0) → (P → Bool) → Bool → ℕ → (ℕ → Option P) → ℕ → List ℕ → Type 0
+AreBoundedCells leads mate home far k position size cells = (n : ℕ) → n < size → IsHeldCell leads mate home far k (position n) (slice_index cells n)
 
 -- the cell of a value before the levels, if a cell can encode it
 abbrev pub IsInitial : Value → ℕ → Bool → Type 0

@@ -5,7 +5,7 @@ ghost use Rattle.study_levels.specs.Numbered.{CellsAreRight, CellsGive, IsGivenA
 
 use crate::best_replies::BestReplies;
 use crate::game::{Game, Location};
-use crate::stepped::LabelledGame;
+use crate::level_game::LabelledGame;
 use study_values::{Value, value_at};
 
 /// The label of a position.

@@ -45,14 +45,14 @@ pub trait Game {
         ensures { StandsAt (numbered self.now) at.now result };
 
     /// Legal moves, among them each one that leads out of the class.
-    fn leaving(&self, at: &Self::Position) -> MoveList
+    fn conversions(&self, at: &Self::Position) -> MoveList
         requires numbered { (n : ℕ) × ((numbered self.now).position n ≡ Some at.now) }
         ensures all { (m : Move) → (numbered self.now).legal at.now m → (numbered self.now).home ((numbered self.now).after at.now m) ≡ false
             → Contains result.items m }
         ensures only { (m : Move) → Contains result.items m → (numbered self.now).legal at.now m };
 
     /// Whether the move may lead out of the class.
-    fn leaves(&self, at: &Self::Position, by: Move) -> bool
+    fn may_convert(&self, at: &Self::Position, by: Move) -> bool
         requires numbered { (n : ℕ) × ((numbered self.now).position n ≡ Some at.now) }
         requires legal { (numbered self.now).legal at.now by }
         ensures { result ≡ false → (numbered self.now).home ((numbered self.now).after at.now by) ≡ true };

@@ -7,9 +7,9 @@ ghost use Rattle.study_levels.specs.Numbered.{OutsideIsRight};
 ghost use Rattle.study_levels.specs.BestReplies.{drawn_with, lost_with, won_with};
 
 use crate::best_replies::BestReplies;
-use crate::blocks::row_end;
+use crate::cell_blocks::row_end;
 use crate::game::{Game, Location};
-use crate::stepped::SteppedGame;
+use crate::level_game::LevelGame;
 use study_board::SquareSet;
 use study_values::{MAX_DISTANCE, Value};
 
@@ -37,10 +37,10 @@ pub fn value_by_conversion<G: Game>(game: &G, at: &G::Position) -> Value
     requires home { (G.numbered game.now).home at.now ≡ true }
     ensures { OutsideGives (G.numbered game.now) at.now result }
 {
-    let moves = game.leaving(at);
+    let moves = game.conversions(at);
     let mut replies = BestReplies::new();
     for by in moves.as_slice() {
-        if game.leaves(at, *by) {
+        if game.may_convert(at, *by) {
             let to = game.played(at, *by);
             replies = with_conversion(game, replies, &to);
         }
@@ -108,7 +108,7 @@ fn clear_all(cells: &mut [u8])
 
 /// Writes the initial cell of a number, if the class has that number, and returns whether it has a mate that no cell can encode.
 #[inline]
-fn write_first<G: SteppedGame>(game: &G, cells: &mut [u8], number: u32) -> bool
+fn write_first<G: LevelGame>(game: &G, cells: &mut [u8], number: u32) -> bool
     requires laws { IsNumberedClass (G.numbered game.now) }
     requires cells { length cells.old ≡ (G.numbered game.now).size }
     ensures other { (i : ℕ) → i ≢ number → slice_index cells.new i ≡ slice_index cells.old i }
@@ -126,12 +126,7 @@ fn write_first<G: SteppedGame>(game: &G, cells: &mut [u8], number: u32) -> bool
 
 /// Writes the initial cells of the numbers of a row whose squares are in the set, and returns whether some have a mate that no cell can encode.
 #[inline]
-fn write_each_first<G: SteppedGame>(
-    game: &G,
-    cells: &mut [u8],
-    row: u32,
-    squares: SquareSet,
-) -> bool
+fn write_each_first<G: LevelGame>(game: &G, cells: &mut [u8], row: u32, squares: SquareSet) -> bool
     requires laws { IsNumberedClass (G.numbered game.now) }
     requires row { 64 * row < (G.numbered game.now).size }
     requires cells { length cells.old ≡ (G.numbered game.now).size }
@@ -160,7 +155,7 @@ fn write_each_first<G: SteppedGame>(
 
 /// Writes the initial cells of the numbers of a row whose cells are 0, and returns whether some mate cannot be encoded.
 #[inline]
-fn initialise_row<G: SteppedGame>(game: &G, cells: &mut [u8], row: u32) -> bool
+fn initialise_row<G: LevelGame>(game: &G, cells: &mut [u8], row: u32) -> bool
     requires laws { IsNumberedClass (G.numbered game.now) }
     requires row { 64 * row < (G.numbered game.now).size }
     requires cells { length cells.old ≡ (G.numbered game.now).size }
@@ -171,12 +166,12 @@ fn initialise_row<G: SteppedGame>(game: &G, cells: &mut [u8], row: u32) -> bool
     ensures numbered { (y : ℕ) → y < 64 → 64 * row + y < (G.numbered game.now).size
         → slice_index cells.new (64 * row + y) ≢ 0 → HasPosition (G.numbered game.now) (64 * row + y) }
 {
-    let unknown = game.unknown_in_row(row);
+    let unknown = game.undecided_in_row(row);
     write_each_first(game, cells, row, unknown.complement())
 }
 
 /// Writes the initial cells of all numbers, and returns whether some mate cannot be encoded.
-pub fn initialise<G: SteppedGame>(game: &G, cells: &mut [u8]) -> bool
+pub fn initialise<G: LevelGame>(game: &G, cells: &mut [u8]) -> bool
     requires laws { IsNumberedClass (G.numbered game.now) }
     requires cells { length cells.old ≡ (G.numbered game.now).size }
     ensures held { OutsideIsRight (G.numbered game.now) → CellsAreHeld (G.numbered game.now) result 0 cells.new }

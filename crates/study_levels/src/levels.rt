@@ -5,15 +5,15 @@ ghost use Rattle.study_levels.specs.Numbered.{CellsAreRight, CellsHavePositions,
 ghost use Rattle.study_levels.specs.Numbered.{LossesAreKept, LossesAreTrue, LossesGoBack, RowLossesAreKept, RowLossesAreTrue};
 ghost use Rattle.study_levels.specs.Numbered.{OutsideIsRight, RaisesLevel, StepLeads, WhereWinsAreTold, WinsGoBack};
 
-use crate::blocks::{has_later, next_block, row_end, row_with};
+use crate::cell_blocks::{has_longer_mate, next_block, row_end, row_with};
 use crate::consistency::first_inconsistent;
 use crate::initial::initialise;
+use crate::level_game::LevelGame;
 use crate::propagate::clear_in_row;
-use crate::stepped::SteppedGame;
 use study_values::MAX_DISTANCE;
 
 /// Goes back from all positions that are lost in `level` plies.
-pub fn propagate_losses<G: SteppedGame>(game: &G, cells: &mut [u8], level: u8) -> u64
+pub fn propagate_losses<G: LevelGame>(game: &G, cells: &mut [u8], level: u8) -> u64
     requires laws { IsNumberedClass (G.numbered game.now) }
     requires level { level < 254 }
     requires cells { length cells.old ≡ (G.numbered game.now).size }
@@ -36,7 +36,7 @@ pub fn propagate_losses<G: SteppedGame>(game: &G, cells: &mut [u8], level: u8) -
 }
 
 /// Marks all positions before one that is won in `level` plies and that have no mate yet: they may be lost in one more.
-pub fn propagate_wins<G: SteppedGame>(game: &G, cells: &mut [u8], level: u8) -> u64
+pub fn propagate_wins<G: LevelGame>(game: &G, cells: &mut [u8], level: u8) -> u64
     requires laws { IsNumberedClass (G.numbered game.now) }
     requires level { level < 254 }
     requires cells { length cells.old ≡ (G.numbered game.now).size }
@@ -59,7 +59,7 @@ pub fn propagate_wins<G: SteppedGame>(game: &G, cells: &mut [u8], level: u8) -> 
 }
 
 /// Tests the numbers of a row that may be lost in `level + 1` plies: the cells of those that are lost stay, the others are set to 0.
-fn confirm_row<G: SteppedGame>(game: &G, cells: &mut [u8], row: u32, level: u8) -> u64
+fn confirm_row<G: LevelGame>(game: &G, cells: &mut [u8], row: u32, level: u8) -> u64
     requires laws { IsNumberedClass (G.numbered game.now) }
     requires level { level < 254 }
     requires row { 64 * row < (G.numbered game.now).size }
@@ -78,7 +78,7 @@ fn confirm_row<G: SteppedGame>(game: &G, cells: &mut [u8], row: u32, level: u8) 
 }
 
 /// Tests all numbers that may be lost in `level + 1` plies: the marked ones, and those that moves out of the class make due. Each is tested once.
-pub fn confirm_losses<G: SteppedGame>(game: &G, cells: &mut [u8], level: u8) -> u64
+pub fn confirm_losses<G: LevelGame>(game: &G, cells: &mut [u8], level: u8) -> u64
     requires laws { IsNumberedClass (G.numbered game.now) }
     requires level { level < 254 }
     requires odd { level % 2 ≡ 1 }
@@ -99,7 +99,7 @@ pub fn confirm_losses<G: SteppedGame>(game: &G, cells: &mut [u8], level: u8) -> 
 }
 
 /// One level.
-pub fn step<G: SteppedGame>(game: &G, cells: &mut [u8], level: u8) -> u64
+pub fn step<G: LevelGame>(game: &G, cells: &mut [u8], level: u8) -> u64
     requires laws { IsNumberedClass (G.numbered game.now) }
     requires level { level < 254 }
     requires cells { length cells.old ≡ (G.numbered game.now).size }
@@ -123,7 +123,7 @@ pub struct LevelsDone {
 }
 
 /// All levels.
-pub fn all_levels<G: SteppedGame>(game: &G, cells: &mut [u8]) -> LevelsDone
+pub fn all_levels<G: LevelGame>(game: &G, cells: &mut [u8]) -> LevelsDone
     requires laws { IsNumberedClass (G.numbered game.now) }
     requires cells { length cells.old ≡ (G.numbered game.now).size }
     requires numbered { CellsHavePositions (G.numbered game.now) cells.old }
@@ -134,7 +134,7 @@ pub fn all_levels<G: SteppedGame>(game: &G, cells: &mut [u8]) -> LevelsDone
 {
     let mut examined = 0u64;
     for level in 0..MAX_DISTANCE {
-        if !has_later(cells, level) {
+        if !has_longer_mate(cells, level) {
             return LevelsDone {
                 silent: true,
                 examined,
@@ -150,13 +150,13 @@ pub fn all_levels<G: SteppedGame>(game: &G, cells: &mut [u8]) -> LevelsDone
 
 /// The result of filling a table: whether every distance fits a cell, and the number of numbers decoded and positions gone back to.
 #[derive(Clone, Copy)]
-pub struct Filled {
+pub struct FillReport {
     pub fits: bool,
     pub examined: u64,
 }
 
 /// Fills cells with the values of a class, whatever bytes they were.
-pub fn fill<G: SteppedGame>(game: &G, cells: &mut [u8]) -> Filled
+pub fn solve_cells<G: LevelGame>(game: &G, cells: &mut [u8]) -> FillReport
     requires laws { IsNumberedClass (G.numbered game.now) }
     requires cells { length cells.old ≡ (G.numbered game.now).size }
     ensures right { OutsideIsRight (G.numbered game.now) → IsTrue result.fits → CellsAreRight (G.numbered game.now) cells.new }
@@ -166,18 +166,18 @@ pub fn fill<G: SteppedGame>(game: &G, cells: &mut [u8]) -> Filled
     let ended = all_levels(game, cells);
     let examined = ended.examined.saturating_add(u64::from(game.cells()));
     if ended.silent && !far {
-        return Filled {
+        return FillReport {
             fits: true,
             examined,
         };
     }
     let examined = examined.saturating_add(u64::from(game.cells()));
     match first_inconsistent(game, cells) {
-        None => Filled {
+        None => FillReport {
             fits: true,
             examined,
         },
-        Some(_) => Filled {
+        Some(_) => FillReport {
             fits: false,
             examined,
         },

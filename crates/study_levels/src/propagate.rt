@@ -6,7 +6,7 @@ ghost use Rattle.study_levels.specs.Propagation.{AreAdded, AreLowered, IsLowered
 ghost use Rattle.study_levels.specs.Numbered.{IsNumberedClass, LosesBy, NoLossBy, StepLeads};
 
 use crate::game::Game;
-use crate::stepped::LabelledGame;
+use crate::level_game::LabelledGame;
 use study_board::SquareSet;
 use study_values::Value;
 

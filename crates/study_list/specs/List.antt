@@ -10,11 +10,11 @@ use Rattle.study_report.specs.Outcome.{Outcome, Shape}
 use Rattle.study_report.specs.Parts.{Fits}
 use Rattle.study_report.specs.Remarks.{subject, statement, is_left_out}
 use Rattle.study_page.specs.Csv.{quoted, head_record, refused_record, IsRecordOf, IsSomeRecord}
-use Rattle.study_print.specs.Reasons.{refusal_in}
+use Rattle.study_print.specs.Reasons.{refusal_name}
 
 -- a refused line, by the script's reply to it
 abbrev pub refusal_record : ℕ → List ℕ → List ℕ → List ℕ
-refusal_record number line reply = refused_record number line (refusal_in reply)
+refusal_record number line reply = refused_record number line (refusal_name reply)
 
 -- a game that was left out: its place among the games in place of a title, and the reason in place of a verdict
 unfoldable pub left_out_record : List ℕ → List ℕ

@@ -2,7 +2,7 @@
 ghost use Rattle.std.specs.Prelude.{◌≡◌, List, IfSome};
 ghost use Rattle.study_material.specs.declared.class.Class.{Class as AClass};
 ghost use Rattle.study_script.specs.State.{is_among};
-ghost use Rattle.study_script.specs.Held.{tables_honest, tables_held, are_paged};
+ghost use Rattle.study_script.specs.SessionHolds.{tables_honest, tables_held, are_paged};
 ghost use Rattle.study_report.specs.Outcome.{over_tables};
 ghost use Rattle.study_list.specs.List.{IsList, ListShape, ListFits};
 

@@ -4,8 +4,8 @@ use std::alloc::Allocator;
 use std::io::Write;
 use study_marks::Bench;
 use study_page::{PageFault, write_record, write_refused_record};
-use study_print::refusal_in;
-use study_report::{NotTold, Report, ReviewFault};
+use study_print::refusal_name;
+use study_report::{Report, ReviewFault, WriteFault};
 use study_values::Values;
 
 /// Studies, refused lines and games that were left out as records, in the order of the script.
@@ -45,11 +45,11 @@ impl Report for Records {
         line: &[u8],
         reply: &[u8],
         out: &mut W,
-    ) -> Result<(), NotTold> {
-        match write_refused_record(alloc, number, line, refusal_in(reply), out) {
+    ) -> Result<(), WriteFault> {
+        match write_refused_record(alloc, number, line, refusal_name(reply), out) {
             Ok(()) => Ok(()),
-            Err(PageFault::OutOfMemory) => Err(NotTold::OutOfMemory),
-            Err(PageFault::Device) => Err(NotTold::Device),
+            Err(PageFault::OutOfMemory) => Err(WriteFault::OutOfMemory),
+            Err(PageFault::Device) => Err(WriteFault::Device),
         }
     }
 
@@ -58,11 +58,11 @@ impl Report for Records {
         alloc: &'a A,
         line: &[u8],
         out: &mut W,
-    ) -> Result<(), NotTold> {
+    ) -> Result<(), WriteFault> {
         match write_remark(alloc, line, out) {
             Ok(()) => Ok(()),
-            Err(PageFault::OutOfMemory) => Err(NotTold::OutOfMemory),
-            Err(PageFault::Device) => Err(NotTold::Device),
+            Err(PageFault::OutOfMemory) => Err(WriteFault::OutOfMemory),
+            Err(PageFault::Device) => Err(WriteFault::Device),
         }
     }
 }

@@ -8,7 +8,7 @@ use Rattle.study_board.specs.Images.{back}
 use Rattle.study_board.proofs.ImagesValid.{length-turned}
 use Rattle.study_board.proofs.ImagesOfImages.{IsTurnable, IsTurnable-image, IsTurnable-back, image_back}
 use Rattle.study_moves.specs.declared.moves.Move.{Move}
-use Rattle.study_moves.specs.EnPassant.{bare}
+use Rattle.study_moves.specs.EnPassant.{without_idle_passed_square}
 use Rattle.study_moves.specs.Rules.{is_legal, after}
 use Rattle.study_moves.specs.Symmetry.{image_move}
 use Rattle.study_moves.specs.Game.{IsLegal, IsWon, IsLost, IsDrawn}
@@ -80,17 +80,17 @@ module _ (s : Symmetry) (p : Position) (t : IsTurnable s p) (m : Move) (l : IsLe
 -- ---- a passed square is irrelevant if no legal move captures on it
 
 module _ (law : AllAgreeWithBare) (p : Position) (valid : IsValid p) where
-  Has-bare : (o : Outcome) → Has o p → Has o (bare p)
+  Has-bare : (o : Outcome) → Has o p → Has o (without_idle_passed_square p)
   Has-bare Win h = (h.0, ((law p valid).value.won h.0).0 h.1)
   Has-bare Draw h = (law p valid).value.drawn.0 h
 
-  ends-bare : (m : Move) → IsLegal p m → after p m ≡ after (bare p) m
+  ends-bare : (m : Move) → IsLegal p m → after p m ≡ after (without_idle_passed_square p) m
   ends-bare m l = sym ((law p valid).after m l)
 
-  legal-bare : (m : Move) → IsLegal p m → IsLegal (bare p) m
+  legal-bare : (m : Move) → IsLegal p m → IsLegal (without_idle_passed_square p) m
   legal-bare m l = (law p valid).legal m ∙ l
 
-  only-bare : (o : Outcome) (m : Move) → IsOnlyMove o p m → IsOnlyMove o (bare p) m
+  only-bare : (o : Outcome) (m : Move) → IsOnlyMove o p m → IsOnlyMove o (without_idle_passed_square p) m
   only-bare o m y = record {
     legal = legal-bare m y.legal;
     holds = subst (Holds o) (ends-bare m y.legal) y.holds;
@@ -99,20 +99,20 @@ module _ (law : AllAgreeWithBare) (p : Position) (valid : IsValid p) where
         y.alone k legal (subst (Holds o) ((law p valid).after k legal) h);
   }
 
-  through-bare : (f : Filters) (m : Move) → IsLegal p m → is_let_through f (bare p) m ≡ is_let_through f p m
+  through-bare : (f : Filters) (m : Move) → IsLegal p m → is_let_through f (without_idle_passed_square p) m ≡ is_let_through f p m
   through-bare f m l =
-      ap (λ (q : Position). not (f.no_capture && nat_lt (length q.men) (length (bare p).men)) && not (f.no_check && in_check q.men q.to_move)) (sym (ends-bare m l))
+      ap (λ (q : Position). not (f.no_capture && nat_lt (length q.men) (length (without_idle_passed_square p).men)) && not (f.no_check && in_check q.men q.to_move)) (sym (ends-bare m l))
       ∙ ap (λ n. not (f.no_capture && nat_lt (length (after p m).men) n) && not (f.no_check && in_check (after p m).men (after p m).to_move))
       (ap (λ xs. length xs) (bare-men p))
 
   -- the key of the position is that of an image of its bare form
-  let-through : (s : Symmetry) → IsTurnable s (bare p) → (f : Filters) → HasKeyLetThrough f p → HasKeyLetThrough f (image s (bare p))
+  let-through : (s : Symmetry) → IsTurnable s (without_idle_passed_square p) → (f : Filters) → HasKeyLetThrough f p → HasKeyLetThrough f (image s (without_idle_passed_square p))
   let-through s t f (m, (o, k), e) =
       let only = only-bare o m k.1 in (
         image_move s m,
-        (o, key-image o s (bare p) t m (Has-bare o k.0, only)),
-        through-image s (bare p) t m only.legal f ∙ through-bare f m k.1.legal ∙ e,
+        (o, key-image o s (without_idle_passed_square p) t m (Has-bare o k.0, only)),
+        through-image s (without_idle_passed_square p) t m only.legal f ∙ through-bare f m k.1.legal ∙ e,
       )
 
-  pub wanted-image : (s : Symmetry) → IsTurnable s (bare p) → (f : Filters) → HasWantedKey f p → HasWantedKey f (image s (bare p))
+  pub wanted-image : (s : Symmetry) → IsTurnable s (without_idle_passed_square p) → (f : Filters) → HasWantedKey f p → HasWantedKey f (image s (without_idle_passed_square p))
   wanted-image s t f h asked = let-through s t f (h asked)

@@ -8,7 +8,7 @@ use Rattle.study_board.specs.declared.symmetry.Symmetry.{Symmetry}
 use Rattle.study_board.specs.Symmetry.{image, admits}
 use Rattle.study_board.specs.Images.{back, differ}
 use Rattle.study_board.proofs.ImagesOfImages.{IsTurnable-from_valid, image_back, admits_back, admits_image}
-use Rattle.study_moves.specs.EnPassant.{has_legal_en_passant, bare, without_passed}
+use Rattle.study_moves.specs.EnPassant.{has_legal_en_passant, without_idle_passed_square, without_passed}
 use Rattle.study_moves.specs.Laws.{AllAgreeWithBare}
 use Rattle.study_material.specs.declared.class.Class.{Class}
 use Rattle.study_material.specs.Class.{IsOf}
@@ -37,7 +37,7 @@ same-flag false true f = absurd (false≢true (sym f))
 same-flag true false f = absurd (false≢true (sym f))
 same-flag true true f = refl
 
-pub bare-men : (p : Position) → (bare p).men ≡ p.men
+pub bare-men : (p : Position) → (without_idle_passed_square p).men ≡ p.men
 bare-men p = by_live (has_legal_en_passant p)
   where
     by_live : (b : Bool) → (if b then p else without_passed p).men ≡ p.men
@@ -48,8 +48,8 @@ bare-men p = by_live (has_legal_en_passant p)
 pub record IsKept (p q : Position) : Type 0 where
   pub by : Symmetry
   pub colours : by.colours ≡ false
-  pub admitted : admits (bare p) by ≡ true
-  pub is : q ≡ image by (bare p)
+  pub admitted : admits (without_idle_passed_square p) by ≡ true
+  pub is : q ≡ image by (without_idle_passed_square p)
 
 module _ (law : AllAgreeWithBare) (c : Class) (p q : Position) (valid : IsValid p) (home : IsOf c p) (unswapped : is_swapped p.men ≡ false)
     (told : position_numbered c (index_of p) ≡ Some q) where
@@ -61,14 +61,14 @@ module _ (law : AllAgreeWithBare) (c : Class) (p q : Position) (valid : IsValid 
       let alike = alike_back c r.0 p r.2 in
       let by = alike.alike.images.by in
       let same : r.0 ≡ q = same-some r.0 q (sym (decoded_told c n r.0 r.1) ∙ told) in
-      let is : r.0 ≡ image by (bare p) = sym e.is_bare ∙ alike.alike.images.is in
-      let keeps : (lists (bare p).men).white ≡ (lists (bare p).men).black → by.colours ≡ false =
+      let is : r.0 ≡ image by (without_idle_passed_square p) = sym e.is_bare ∙ alike.alike.images.is in
+      let keeps : (lists (without_idle_passed_square p).men).white ≡ (lists (without_idle_passed_square p).men).black → by.colours ≡ false =
       (λ like. alike.kept (ap (λ l. l.white) home ∙ ordered-same (lists p.men) (subst (λ xs. (lists xs).white ≡ (lists xs).black) (bare-men p) like)
       ∙ sym (ap (λ l. l.black) home))) in
       record {
         by = by;
         colours =
-            same-flag by.colours (is_swapped (bare p).men) (sym (swapped-image by (bare p).men keeps) ∙ sym (ap (λ x. is_swapped x.men) is) ∙ e.in_order)
+            same-flag by.colours (is_swapped (without_idle_passed_square p).men) (sym (swapped-image by (without_idle_passed_square p).men keeps) ∙ sym (ap (λ x. is_swapped x.men) is) ∙ e.in_order)
             ∙ ap (λ xs. is_swapped xs) (bare-men p) ∙ unswapped;
         admitted = alike.alike.images.admitted;
         is = sym same ∙ is;
@@ -78,12 +78,12 @@ module _ (law : AllAgreeWithBare) (c : Class) (p q : Position) (valid : IsValid 
   image-placed ws there =
       let k = kept in
       let sound = (law p valid).valid in
-      let again : image (back k.by) q ≡ bare p =
-      ap (λ x. image (back k.by) x) k.is ∙ image_back k.by (bare p) (IsTurnable-from_valid k.by (bare p) sound k.admitted) in
+      let again : image (back k.by) q ≡ without_idle_passed_square p =
+      ap (λ x. image (back k.by) x) k.is ∙ image_back k.by (without_idle_passed_square p) (IsTurnable-from_valid k.by (without_idle_passed_square p) sound k.admitted) in
       record {
         by = back k.by;
         colours = k.colours;
-        admitted = ap (λ x. admits x (back k.by)) k.is ∙ admits_image k.by (back k.by) (bare p) sound k.admitted ∙ admits_back k.by (bare p) k.admitted;
+        admitted = ap (λ x. admits x (back k.by)) k.is ∙ admits_image k.by (back k.by) (without_idle_passed_square p) sound k.admitted ∙ admits_back k.by (without_idle_passed_square p) k.admitted;
         placed = ap (λ x. are_placed ws x) again
             ∙ subst (λ (men : List Man). are_placed ws (record { men = men; to_move = p.to_move; passed = p.passed }) ≡ true) (sym (bare-men p)) there;
       }

@@ -8,7 +8,7 @@ use Rattle.study_moves.specs.declared.moves.Move.{Move}
 use Rattle.study_values.specs.declared.value.Value.{Value}
 use Rattle.study_values.specs.declared.value.Value.TheVariants as value
 use Rattle.study_notation.specs.FenSpelling.{fen_text}
-use Rattle.study_notation.specs.Written.{move_text}
+use Rattle.study_notation.specs.SanSpelling.{move_text}
 use Rattle.study_reply.specs.Words.{value_words}
 use Rattle.study_listing.specs.declared.facts.Facts.{Facts}
 

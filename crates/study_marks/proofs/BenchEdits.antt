@@ -12,18 +12,18 @@ use Rattle.study_tree.proofs.TreeDepth.{IsWithin-place, IsWithin-dropped_at, IsW
 use Rattle.study_text.specs.Counts.{counted}
 use Rattle.study_tree.specs.Tree.{Plain, has_spot, without, moved_up, removal_refusal, move_up_refusal}
 use Rattle.study_marks.specs.declared.mark.Mark.{Mark}
-use Rattle.study_marks.specs.declared.label.Label.{Label}
-use Rattle.study_marks.specs.declared.label.Told.{Told}
+use Rattle.study_marks.specs.declared.node_label.NodeLabel.{NodeLabel}
+use Rattle.study_marks.specs.declared.node_label.Evaluation.{Evaluation}
 use Rattle.study_marks.specs.declared.mark_rules.Aim.{Aim}
 use Rattle.study_marks.specs.declared.refusal.Refusal.{Refusal}
 use Rattle.study_marks.specs.declared.refusal.Refusal.TheVariants as refusal
 use Rattle.study_marks.specs.Refusals.{refused_by_tree}
 use Rattle.study_marks.specs.Study.{Study, mapped, mapped_tree, plain_study, IsPlayable, AreOthers, AreDistinct}
 use Rattle.study_marks.specs.Goals.{aim_of}
-use Rattle.study_marks.specs.Edits.{deleted, promoted, delete_refusal, promote_refusal}
-use Rattle.study_marks.specs.Queries.{counted_times}
-use Rattle.study_marks.specs.BenchState.{BenchState, shown, marked, IsStudy, IsKeptRight, AllAddUp, told_tree}
-use Rattle.study_marks.specs.Told.{AllAreTold}
+use Rattle.study_marks.specs.Edits.{with_deletion, with_promotion, delete_refusal, promote_refusal}
+use Rattle.study_marks.specs.Queries.{counted_up_by}
+use Rattle.study_marks.specs.BenchState.{BenchState, shown, marked, IsStudy, IsKeptRight, AllAddUp, evaluation_tree}
+use Rattle.study_marks.specs.Evaluated.{AllAreEvaluated}
 use Rattle.study_marks.proofs.SameShape.{mapped-mapped, mapped-without, mapped-moved_up, has_node-mapped}
 use Rattle.study_marks.proofs.SameShape.{IsPlayable-mapped, mapped-IsPlayable, AreDistinct-mapped}
 use Rattle.study_marks.proofs.SameShape.{mapped-AreDistinct, IsWithin-mapped, mapped-IsWithin}
@@ -33,7 +33,7 @@ abbrev pub bare : {L : Type 0} → Plain L → Plain (Unit {0})
 bare t = mapped_tree (λ _. tt) t
 
 -- showing marks changes no node
-bare-shown : (a : Aim) (d : ℕ) (q : Told) (f : Forest Label) → mapped (λ (x : Mark). tt {0}) (shown a d q f) ≡ mapped (λ (l : Label). tt {0}) f
+bare-shown : (a : Aim) (d : ℕ) (q : Evaluation) (f : Forest NodeLabel) → mapped (λ (x : Mark). tt {0}) (shown a d q f) ≡ mapped (λ (l : NodeLabel). tt {0}) f
 bare-shown a d q none = refl
 bare-shown a d q (more m l b r) =
     ap (λ x. more m tt x (mapped (λ _. tt) (shown a d q r))) (bare-shown a (d + 1) l.told b)
@@ -43,8 +43,8 @@ pub bare-marked : (k : BenchState) → (plain_study (marked k)).tree ≡ bare k.
 bare-marked k = ap (λ f. record { label = tt; below = f }) (bare-shown (aim_of k.study) 0 k.study.tree.label.told k.study.tree.below)
 
 -- the evaluations without the faults determine the nodes
-pub bare-told : (t : Plain Label) → bare (told_tree t) ≡ bare t
-bare-told t = ap (λ f. record { label = tt; below = f }) (mapped-mapped (λ (l : Label). l.told) (λ (x : Told). tt {0}) t.below)
+pub bare-told : (t : Plain NodeLabel) → bare (evaluation_tree t) ≡ bare t
+bare-told t = ap (λ f. record { label = tt; below = f }) (mapped-mapped (λ (l : NodeLabel). l.told) (λ (x : Evaluation). tt {0}) t.below)
 
 -- edits keep the invariants of a study
 IsPlayable-place : {L : Type 0} (e : ℕ → Forest L → Forest L) → ((p : Position) (k : ℕ) (f : Forest L) → IsPlayable p f → IsPlayable p (e k f))
@@ -148,75 +148,75 @@ fits-moved_up p t (k ∷ ks) h = record {
 }
 
 -- the nodes, from the evaluations
-bare-removed : (t u : Plain Label) (ks : List ℕ) → told_tree u ≡ without (told_tree t) ks → bare u ≡ without (bare t) ks
-bare-removed t u ks e = sym (bare-told u) ∙ ap bare e ∙ mapped-without (λ (x : Told). tt {0}) (told_tree t) ks ∙ ap (λ x. without x ks) (bare-told t)
+bare-removed : (t u : Plain NodeLabel) (ks : List ℕ) → evaluation_tree u ≡ without (evaluation_tree t) ks → bare u ≡ without (bare t) ks
+bare-removed t u ks e = sym (bare-told u) ∙ ap bare e ∙ mapped-without (λ (x : Evaluation). tt {0}) (evaluation_tree t) ks ∙ ap (λ x. without x ks) (bare-told t)
 
-bare-raised : (t u : Plain Label) (ks : List ℕ) → told_tree u ≡ moved_up (told_tree t) ks → bare u ≡ moved_up (bare t) ks
-bare-raised t u ks e = sym (bare-told u) ∙ ap bare e ∙ mapped-moved_up (λ (x : Told). tt {0}) (told_tree t) ks ∙ ap (λ x. moved_up x ks) (bare-told t)
+bare-raised : (t u : Plain NodeLabel) (ks : List ℕ) → evaluation_tree u ≡ moved_up (evaluation_tree t) ks → bare u ≡ moved_up (bare t) ks
+bare-raised t u ks e = sym (bare-told u) ∙ ap bare e ∙ mapped-moved_up (λ (x : Evaluation). tt {0}) (evaluation_tree t) ks ∙ ap (λ x. moved_up x ks) (bare-told t)
 
-abbrev pub with_tree : Study Label → Plain Label → Study Label
+abbrev pub with_tree : Study NodeLabel → Plain NodeLabel → Study NodeLabel
 with_tree s u = record { start = s.start; stipulation = s.stipulation; tags = s.tags; tree = u }
 
-pub removed-study : (s : Study Label) (u : Plain Label) (ks : List ℕ) → told_tree u ≡ without (told_tree s.tree) ks → IsStudy s → IsStudy (with_tree s u)
+pub removed-study : (s : Study NodeLabel) (u : Plain NodeLabel) (ks : List ℕ) → evaluation_tree u ≡ without (evaluation_tree s.tree) ks → IsStudy s → IsStudy (with_tree s u)
 removed-study s u ks e h =
     study s u h
     (subst (Fits s.start.position) (sym (bare-removed s.tree u ks e))
     (fits-without s.start.position (bare s.tree) ks (fits s h)))
 
-pub raised-study : (s : Study Label) (u : Plain Label) (ks : List ℕ) → told_tree u ≡ moved_up (told_tree s.tree) ks → IsStudy s → IsStudy (with_tree s u)
+pub raised-study : (s : Study NodeLabel) (u : Plain NodeLabel) (ks : List ℕ) → evaluation_tree u ≡ moved_up (evaluation_tree s.tree) ks → IsStudy s → IsStudy (with_tree s u)
 raised-study s u ks e h =
     study s u h
     (subst (Fits s.start.position) (sym (bare-raised s.tree u ks e))
     (fits-moved_up s.start.position (bare s.tree) ks (fits s h)))
 
 -- the plain study after the edit
-pub same-plain : (k : BenchState) (u : Plain Label) (n : ℕ)
+pub same-plain : (k : BenchState) (u : Plain NodeLabel) (n : ℕ)
     → plain_study (marked (record { study = with_tree k.study u; relabelled = n }))
     ≡ record { start = k.study.start; stipulation = k.study.stipulation; tags = k.study.tags; tree = bare u }
 same-plain k u n =
     ap (λ x. record { start = k.study.start; stipulation = k.study.stipulation; tags = k.study.tags; tree = x })
     (bare-marked (record { study = with_tree k.study u; relabelled = n }))
 
-pub removed-plain : (k : BenchState) (u : Plain Label) (n : ℕ) (ks : List ℕ)
-    → told_tree u ≡ without (told_tree k.study.tree) ks
-    → plain_study (marked (record { study = with_tree k.study u; relabelled = n })) ≡ deleted (plain_study (marked k))
+pub removed-plain : (k : BenchState) (u : Plain NodeLabel) (n : ℕ) (ks : List ℕ)
+    → evaluation_tree u ≡ without (evaluation_tree k.study.tree) ks
+    → plain_study (marked (record { study = with_tree k.study u; relabelled = n })) ≡ with_deletion (plain_study (marked k))
     ks
 removed-plain k u n ks e = same-plain k u n
     ∙ ap (λ x. record { start = k.study.start; stipulation = k.study.stipulation; tags = k.study.tags; tree = x })
     (bare-removed k.study.tree u ks e ∙ ap (λ x. without x ks) (sym (bare-marked k)))
 
-pub raised-plain : (k : BenchState) (u : Plain Label) (n : ℕ) (ks : List ℕ)
-    → told_tree u ≡ moved_up (told_tree k.study.tree) ks
+pub raised-plain : (k : BenchState) (u : Plain NodeLabel) (n : ℕ) (ks : List ℕ)
+    → evaluation_tree u ≡ moved_up (evaluation_tree k.study.tree) ks
     → plain_study (marked (record { study = with_tree k.study u; relabelled = n }))
-    ≡ promoted (plain_study (marked k)) ks
+    ≡ with_promotion (plain_study (marked k)) ks
 raised-plain k u n ks e = same-plain k u n
     ∙ ap (λ x. record { start = k.study.start; stipulation = k.study.stipulation; tags = k.study.tags; tree = x })
     (bare-raised k.study.tree u ks e ∙ ap (λ x. moved_up x ks) (sym (bare-marked k)))
 
 -- right marks after the edit
-told-without : (p : Position) (t : Plain Told) (ks : List ℕ) → AllAreTold p t → AllAreTold p (without t ks)
+told-without : (p : Position) (t : Plain Evaluation) (ks : List ℕ) → AllAreEvaluated p t → AllAreEvaluated p (without t ks)
 told-without p t [] h = h
 told-without p t (k ∷ ks) h = (h.0, AreTold-dropped p t.below k ks h.1)
 
-told-moved_up : (p : Position) (t : Plain Told) (ks : List ℕ) → AllAreTold p t → AllAreTold p (moved_up t ks)
+told-moved_up : (p : Position) (t : Plain Evaluation) (ks : List ℕ) → AllAreEvaluated p t → AllAreEvaluated p (moved_up t ks)
 told-moved_up p t [] h = h
 told-moved_up p t (k ∷ ks) h = (h.0, AreTold-raised p t.below k ks h.1)
 
-pub removed-right : (k : BenchState) (u : Plain Label) (n : ℕ) (ks : List ℕ)
-    → told_tree u ≡ without (told_tree k.study.tree) ks → AllAddUp (aim_of k.study) u → IsKeptRight k
+pub removed-right : (k : BenchState) (u : Plain NodeLabel) (n : ℕ) (ks : List ℕ)
+    → evaluation_tree u ≡ without (evaluation_tree k.study.tree) ks → AllAddUp (aim_of k.study) u → IsKeptRight k
     → IsKeptRight (record { study = with_tree k.study u; relabelled = n })
 removed-right k u n ks e s h = right-told (record { study = with_tree k.study u; relabelled = n }) s
-    (subst (AllAreTold k.study.start.position) (sym e) (told-without k.study.start.position (told_tree k.study.tree) ks (AllAreTold-right k h)))
+    (subst (AllAreEvaluated k.study.start.position) (sym e) (told-without k.study.start.position (evaluation_tree k.study.tree) ks (AllAreTold-right k h)))
 
-pub raised-right : (k : BenchState) (u : Plain Label) (n : ℕ) (ks : List ℕ)
-    → told_tree u ≡ moved_up (told_tree k.study.tree) ks → AllAddUp (aim_of k.study) u → IsKeptRight k
+pub raised-right : (k : BenchState) (u : Plain NodeLabel) (n : ℕ) (ks : List ℕ)
+    → evaluation_tree u ≡ moved_up (evaluation_tree k.study.tree) ks → AllAddUp (aim_of k.study) u → IsKeptRight k
     → IsKeptRight (record { study = with_tree k.study u; relabelled = n })
 raised-right k u n ks e s h = right-told (record { study = with_tree k.study u; relabelled = n }) s
-    (subst (AllAreTold k.study.start.position) (sym e) (told-moved_up k.study.start.position (told_tree k.study.tree) ks (AllAreTold-right k h)))
+    (subst (AllAreEvaluated k.study.start.position) (sym e) (told-moved_up k.study.start.position (evaluation_tree k.study.tree) ks (AllAreTold-right k h)))
 
 -- refusals
 has_spot-plain : (k : BenchState) (ks : List ℕ) → has_spot (plain_study (marked k)).tree ks ≡ has_spot k.study.tree ks
-has_spot-plain k ks = ap (λ (x : Plain (Unit {0})). has_spot x ks) (bare-marked k) ∙ has_node-mapped (λ (l : Label). tt {0}) k.study.tree.below ks
+has_spot-plain k ks = ap (λ (x : Plain (Unit {0})). has_spot x ks) (bare-marked k) ∙ has_node-mapped (λ (l : NodeLabel). tt {0}) k.study.tree.below ks
 
 abbrev pub refused : {A : Type 0} → Option TreeFault → Option (Refusal A)
 refused None = None
@@ -256,11 +256,11 @@ refusal-err None r f e h = let no : ⊥ = cc in absurd no
 refusal-err (Some g) r f e h = let same : g ≡ f = cc in ap (λ x. Some (refused_by_tree x)) same
 
 -- counts
-counted_times-counted : (n m : ℕ) → counted_times n (counted m) ≡ counted (counted_times n m)
+counted_times-counted : (n m : ℕ) → counted_up_by n (counted m) ≡ counted (counted_up_by n m)
 counted_times-counted zero m = refl
 counted_times-counted (suc n) m = counted_times-counted n (counted m)
 
-pub counted-later : (n old new : ℕ) → new ≡ counted_times n old → counted new ≡ counted_times n (counted old)
+pub counted-later : (n old new : ℕ) → new ≡ counted_up_by n old → counted new ≡ counted_up_by n (counted old)
 counted-later n old new e = ap counted e ∙ sym (counted_times-counted n old)
 
 abbrev err_of : {A : Type 0} → Refusal A → Result (Unit {0}) (Refusal A)

@@ -5,75 +5,75 @@ use Rattle.study_moves.specs.Rules.{after}
 use Rattle.study_tree.specs.Forest.{Forest, none, more, nodes_in}
 use Rattle.study_tree.specs.Tree.{Plain}
 use Rattle.study_notation.specs.declared.start.Start.{Start}
-use Rattle.study_marks.specs.declared.label.Label.{Label}
-use Rattle.study_marks.specs.declared.label.Told.{Told}
+use Rattle.study_marks.specs.declared.node_label.NodeLabel.{NodeLabel}
+use Rattle.study_marks.specs.declared.node_label.Evaluation.{Evaluation}
 use Rattle.study_marks.specs.declared.stipulation.Stipulation.{Stipulation}
 use Rattle.study_marks.specs.Study.{Study, plain_study, mapped, IsPlayable}
 use Rattle.study_marks.specs.Goals.{aim_of}
-use Rattle.study_marks.specs.Edits.{stipulated, shifted}
+use Rattle.study_marks.specs.Edits.{with_stipulation, with_start}
 use Rattle.study_marks.specs.Queries.{asked_at, asked_below, positions_asked, IsOutside, HasAsked, HasStopped, is_of_tables}
 use Rattle.study_marks.specs.declared.refusal.Refusal.{Refusal}
 use Rattle.study_material.specs.declared.class.Class.{Class}
 use Rattle.std.specs.Prelude.{Bool, Result, Ok, Err, IfErr, IsErrAnd}
-use Rattle.study_marks.specs.Relabelled.{retold, retold_tree}
+use Rattle.study_marks.specs.Relabelled.{reevaluated, reevaluated_tree}
 use Rattle.study_marks.specs.declared.mark.Mark.{Mark}
 use Rattle.study_marks.proofs.SameShape.{IsPlayable-mapped, mapped-IsPlayable}
-use Rattle.study_marks.specs.BenchState.{BenchState, marked, IsStudy, IsKeptRight, AllAddUp, told_tree}
-use Rattle.study_marks.specs.Told.{AllAreTold}
+use Rattle.study_marks.specs.BenchState.{BenchState, marked, IsStudy, IsKeptRight, AllAddUp, evaluation_tree}
+use Rattle.study_marks.specs.Evaluated.{AllAreEvaluated}
 use Rattle.study_marks.proofs.BenchEdits.{bare, bare-marked, bare-told, Fits, fits, study}
 use Rattle.study_marks.proofs.MarksShown.{AllAreTold-right, right-told}
 
 -- the study with another stipulation and other labels
-abbrev pub restipulated : Study Label → Stipulation → Plain Label → Study Label
+abbrev pub restipulated : Study NodeLabel → Stipulation → Plain NodeLabel → Study NodeLabel
 restipulated s stipulation u = record { start = s.start; stipulation = stipulation; tags = s.tags; tree = u }
 
-same-bare : (t u : Plain Label) → told_tree u ≡ told_tree t → bare u ≡ bare t
+same-bare : (t u : Plain NodeLabel) → evaluation_tree u ≡ evaluation_tree t → bare u ≡ bare t
 same-bare t u e = sym (bare-told u) ∙ ap bare e ∙ bare-told t
 
-pub stipulated-study : (s : Study Label) (stipulation : Stipulation) (u : Plain Label)
-    → told_tree u ≡ told_tree s.tree → IsStudy s → IsStudy (restipulated s stipulation u)
+pub stipulated-study : (s : Study NodeLabel) (stipulation : Stipulation) (u : Plain NodeLabel)
+    → evaluation_tree u ≡ evaluation_tree s.tree → IsStudy s → IsStudy (restipulated s stipulation u)
 stipulated-study s stipulation u e h =
     let x = study s u h (subst (Fits s.start.position) (sym (same-bare s.tree u e)) (fits s h)) in
     record { valid = x.valid; playable = x.playable; distinct = x.distinct; shallow = x.shallow; printed = x.printed }
 
-pub stipulated-plain : (k : BenchState) (stipulation : Stipulation) (u : Plain Label) (n : ℕ) → told_tree u ≡ told_tree k.study.tree
-    → plain_study (marked (record { study = restipulated k.study stipulation u; relabelled = n })) ≡ stipulated (plain_study (marked k)) stipulation
+pub stipulated-plain : (k : BenchState) (stipulation : Stipulation) (u : Plain NodeLabel) (n : ℕ) → evaluation_tree u ≡ evaluation_tree k.study.tree
+    → plain_study (marked (record { study = restipulated k.study stipulation u; relabelled = n })) ≡ with_stipulation (plain_study (marked k)) stipulation
 stipulated-plain k stipulation u n e =
     ap (λ x. record { start = k.study.start; stipulation = stipulation; tags = k.study.tags; tree = x })
     (bare-marked (record { study = restipulated k.study stipulation u; relabelled = n }) ∙ same-bare k.study.tree u e ∙ sym (bare-marked k))
 
-pub stipulated-right : (k : BenchState) (stipulation : Stipulation) (u : Plain Label) (n : ℕ)
-    → told_tree u ≡ told_tree k.study.tree → AllAddUp (aim_of (restipulated k.study stipulation u)) u → IsKeptRight k
+pub stipulated-right : (k : BenchState) (stipulation : Stipulation) (u : Plain NodeLabel) (n : ℕ)
+    → evaluation_tree u ≡ evaluation_tree k.study.tree → AllAddUp (aim_of (restipulated k.study stipulation u)) u → IsKeptRight k
     → IsKeptRight (record { study = restipulated k.study stipulation u; relabelled = n })
 stipulated-right k stipulation u n e s h =
     right-told (record { study = restipulated k.study stipulation u; relabelled = n }) s
-    (subst (AllAreTold k.study.start.position) (sym e) (AllAreTold-right k h))
+    (subst (AllAreEvaluated k.study.start.position) (sym e) (AllAreTold-right k h))
 
 -- an empty list keeps the evaluations
-retold-none : (n : ℕ) (f : Forest Told) → retold [] n f ≡ f
+retold-none : (n : ℕ) (f : Forest Evaluation) → reevaluated [] n f ≡ f
 retold-none n none = refl
-retold-none n (more m t b r) = ap (λ x. more m t x (retold [] (n + 1 + nodes_in b) r)) (retold-none (n + 1) b)
+retold-none n (more m t b r) = ap (λ x. more m t x (reevaluated [] (n + 1 + nodes_in b) r)) (retold-none (n + 1) b)
     ∙ ap (more m t b) (retold-none (n + 1 + nodes_in b) r)
 
-pub told-kept : (t u : Plain Label) → told_tree u ≡ retold_tree [] (told_tree t) → told_tree u ≡ told_tree t
-told-kept t u e = e ∙ ap (λ f. record { label = t.label.told; below = f }) (retold-none 1 (told_tree t).below)
+pub told-kept : (t u : Plain NodeLabel) → evaluation_tree u ≡ reevaluated_tree [] (evaluation_tree t) → evaluation_tree u ≡ evaluation_tree t
+told-kept t u e = e ∙ ap (λ f. record { label = t.label.told; below = f }) (retold-none 1 (evaluation_tree t).below)
 
 -- no list of evaluations changes a node
-bare-retold : (all : List Told) (n : ℕ) (f : Forest Told) → mapped (λ (x : Told). tt {0}) (retold all n f) ≡ mapped (λ (x : Told). tt {0}) f
+bare-retold : (all : List Evaluation) (n : ℕ) (f : Forest Evaluation) → mapped (λ (x : Evaluation). tt {0}) (reevaluated all n f) ≡ mapped (λ (x : Evaluation). tt {0}) f
 bare-retold all n none = refl
 bare-retold all n (more m t b r) =
-    ap (λ x. more m tt x (mapped (λ (y : Told). tt {0}) (retold all (n + 1 + nodes_in b) r)))
-    (bare-retold all (n + 1) b) ∙ ap (more m tt (mapped (λ (y : Told). tt {0}) b))
+    ap (λ x. more m tt x (mapped (λ (y : Evaluation). tt {0}) (reevaluated all (n + 1 + nodes_in b) r)))
+    (bare-retold all (n + 1) b) ∙ ap (more m tt (mapped (λ (y : Evaluation). tt {0}) b))
     (bare-retold all (n + 1 + nodes_in b) r)
 
-bare-rewritten : (all : List Told) (t u : Plain Label) → told_tree u ≡ retold_tree all (told_tree t) → bare u ≡ bare t
-bare-rewritten all t u e = sym (bare-told u) ∙ ap bare e ∙ ap (λ f. record { label = tt; below = f }) (bare-retold all 1 (told_tree t).below) ∙ bare-told t
+bare-rewritten : (all : List Evaluation) (t u : Plain NodeLabel) → evaluation_tree u ≡ reevaluated_tree all (evaluation_tree t) → bare u ≡ bare t
+bare-rewritten all t u e = sym (bare-told u) ∙ ap bare e ∙ ap (λ f. record { label = tt; below = f }) (bare-retold all 1 (evaluation_tree t).below) ∙ bare-told t
 
 -- the study with another start and other labels
-abbrev pub restarted : Study Label → Start → Plain Label → Study Label
+abbrev pub restarted : Study NodeLabel → Start → Plain NodeLabel → Study NodeLabel
 restarted s start u = record { start = start; stipulation = s.stipulation; tags = s.tags; tree = u }
 
-module _ (all : List Told) (k : BenchState) (start : Start) (u : Plain Label) (n : ℕ) (e : told_tree u ≡ retold_tree all (told_tree k.study.tree)) where
+module _ (all : List Evaluation) (k : BenchState) (start : Start) (u : Plain NodeLabel) (n : ℕ) (e : evaluation_tree u ≡ reevaluated_tree all (evaluation_tree k.study.tree)) where
   pub shifted-study : IsValid start.position → IsPlayable start.position k.study.tree.below → IsStudy k.study → IsStudy (restarted k.study start u)
   shifted-study valid legal h =
       let x = study k.study u h (subst (Fits k.study.start.position) (sym (bare-rewritten all k.study.tree u e)) (fits k.study h)) in
@@ -88,15 +88,15 @@ module _ (all : List Told) (k : BenchState) (start : Start) (u : Plain Label) (n
         printed = x.printed;
       }
 
-  pub shifted-plain : plain_study (marked (record { study = restarted k.study start u; relabelled = n })) ≡ shifted (plain_study (marked k)) start
+  pub shifted-plain : plain_study (marked (record { study = restarted k.study start u; relabelled = n })) ≡ with_start (plain_study (marked k)) start
   shifted-plain =
       ap (λ x. record { start = start; stipulation = k.study.stipulation; tags = k.study.tags; tree = x })
       (bare-marked (record { study = restarted k.study start u; relabelled = n }) ∙ bare-rewritten all k.study.tree u e ∙ sym (bare-marked k))
 
   pub shifted-right : AllAddUp (aim_of (restarted k.study start u)) u
-      → AllAreTold start.position (retold_tree all (told_tree k.study.tree))
+      → AllAreEvaluated start.position (reevaluated_tree all (evaluation_tree k.study.tree))
       → IsKeptRight (record { study = restarted k.study start u; relabelled = n })
-  shifted-right s h = right-told (record { study = restarted k.study start u; relabelled = n }) s (subst (AllAreTold start.position) (sym e) h)
+  shifted-right s h = right-told (record { study = restarted k.study start u; relabelled = n }) s (subst (AllAreEvaluated start.position) (sym e) h)
 
 -- the probes for a study with this start
 asked-mapped : {L M : Type 0} (g : L → M) (p : Position) (f : Forest L) → asked_below p (mapped g f) ≡ asked_below p f
@@ -107,12 +107,12 @@ asked-mapped g p (more m l b r) =
 
 pub asked-shifted : (b k : BenchState) (start : Start) → b ≡ k
     → asked_at start.position ++ asked_below start.position b.study.tree.below
-    ≡ positions_asked (shifted (plain_study (marked k)) start)
+    ≡ positions_asked (with_start (plain_study (marked k)) start)
 asked-shifted b k start same =
     ap (λ x. asked_at start.position ++ x)
-    (sym (asked-mapped (λ (l : Label). tt {0}) start.position b.study.tree.below)
+    (sym (asked-mapped (λ (l : NodeLabel). tt {0}) start.position b.study.tree.below)
     ∙ ap (λ (t : Plain (Unit {0})). asked_below start.position t.below) (sym (bare-marked b)))
-    ∙ ap (λ (x : BenchState). positions_asked (shifted (plain_study (marked x)) start)) same
+    ∙ ap (λ (x : BenchState). positions_asked (with_start (plain_study (marked x)) start)) same
 
 pub asked-plain : (s : Study Mark) → positions_asked (plain_study s) ≡ positions_asked s
 asked-plain s = ap (λ x. asked_at s.start.position ++ x) (asked-mapped (λ (x : Mark). tt {0}) s.start.position s.tree.below)

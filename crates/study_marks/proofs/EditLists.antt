@@ -12,15 +12,15 @@ use Rattle.study_marks.specs.declared.refusal.Refusal.TheVariants.{OutOfMemory, 
 use Rattle.study_marks.specs.declared.edit.Edit.{Edit}
 use Rattle.study_marks.specs.declared.edit.Edit.TheVariants as edits
 use Rattle.study_marks.specs.Study.{plain_study, position_at}
-use Rattle.study_marks.specs.Queries.{asked_at, positions_asked, IsOutside, HasStopped, is_of_tables, counted_times}
-use Rattle.study_marks.specs.Edits.{Plainly, shifted, edited, edited_by, insert_refusal, shift_refusal}
+use Rattle.study_marks.specs.Queries.{asked_at, positions_asked, IsOutside, HasStopped, is_of_tables, counted_up_by}
+use Rattle.study_marks.specs.Edits.{PlainStudy, with_start, edited, edited_by, insert_refusal, shift_refusal}
 use Rattle.study_values.specs.Values.{ProbeAnswer}
 use Rattle.study_values.specs.declared.fault.SourceFault.{SourceFault}
 use Rattle.study_marks.specs.Answers.{TellsFirstFault}
 use Rattle.study_marks.specs.EditLists.{StopsAtFault}
 use Rattle.study_tree.specs.Tree.{Plain}
-use Rattle.study_marks.specs.declared.label.Told.{Told}
-use Rattle.study_marks.specs.BenchState.{BenchState, marked, told_tree, IsKeptRight}
+use Rattle.study_marks.specs.declared.node_label.Evaluation.{Evaluation}
+use Rattle.study_marks.specs.BenchState.{BenchState, marked, evaluation_tree, IsKeptRight}
 use Rattle.study_marks.specs.EditLists.{questions_of, IsKeptAfter, AreKeptAfter, IsRefusalOf, IsAccepted, AreAccepted, labels_after, labels_by}
 use Rattle.study_marks.specs.EditLists.{IsStopped, asked_after_edits, HasAskedUpTo, IsApplied}
 use Rattle.study_marks.proofs.ValuesAsked.{missing-same, unread-same}
@@ -48,11 +48,11 @@ match-same : {A : Type 0} (held now : Class → Bool) (ps : List Position) (r : 
 match-same held now ps r None Q same h = outside-same held now ps r same h
 match-same held now ps r (Some x) Q same h = h
 
-refusal-same : {A : Type 0} (held now : Class → Bool) (s : Plainly) (e : Edit A) (r : Refusal A)
+refusal-same : {A : Type 0} (held now : Class → Bool) (s : PlainStudy) (e : Edit A) (r : Refusal A)
     → ((c : Class) → now c ≡ held c) → IsRefusalOf now s e r → IsRefusalOf held s e r
 refusal-same held now s (edits.Position start) r same h = (outside-same held now (asked_at start.position) r same h.0, h.1)
 refusal-same held now s (edits.Shift start) r same h =
-    match-same held now (positions_asked (shifted s start)) r (shift_refusal s start) (λ fault. (r ≡ fault)
+    match-same held now (positions_asked (with_start s start)) r (shift_refusal s start) (λ fault. (r ≡ fault)
     ⊎ (r ≡ OutOfMemory)) same h
 refusal-same held now s (edits.Stipulate stipulation) r same h = h
 refusal-same held now s (edits.Insert steps m) r same h =
@@ -62,50 +62,50 @@ refusal-same held now s (edits.Delete steps) r same h = h
 refusal-same held now s (edits.Promote steps) r same h = h
 refusal-same held now s (edits.Tag name text) r same h = h
 
-accepted-same : {A : Type 0} (held now : Class → Bool) (s : Plainly) (e : Edit A) → ((c : Class) → now c ≡ held c) → IsAccepted now s e → IsAccepted held s e
+accepted-same : {A : Type 0} (held now : Class → Bool) (s : PlainStudy) (e : Edit A) → ((c : Class) → now c ≡ held c) → IsAccepted now s e → IsAccepted held s e
 accepted-same held now s e same h = record { allowed = h.allowed; found = record { each = AreTablesHeld-same held now (questions_of s e) same h.found.each } }
 
 -- one more edit
 module _ {A : Type 0} where
-  edited-more : (s : Plainly) (es : List (Edit A)) (e : Edit A) → edited_by s (es ++ e ∷ []) ≡ edited (edited_by s es) e
+  edited-more : (s : PlainStudy) (es : List (Edit A)) (e : Edit A) → edited_by s (es ++ e ∷ []) ≡ edited (edited_by s es) e
   edited-more s [] e = refl
   edited-more s (x ∷ es) e = edited-more (edited s x) es e
 
-  accepted-more : (held : Class → Bool) (s : Plainly) (es : List (Edit A)) (e : Edit A) → AreAccepted held s es
+  accepted-more : (held : Class → Bool) (s : PlainStudy) (es : List (Edit A)) (e : Edit A) → AreAccepted held s es
       → IsAccepted held (edited_by s es) e → AreAccepted held s (es ++ e ∷ [])
   accepted-more held s [] e h k = (k, tt)
   accepted-more held s (x ∷ es) e h k = (h.0, accepted-more held (edited s x) es e h.1 k)
 
-  labels-more : (s : Plainly) (es : List (Edit A)) (e : Edit A) (n : ℕ) → labels_by s (es ++ e ∷ []) n ≡ labels_after (edited_by s es) e (labels_by s es n)
+  labels-more : (s : PlainStudy) (es : List (Edit A)) (e : Edit A) (n : ℕ) → labels_by s (es ++ e ∷ []) n ≡ labels_after (edited_by s es) e (labels_by s es n)
   labels-more s [] e n = refl
   labels-more s (x ∷ es) e n = labels-more (edited s x) es e (labels_after s x n)
 
-  asked-more : (s : Plainly) (es : List (Edit A)) (e : Edit A) (n : ℕ)
-      → asked_after_edits s (es ++ e ∷ []) n ≡ counted_times (length (questions_of (edited_by s es) e)) (asked_after_edits s es n)
+  asked-more : (s : PlainStudy) (es : List (Edit A)) (e : Edit A) (n : ℕ)
+      → asked_after_edits s (es ++ e ∷ []) n ≡ counted_up_by (length (questions_of (edited_by s es) e)) (asked_after_edits s es n)
   asked-more s [] e n = refl
-  asked-more s (x ∷ es) e n = asked-more (edited s x) es e (counted_times (length (questions_of s x)) n)
+  asked-more s (x ∷ es) e n = asked-more (edited s x) es e (counted_up_by (length (questions_of s x)) n)
 
-  kept-more : (t : Plain Told) (es : List (Edit A)) (e : Edit A) (u v : Plain Told) → AreKeptAfter t es u → IsKeptAfter u e v
+  kept-more : (t : Plain Evaluation) (es : List (Edit A)) (e : Edit A) (u v : Plain Evaluation) → AreKeptAfter t es u → IsKeptAfter u e v
       → AreKeptAfter t (es ++ e ∷ []) v
   kept-more t [] e u v h k = (v, subst (λ x. IsKeptAfter x e v) h k, refl)
   kept-more t (x ∷ es) e u v h k = (h.0, h.1, kept-more h.0 es e u v h.2 k)
 
-  stopped-at : (held : Class → Bool) (s : Plainly) (es : List (Edit A)) (i : ℕ) (e : Edit A) (r : Refusal A)
+  stopped-at : (held : Class → Bool) (s : PlainStudy) (es : List (Edit A)) (i : ℕ) (e : Edit A) (r : Refusal A)
       → i < length es → e ≡ get_or es i e → IsRefusalOf held (edited_by s (take i es)) e r → IsStopped held s es i r
   stopped-at held s [] i e r short is h = absurd (omega (arith, short))
   stopped-at held s (x ∷ es) zero e r short is h = subst (λ y. IsRefusalOf held s y r) is h
   stopped-at held s (x ∷ es) (suc i) e r short is h = stopped-at held (edited s x) es i e r (omega (arith, short)) is h
 
-  asked-at : (s : Plainly) (es : List (Edit A)) (i : ℕ) (e : Edit A) (r : Refusal A) (old new : ℕ) → i < length es → e ≡ get_or es i e
+  asked-at : (s : PlainStudy) (es : List (Edit A)) (i : ℕ) (e : Edit A) (r : Refusal A) (old new : ℕ) → i < length es → e ≡ get_or es i e
       → HasStopped (is_of_tables r) (length (questions_of (edited_by s (take i es)) e)) (asked_after_edits s (take i es) old) new
       → HasAskedUpTo s es i r old new
   asked-at s [] i e r old new short is h = absurd (omega (arith, short))
   asked-at s (x ∷ es) zero e r old new short is h = subst (λ y. HasStopped (is_of_tables r) (length (questions_of s y)) old new) is h
   asked-at s (x ∷ es) (suc i) e r old new short is h =
-      asked-at (edited s x) es i e r (counted_times (length (questions_of s x)) old) new (omega (arith, short)) is h
+      asked-at (edited s x) es i e r (counted_up_by (length (questions_of s x)) old) new (omega (arith, short)) is h
 
   pub tells-at : {V : Type 0} (gives : V → Position → ProbeAnswer → Type 0) (may_fail : V → Class → SourceFault → Type 0) (asked_of : V
-      → ℕ) (mid new : V) (s : Plainly) (es : List (Edit A))
+      → ℕ) (mid new : V) (s : PlainStudy) (es : List (Edit A))
       (i : ℕ) (e : Edit A) (r : Refusal A) → i < length es → e ≡ get_or es i e
       → TellsFirstFault gives may_fail asked_of mid (questions_of (edited_by s (take i es)) e) new r → StopsAtFault gives may_fail asked_of mid s es i new r
   tells-at gives may_fail asked_of mid new s [] i e r short is h = absurd (omega (arith, short))
@@ -120,7 +120,7 @@ pub record IsRun {A : Type 0} (held held_now : Class → Bool) (honest honest_no
   pub accepted : AreAccepted held (plain_study (marked old)) es
   pub edit : plain_study (marked new) ≡ edited_by (plain_study (marked old)) es
   pub right : honest → IsKeptRight old → IsKeptRight new
-  pub kept : AreKeptAfter (told_tree old.study.tree) es (told_tree new.study.tree)
+  pub kept : AreKeptAfter (evaluation_tree old.study.tree) es (evaluation_tree new.study.tree)
   pub labels : new.relabelled ≡ labels_by (plain_study (marked old)) es old.relabelled
   pub counts : asked_now ≡ asked_after_edits (plain_study (marked old)) es asked
   pub failures : failed_now ≡ failed
@@ -147,7 +147,7 @@ module _ {A : Type 0} (held mid now : Class → Bool) (honest honest_mid honest_
     (asked asked_mid asked_now failed failed_mid failed_now : ℕ) (old between new : BenchState) (xs : List (Edit A)) (i : ℕ)
     (e : Edit A)
     (h : IsRun held mid honest honest_mid asked asked_mid failed failed_mid old between (take i xs)) (short : i < length xs) (is : e ≡ get_or xs i e) where
-  abbrev s : Plainly
+  abbrev s : PlainStudy
   s = plain_study (marked old)
 
   abbrev es : List (Edit A)
@@ -159,11 +159,11 @@ module _ {A : Type 0} (held mid now : Class → Bool) (honest honest_mid honest_
     accepted = accepted-more held s es e h.accepted (accepted-same held mid (edited_by s es) e h.tables (subst (λ x. IsAccepted mid x e) h.edit k.accepted));
     edit = k.edit ∙ ap (λ x. edited x e) h.edit ∙ sym (edited-more s es e);
     right = λ a b. k.right (h.stays a) (h.right a b);
-    kept = kept-more (told_tree old.study.tree) es e (told_tree between.study.tree) (told_tree new.study.tree) h.kept k.kept;
+    kept = kept-more (evaluation_tree old.study.tree) es e (evaluation_tree between.study.tree) (evaluation_tree new.study.tree) h.kept k.kept;
     labels = k.labels ∙ ap (λ x. labels_after x e between.relabelled) h.edit ∙ ap (labels_after (edited_by s es) e)
         h.labels ∙ sym (labels-more s es e old.relabelled);
-    counts = k.counts ∙ ap (λ x. counted_times (length (questions_of x e)) asked_mid) h.edit
-        ∙ ap (counted_times (length (questions_of (edited_by s es) e))) h.counts ∙ sym (asked-more s es e asked);
+    counts = k.counts ∙ ap (λ x. counted_up_by (length (questions_of x e)) asked_mid) h.edit
+        ∙ ap (counted_up_by (length (questions_of (edited_by s es) e))) h.counts ∙ sym (asked-more s es e asked);
     failures = k.failures ∙ h.failures;
     stays = λ a. k.stays (h.stays a);
     tables = λ c. k.tables c ∙ h.tables c;

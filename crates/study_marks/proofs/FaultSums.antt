@@ -3,19 +3,19 @@ use Rattle.std.proofs.Common.{◌≡◌, ℕ, ◌+◌, List, [], ◌∷◌, leng
 use Rattle.std.specs.Prelude.{if◌then◌else◌}
 use Rattle.study_tree.specs.Forest.{Forest, none, more}
 use Rattle.study_tree.specs.Edits.{below_edited}
-use Rattle.study_marks.specs.declared.label.Label.{Label}
-use Rattle.study_marks.specs.declared.label.Told.{Told}
+use Rattle.study_marks.specs.declared.node_label.NodeLabel.{NodeLabel}
+use Rattle.study_marks.specs.declared.node_label.Evaluation.{Evaluation}
 use Rattle.study_marks.specs.declared.mark_rules.Aim.{Aim}
 use Rattle.study_marks.specs.Goals.{hero_moves}
-use Rattle.study_marks.specs.BenchState.{own, all_faults, faults_below, AddUp}
-use Rattle.study_marks.specs.FaultSums.{told_at, AddUpBut, below_at}
+use Rattle.study_marks.specs.BenchState.{own_fault, all_faults, faults_below, FaultsAddUp}
+use Rattle.study_marks.specs.FaultSums.{evaluation_at, FaultsAddUpExceptOnPath, below_at}
 
-all-edited : (edit : Forest Label → Forest Label) (f : Forest Label) (k : ℕ) (ks : List ℕ) → all_faults (below_edited edit f (k ∷ ks)) ≡ all_faults f
+all-edited : (edit : Forest NodeLabel → Forest NodeLabel) (f : Forest NodeLabel) (k : ℕ) (ks : List ℕ) → all_faults (below_edited edit f (k ∷ ks)) ≡ all_faults f
 all-edited edit none k ks = refl
 all-edited edit (more m l b r) zero ks = refl
 all-edited edit (more m l b r) (suc k) ks = ap (λ s. l.faults + s) (all-edited edit r k ks)
 
-below-edited : (hero : Bool) (edit : Forest Label → Forest Label) (f : Forest Label) (k : ℕ) (ks : List ℕ)
+below-edited : (hero : Bool) (edit : Forest NodeLabel → Forest NodeLabel) (f : Forest NodeLabel) (k : ℕ) (ks : List ℕ)
     → faults_below hero (below_edited edit f (k ∷ ks)) ≡ faults_below hero f
 below-edited hero edit none k ks = refl
 below-edited hero edit (more m l b r) zero ks = refl
@@ -23,23 +23,23 @@ below-edited hero edit (more m l b r) (suc k) ks = ap (λ s. l.faults + (if hero
 
 module _ (a : Aim) where
   -- an edit of the forest below the path's node leaves all faults right except that node's
-  pub AddUpBut-edited : (edit : Forest Label → Forest Label) (hero : Bool) (d at : ℕ) (q : Told) (f : Forest Label)
+  pub AddUpBut-edited : (edit : Forest NodeLabel → Forest NodeLabel) (hero : Bool) (d at : ℕ) (q : Evaluation) (f : Forest NodeLabel)
       (ks : List ℕ) (minus plus : ℕ) → at ≡ d + length ks → hero ≡ hero_moves a at
-      → ((s : Forest Label) → AddUp a at (told_at q f ks) s → AddUp a at (told_at q f ks) (edit s))
+      → ((s : Forest NodeLabel) → FaultsAddUp a at (evaluation_at q f ks) s → FaultsAddUp a at (evaluation_at q f ks) (edit s))
       → faults_below hero (edit (below_at f ks)) + minus ≡ faults_below hero (below_at f ks) + plus
-      → AddUp a d q f → AddUpBut a d q (below_edited edit f ks) ks minus plus
+      → FaultsAddUp a d q f → FaultsAddUpExceptOnPath a d q (below_edited edit f ks) ks minus plus
   AddUpBut-edited edit hero d at q f [] minus plus e eh keeps s h =
       let same : at ≡ d = e ∙ (let z : d + length {A = ℕ} [] ≡ d = omega arith in z) in
-      subst (λ n. AddUp a n q (edit f)) same (keeps f (subst (λ n. AddUp a n q f) (sym same) h))
+      subst (λ n. FaultsAddUp a n q (edit f)) same (keeps f (subst (λ n. FaultsAddUp a n q f) (sym same) h))
   AddUpBut-edited edit hero d at q none (k ∷ ks) minus plus e eh keeps s h = tt
   AddUpBut-edited edit hero d at q (more m l b r) (zero ∷ []) minus plus e eh keeps s h =
       let same : at ≡ d + 1 = e ∙ (let z : d + length (zero ∷ []) ≡ d + 1 = omega arith in z) in
       let sum : faults_below (hero_moves a (d + 1)) (edit b) + minus ≡ faults_below (hero_moves a (d + 1)) b + plus =
       subst (λ g. faults_below g (edit b) + minus ≡ faults_below g b + plus) (eh ∙ ap (hero_moves a) same) s in
-      (omega (arith, h.0, sum), subst (λ n. AddUp a n l.told (edit b)) same (keeps b (subst (λ n. AddUp a n l.told b) (sym same) h.1)), h.2)
+      (omega (arith, h.0, sum), subst (λ n. FaultsAddUp a n l.told (edit b)) same (keeps b (subst (λ n. FaultsAddUp a n l.told b) (sym same) h.1)), h.2)
   AddUpBut-edited edit hero d at q (more m l b r) (zero ∷ j ∷ js) minus plus e eh keeps s h =
       let down : at ≡ d + 1 + length (j ∷ js) = e ∙ (let z : d + length (zero ∷ j ∷ js) ≡ d + 1 + length (j ∷ js) = omega arith in z) in (
-        h.0 ∙ ap (λ s. own a d q l.told.value + s) (sym (below-edited (hero_moves a (d + 1)) edit b j js)),
+        h.0 ∙ ap (λ s. own_fault a d q l.told.value + s) (sym (below-edited (hero_moves a (d + 1)) edit b j js)),
         AddUpBut-edited edit hero (d + 1) at l.told b (j ∷ js) minus plus down eh keeps s h.1,
         h.2,
       )

@@ -15,18 +15,18 @@ use Rattle.study_tree.specs.Tree.{Plain, Spot, has_spot, spot_at, size_of, with_
 use Rattle.study_material.specs.declared.class.Class.{Class}
 use Rattle.study_values.specs.declared.values.ProbeFault.{ProbeFault}
 use Rattle.study_values.specs.declared.values.ProbeFault.TheVariants as probe
-use Rattle.study_marks.specs.declared.label.Label.{Label}
-use Rattle.study_marks.specs.declared.label.Told.{Told}
+use Rattle.study_marks.specs.declared.node_label.NodeLabel.{NodeLabel}
+use Rattle.study_marks.specs.declared.node_label.Evaluation.{Evaluation}
 use Rattle.study_marks.specs.declared.mark.Mark.{Mark}
 use Rattle.study_marks.specs.declared.refusal.Refusal.{Refusal}
 use Rattle.study_marks.specs.declared.refusal.Refusal.TheVariants as refusal
 use Rattle.study_marks.specs.Study.{Study, plain_study, moves_to, position_after, position_at, place_at}
-use Rattle.study_marks.specs.Edits.{there, insert_refusal, inserted}
-use Rattle.study_marks.specs.BenchState.{BenchState, marked, IsStudy, IsKeptRight, AllAddUp, told_tree}
+use Rattle.study_marks.specs.Edits.{there, insert_refusal, with_insertion}
+use Rattle.study_marks.specs.BenchState.{BenchState, marked, IsStudy, IsKeptRight, AllAddUp, evaluation_tree}
 use Rattle.study_marks.specs.Goals.{aim_of}
-use Rattle.study_marks.specs.Queries.{IsOutside, HasAsked, HasStopped, is_of_tables, counted_times}
+use Rattle.study_marks.specs.Queries.{IsOutside, HasAsked, HasStopped, is_of_tables, counted_up_by}
 use Rattle.study_marks.specs.Refusals.{refused_by}
-use Rattle.study_marks.specs.Told.{IsToldOf, IsUntold, WasAsked, AllAreTold}
+use Rattle.study_marks.specs.Evaluated.{IsEvaluationOf, IsProbeFaultOf, ProbeCount, AllAreEvaluated}
 use Rattle.study_marks.proofs.SameShape.{has_node-mapped, moves_to-mapped, place_at-mapped, nodes_in-mapped}
 use Rattle.study_marks.proofs.PathRenewed.{spot-there, there-spot}
 use Rattle.study_marks.proofs.SameShape.{children_at-mapped, mapped-with_child}
@@ -75,16 +75,16 @@ abbrev pub reason : {A L : Type 0} → Position → Plain L → List ℕ → Mov
 reason p t steps m = chosen (has_spot t steps) (is_legal (position_after p (moves_to t.below steps)) m)
     (place_at t.below steps m) (nat_le 256 (length steps)) (nat_le 4096 (size_of t))
 
-reason-bare : {A : Type 0} (p : Position) (t : Plain Label) (steps : List ℕ) (m : Move) → reason {A = A} p (bare t) steps m ≡ reason p t steps m
+reason-bare : {A : Type 0} (p : Position) (t : Plain NodeLabel) (steps : List ℕ) (m : Move) → reason {A = A} p (bare t) steps m ≡ reason p t steps m
 reason-bare p t steps m =
     chosen-same (has_spot (bare t) steps) (has_spot t steps)
     (is_legal (position_after p (moves_to (bare t).below steps)) m)
     (is_legal (position_after p (moves_to t.below steps)) m)
     (place_at (bare t).below steps m) (place_at t.below steps m) (nat_le 256 (length steps))
     (nat_le 256 (length steps)) (nat_le 4096 (size_of (bare t))) (nat_le 4096 (size_of t))
-    (has_node-mapped (λ (l : Label). tt {0}) t.below steps)
-    (ap (λ ms. is_legal (position_after p ms) m) (moves_to-mapped (λ (l : Label). tt {0}) t.below steps))
-    (place_at-mapped (λ (l : Label). tt {0}) t.below steps m) refl (ap (λ n. nat_le 4096 (1 + n)) (nodes_in-mapped (λ (l : Label). tt {0}) t.below))
+    (has_node-mapped (λ (l : NodeLabel). tt {0}) t.below steps)
+    (ap (λ ms. is_legal (position_after p ms) m) (moves_to-mapped (λ (l : NodeLabel). tt {0}) t.below steps))
+    (place_at-mapped (λ (l : NodeLabel). tt {0}) t.below steps m) refl (ap (λ n. nat_le 4096 (1 + n)) (nodes_in-mapped (λ (l : NodeLabel). tt {0}) t.below))
 
 pub insert-reason : {A : Type 0} (b k : BenchState) (steps : List ℕ) (m : Move) → b ≡ k
     → insert_refusal {A = A} (plain_study (marked k)) steps m ≡ reason b.study.start.position b.study.tree steps m
@@ -145,7 +145,7 @@ module _ {A : Type 0} (b k : BenchState) (steps : List ℕ) (m : Move) (same : b
       (not-at-most 256 (length steps) d) (not-at-most 4096 (size_of b.study.tree) n)
 
 -- the result of a move that is not refused
-pub record Open (p : Position) (t : Plain Label) (steps : List ℕ) (m : Move) : Type 0 where
+pub record Open (p : Position) (t : Plain NodeLabel) (steps : List ℕ) (m : Move) : Type 0 where
   pub found : has_spot t steps ≡ true
   pub legal : is_legal (position_after p (moves_to t.below steps)) m ≡ true
   pub place : place_at t.below steps m ≡ None
@@ -199,13 +199,13 @@ refused-before {A = A} {U = U} k steps path m r f answer P way e h a =
 
 -- a value that could not be read
 pub outside-told : (A : Type 0) (held : Class → Bool) (asked : List Position) (f : ProbeFault)
-    → IsUntold held asked f → IsOutside {A = A} held asked (refused_by f)
+    → IsProbeFaultOf held asked f → IsOutside {A = A} held asked (refused_by f)
 outside-told A held asked (probe.NoTable c) h = h
 outside-told A held asked (probe.TableRead x) h = h
 outside-told A held asked (probe.PageDamaged c n) h = h
 
 pub outside-answer : {A T : Type 0} (held : Class → Bool) (asked : List Position) (f : ProbeFault)
-    (r : Result T (Refusal A)) → IsErrAnd r (λ x. x ≡ refused_by f) → IsUntold held asked f
+    (r : Result T (Refusal A)) → IsErrAnd r (λ x. x ≡ refused_by f) → IsProbeFaultOf held asked f
     → IfErr r (IsOutside {A = A} held asked)
 outside-answer held asked f (Ok x) e h = absurd e
 outside-answer {A = A} held asked f (Err x) e h = subst (IsOutside {A = A} held asked) (sym e) (outside-told A held asked f h)
@@ -220,7 +220,7 @@ tables-answer {A = A} f (Err x) e = ap (is_of_tables {A = A}) e ∙ go f
     go (probe.PageDamaged c k) = refl
 
 pub asked-answer : {A T : Type 0} (n old new : ℕ) (f : ProbeFault) (r : Result T (Refusal A))
-    → IsErrAnd r (λ x. x ≡ refused_by f) → WasAsked n false old new → HasAsked n r old new
+    → IsErrAnd r (λ x. x ≡ refused_by f) → ProbeCount n false old new → HasAsked n r old new
 asked-answer n old new f (Ok x) e h = absurd e
 asked-answer {A = A} n old new f (Err x) e h = subst (λ (y : Refusal A). HasStopped (is_of_tables y) n old new) (sym e) (go f)
   where
@@ -233,21 +233,21 @@ asked-answer {A = A} n old new f (Err x) e h = subst (λ (y : Refusal A). HasSto
 pub children-marked : (b k : BenchState) (steps path : List ℕ) → b ≡ k → steps ≡ path → children_at b.study.tree.below steps
     ≡ children_at (marked k).tree.below path
 children-marked b k steps path same way =
-    sym (children_at-mapped (λ (l : Label). tt {0}) b.study.tree.below steps) ∙ ap (λ (t : Plain (Unit {0})). children_at t.below steps) (sym (bare-marked b))
+    sym (children_at-mapped (λ (l : NodeLabel). tt {0}) b.study.tree.below steps) ∙ ap (λ (t : Plain (Unit {0})). children_at t.below steps) (sym (bare-marked b))
     ∙ children_at-mapped (λ (x : Mark). tt {0}) (marked b).tree.below steps
     ∙ ap (λ (x : BenchState). children_at (marked x).tree.below steps) same ∙ ap (children_at (marked k).tree.below) way
 
 pub position-marked : (b k : BenchState) (steps path : List ℕ) → b ≡ k → steps ≡ path → position_at b.study steps ≡ position_at (marked k) path
 position-marked b k steps path same way =
     ap (position_after b.study.start.position)
-    (sym (moves_to-mapped (λ (l : Label). tt {0}) b.study.tree.below steps)
+    (sym (moves_to-mapped (λ (l : NodeLabel). tt {0}) b.study.tree.below steps)
     ∙ ap (λ (t : Plain (Unit {0})). moves_to t.below steps) (sym (bare-marked b))
     ∙ moves_to-mapped (λ (x : Mark). tt {0}) (marked b).tree.below steps)
     ∙ ap (λ (x : BenchState). position_at (marked x) steps) same ∙ ap (position_at (marked k)) way
 
 -- the nodes after the edit
-bare-inserted : (t u : Plain Label) (ks : List ℕ) (m : Move) (x : Told) → told_tree u ≡ with_child (told_tree t) ks m x → bare u ≡ with_child (bare t) ks m tt
-bare-inserted t u ks m x e = sym (bare-told u) ∙ ap bare e ∙ mapped-with_child (λ (y : Told). tt {0}) (told_tree t)
+bare-inserted : (t u : Plain NodeLabel) (ks : List ℕ) (m : Move) (x : Evaluation) → evaluation_tree u ≡ with_child (evaluation_tree t) ks m x → bare u ≡ with_child (bare t) ks m tt
+bare-inserted t u ks m x e = sym (bare-told u) ∙ ap bare e ∙ mapped-with_child (λ (y : Evaluation). tt {0}) (evaluation_tree t)
     ks m x ∙ ap (λ y. with_child y ks m tt) (bare-told t)
 
 fits-with_child : (p : Position) (t : Plain (Unit {0})) (ks : List ℕ) (m : Move)
@@ -259,32 +259,32 @@ fits-with_child p t ks m legal place depth h = record {
   shallow = IsWithin-add_last 256 t.below ks m tt h.shallow depth;
 }
 
-pub inserted-study : (s : Study Label) (u : Plain Label) (ks : List ℕ) (m : Move) (x : Told)
-    → told_tree u ≡ with_child (told_tree s.tree) ks m x → Open s.start.position s.tree ks m → IsStudy s
+pub inserted-study : (s : Study NodeLabel) (u : Plain NodeLabel) (ks : List ℕ) (m : Move) (x : Evaluation)
+    → evaluation_tree u ≡ with_child (evaluation_tree s.tree) ks m x → Open s.start.position s.tree ks m → IsStudy s
     → IsStudy (with_tree s u)
 inserted-study s u ks m x e o h =
     study s u h (subst (Fits s.start.position) (sym (bare-inserted s.tree u ks m x e)) (fits-with_child s.start.position (bare s.tree) ks m
-    (ap (λ ms. is_legal (position_after s.start.position ms) m) (moves_to-mapped (λ (l : Label). tt {0}) s.tree.below ks) ∙ o.legal)
-    (place_at-mapped (λ (l : Label). tt {0}) s.tree.below ks m ∙ o.place) o.depth (fits s h)))
+    (ap (λ ms. is_legal (position_after s.start.position ms) m) (moves_to-mapped (λ (l : NodeLabel). tt {0}) s.tree.below ks) ∙ o.legal)
+    (place_at-mapped (λ (l : NodeLabel). tt {0}) s.tree.below ks m ∙ o.place) o.depth (fits s h)))
 
-pub inserted-plain : (k : BenchState) (u : Plain Label) (n : ℕ) (ks : List ℕ) (m : Move) (x : Told) → told_tree u ≡ with_child (told_tree k.study.tree) ks m x
-    → plain_study (marked (record { study = with_tree k.study u; relabelled = n })) ≡ inserted (plain_study (marked k)) ks m
+pub inserted-plain : (k : BenchState) (u : Plain NodeLabel) (n : ℕ) (ks : List ℕ) (m : Move) (x : Evaluation) → evaluation_tree u ≡ with_child (evaluation_tree k.study.tree) ks m x
+    → plain_study (marked (record { study = with_tree k.study u; relabelled = n })) ≡ with_insertion (plain_study (marked k)) ks m
 inserted-plain k u n ks m x e = same-plain k u n
     ∙ ap (λ y. record { start = k.study.start; stipulation = k.study.stipulation; tags = k.study.tags; tree = y })
     (bare-inserted k.study.tree u ks m x e ∙ ap (λ y. with_child y ks m tt) (sym (bare-marked k)))
 
-pub inserted-right : (k : BenchState) (u : Plain Label) (n : ℕ) (ks : List ℕ) (m : Move) (x : Told)
-    → told_tree u ≡ with_child (told_tree k.study.tree) ks m x → AllAddUp (aim_of k.study) u
-    → IsToldOf (after (position_at k.study ks) m) x → IsKeptRight k → IsKeptRight (record { study = with_tree k.study u; relabelled = n })
+pub inserted-right : (k : BenchState) (u : Plain NodeLabel) (n : ℕ) (ks : List ℕ) (m : Move) (x : Evaluation)
+    → evaluation_tree u ≡ with_child (evaluation_tree k.study.tree) ks m x → AllAddUp (aim_of k.study) u
+    → IsEvaluationOf (after (position_at k.study ks) m) x → IsKeptRight k → IsKeptRight (record { study = with_tree k.study u; relabelled = n })
 inserted-right k u n ks m x e s g h =
     let p = k.study.start.position in
     let old = AllAreTold-right k h in
-    let here : IsToldOf (after (position_after p (moves_to (told_tree k.study.tree).below ks)) m) x =
-    subst (λ ms. IsToldOf (after (position_after p ms) m) x)
-    (sym (moves_to-mapped (λ (l : Label). l.told) k.study.tree.below ks)) g in
+    let here : IsEvaluationOf (after (position_after p (moves_to (evaluation_tree k.study.tree).below ks)) m) x =
+    subst (λ ms. IsEvaluationOf (after (position_after p ms) m) x)
+    (sym (moves_to-mapped (λ (l : NodeLabel). l.told) k.study.tree.below ks)) g in
     right-told (record { study = with_tree k.study u; relabelled = n }) s
-    (subst (AllAreTold p) (sym e) (old.0, AreTold-add_last p (told_tree k.study.tree).below ks m x old.1 here))
+    (subst (AllAreEvaluated p) (sym e) (old.0, AreTold-add_last p (evaluation_tree k.study.tree).below ks m x old.1 here))
 
 -- the number of labels written
-pub inserted-count : (n old mid new : ℕ) → mid ≡ old → new ≡ counted_times n mid → counted new ≡ counted_times n (counted old)
-inserted-count n old mid new same e = counted-later n old new (e ∙ ap (counted_times n) same)
+pub inserted-count : (n old mid new : ℕ) → mid ≡ old → new ≡ counted_up_by n mid → counted new ≡ counted_up_by n (counted old)
+inserted-count n old mid new same e = counted-later n old new (e ∙ ap (counted_up_by n) same)

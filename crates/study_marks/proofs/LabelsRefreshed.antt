@@ -5,18 +5,18 @@ use Rattle.study_moves.specs.declared.moves.Move.{Move}
 use Rattle.study_tree.specs.Forest.{Forest, none, more, nodes_in}
 use Rattle.study_tree.specs.Tree.{Plain, size_of}
 use Rattle.study_tree.specs.Changes.{rewritten, rewritten_tree}
-use Rattle.study_marks.specs.declared.label.Label.{Label}
-use Rattle.study_marks.specs.declared.label.Told.{Told}
+use Rattle.study_marks.specs.declared.node_label.NodeLabel.{NodeLabel}
+use Rattle.study_marks.specs.declared.node_label.Evaluation.{Evaluation}
 use Rattle.study_marks.specs.declared.mark_rules.Aim.{Aim}
 use Rattle.study_marks.specs.Goals.{hero_moves}
-use Rattle.study_marks.specs.BenchState.{own, all_faults, faults_below, AllAddUp, told_tree}
+use Rattle.study_marks.specs.BenchState.{own_fault, all_faults, faults_below, AllAddUp, evaluation_tree}
 use Rattle.study_marks.specs.FaultSums.{counted_faults}
-use Rattle.study_marks.specs.Relabelled.{told_in, retold_tree, refreshed, refreshing}
+use Rattle.study_marks.specs.Relabelled.{evaluation_in, reevaluated_tree, refreshed, refreshing}
 use Rattle.study_marks.proofs.PathRenewed.{own≤1}
 use Rattle.study_marks.proofs.LabelsWritten.{told-refreshed, adds-refreshed, few-refreshed}
 
 -- the faults that nodes from place k on count for their parent
-abbrev counts_from : Bool → ℕ → Forest Label → ℕ
+abbrev counts_from : Bool → ℕ → Forest NodeLabel → ℕ
 counts_from hero zero f = faults_below hero f
 counts_from hero (suc k) f = if hero then 0 else all_faults f
 
@@ -25,7 +25,7 @@ counts-none hero zero = refl
 counts-none true (suc k) = refl
 counts-none false (suc k) = refl
 
-counts-more : (hero : Bool) (k : ℕ) (m : Move) (l : Label) (b r : Forest Label)
+counts-more : (hero : Bool) (k : ℕ) (m : Move) (l : NodeLabel) (b r : Forest NodeLabel)
     → counted_faults hero k l.faults + counts_from hero (suc k) r ≡ counts_from hero k (more m l b r)
 counts-more hero zero m l b r = refl
 counts-more true (suc k) m l b r = refl
@@ -36,12 +36,12 @@ counted≤ hero zero n = omega arith
 counted≤ true (suc k) n = omega arith
 counted≤ false (suc k) n = omega arith
 
-module _ (all : List Told) (a : Aim) where
+module _ (all : List Evaluation) (a : Aim) where
   -- the evaluation of the node and of those below it, and their faults for the parent
-  step : (d k n : ℕ) (q : Told) (x : ℕ) (m : Move) (l : Label) (b r : Forest Label) (t : Told) (below later : Forest Label) (own_count : ℕ)
+  step : (d k n : ℕ) (q : Evaluation) (x : ℕ) (m : Move) (l : NodeLabel) (b r : Forest NodeLabel) (t : Evaluation) (below later : Forest NodeLabel) (own_count : ℕ)
       → x + 1 + nodes_in b + nodes_in r ≤ 4096 → own_count ≤ 1
       → faults_below (hero_moves a (d + 1)) below ≤ nodes_in b
-      → t ≡ told_in all n l.told → own_count ≡ own a d q t.value
+      → t ≡ evaluation_in all n l.told → own_count ≡ own_fault a d q t.value
       → rewritten (refreshing all a) (d + 1) 0 (n + 1) (record { told = t; faults = own_count }) b
       ≡ (record { told = t; faults = own_count + faults_below (hero_moves a (d + 1)) below }, below)
       → ((y : ℕ) → y + nodes_in r ≤ 4096 → rewritten (refreshing all a) d (suc k) (n + 1 + nodes_in b) (record { told = q; faults = y }) r
@@ -56,22 +56,22 @@ module _ (all : List Told) (a : Aim) where
         more m (record { told = t; faults = own_count + faults_below (hero_moves a (d + 1)) below }) below later,
       )
   step d k n q x m l b r t below later own_count few one small et eo under rest =
-      ap whole (ap (λ (y : Told). rewritten (refreshing all a) (d + 1) 0 (n + 1) (record { told = y; faults = own a d q y.value }) b) (sym et)
+      ap whole (ap (λ (y : Evaluation). rewritten (refreshing all a) (d + 1) 0 (n + 1) (record { told = y; faults = own_fault a d q y.value }) b) (sym et)
       ∙ ap (λ y. rewritten (refreshing all a) (d + 1) 0 (n + 1) (record { told = t; faults = y }) b) (sym eo) ∙ under)
       ∙ ap (λ y. (
         (rewritten (refreshing all a) d (suc k) (n + 1 + nodes_in b) (record { told = q; faults = y }) r).0,
         more m child below (rewritten (refreshing all a) d (suc k) (n + 1 + nodes_in b) (record { told = q; faults = y }) r).1,
       )) joined
-      ∙ ap (λ (s : Label × Forest Label). (s.0, more m child below s.1)) (rest (x + share) (omega (arith, few, one, small, fewer)))
+      ∙ ap (λ (s : NodeLabel × Forest NodeLabel). (s.0, more m child below s.1)) (rest (x + share) (omega (arith, few, one, small, fewer)))
       ∙ ap (λ y. (record { told = q; faults = y }, more m child below later)) sum
     where
-      child : Label
+      child : NodeLabel
       child = record { told = t; faults = own_count + faults_below (hero_moves a (d + 1)) below }
 
       share : ℕ
       share = counted_faults (hero_moves a d) k child.faults
 
-      whole : Label × Forest Label → Label × Forest Label
+      whole : NodeLabel × Forest NodeLabel → NodeLabel × Forest NodeLabel
       whole c = (
         (rewritten (refreshing all a) d (suc k) (n + 1 + nodes_in b) ((refreshing all a).joined d k (record { told = q; faults = x }) c.0) r).0,
         more m c.0 c.1 (rewritten (refreshing all a) d (suc k) (n + 1 + nodes_in b) ((refreshing all a).joined d k (record { told = q; faults = x }) c.0) r).1,
@@ -86,43 +86,43 @@ module _ (all : List Told) (a : Aim) where
       sum : x + share + counts_from (hero_moves a d) (suc k) later ≡ x + counts_from (hero_moves a d) k (more m child below later)
       sum = omega (arith, counts-more (hero_moves a d) k m child below later)
 
-  are-refreshed : (d k n : ℕ) (q : Told) (x : ℕ) (f : Forest Label) → x + nodes_in f ≤ 4096
+  are-refreshed : (d k n : ℕ) (q : Evaluation) (x : ℕ) (f : Forest NodeLabel) → x + nodes_in f ≤ 4096
       → rewritten (refreshing all a) d k n (record { told = q; faults = x }) f
       ≡ (record { told = q; faults = x + counts_from (hero_moves a d) k (refreshed all a d n q f) }, refreshed all a d n q f)
   are-refreshed d k n q x none few =
       ap (λ y. (record { told = q; faults = y }, none))
       (let same : x ≡ x + counts_from (hero_moves a d) k none = omega (arith, counts-none (hero_moves a d) k) in same)
   are-refreshed d k n q x (more m l b r) few =
-      step d k n q x m l b r (told_in all n l.told) (refreshed all a (d + 1) (n + 1) (told_in all n l.told) b)
-      (refreshed all a d (n + 1 + nodes_in b) q r) (own a d q (told_in all n l.told).value)
-      (omega (arith, few)) (own≤1 a d q (told_in all n l.told).value)
-      (few-refreshed all a (d + 1) (n + 1) (hero_moves a (d + 1)) (told_in all n l.told) b) refl refl
-      (are-refreshed (d + 1) 0 (n + 1) (told_in all n l.told) (own a d q (told_in all n l.told).value) b
-      (omega (arith, few, own≤1 a d q (told_in all n l.told).value)))
+      step d k n q x m l b r (evaluation_in all n l.told) (refreshed all a (d + 1) (n + 1) (evaluation_in all n l.told) b)
+      (refreshed all a d (n + 1 + nodes_in b) q r) (own_fault a d q (evaluation_in all n l.told).value)
+      (omega (arith, few)) (own≤1 a d q (evaluation_in all n l.told).value)
+      (few-refreshed all a (d + 1) (n + 1) (hero_moves a (d + 1)) (evaluation_in all n l.told) b) refl refl
+      (are-refreshed (d + 1) 0 (n + 1) (evaluation_in all n l.told) (own_fault a d q (evaluation_in all n l.told).value) b
+      (omega (arith, few, own≤1 a d q (evaluation_in all n l.told).value)))
       (λ y h. are-refreshed d (suc k) (n + 1 + nodes_in b) q y r (omega (arith, h)))
 
   -- the whole tree
-  pub tree-refreshed : (t : Plain Label) → size_of t ≤ 4096
+  pub tree-refreshed : (t : Plain NodeLabel) → size_of t ≤ 4096
       → rewritten_tree (refreshing all a) t
       ≡ record {
         label = record {
-          told = told_in all 0 t.label.told;
-          faults = faults_below (hero_moves a 0) (refreshed all a 0 1 (told_in all 0 t.label.told) t.below);
+          told = evaluation_in all 0 t.label.told;
+          faults = faults_below (hero_moves a 0) (refreshed all a 0 1 (evaluation_in all 0 t.label.told) t.below);
         };
-        below = refreshed all a 0 1 (told_in all 0 t.label.told) t.below;
+        below = refreshed all a 0 1 (evaluation_in all 0 t.label.told) t.below;
       }
   tree-refreshed t few =
-      ap (λ (s : Label × Forest Label). record { label = s.0; below = s.1 }) (are-refreshed 0 0 1 (told_in all 0 t.label.told) 0 t.below (omega (arith, few)))
-      ∙ ap (λ n. record { label = record { told = told_in all 0 t.label.told; faults = n }; below = refreshed all a 0 1 (told_in all 0 t.label.told) t.below })
-      (let sum : 0 + counts_from (hero_moves a 0) 0 (refreshed all a 0 1 (told_in all 0 t.label.told) t.below)
-      ≡ faults_below (hero_moves a 0) (refreshed all a 0 1 (told_in all 0 t.label.told) t.below) = omega arith in sum)
+      ap (λ (s : NodeLabel × Forest NodeLabel). record { label = s.0; below = s.1 }) (are-refreshed 0 0 1 (evaluation_in all 0 t.label.told) 0 t.below (omega (arith, few)))
+      ∙ ap (λ n. record { label = record { told = evaluation_in all 0 t.label.told; faults = n }; below = refreshed all a 0 1 (evaluation_in all 0 t.label.told) t.below })
+      (let sum : 0 + counts_from (hero_moves a 0) 0 (refreshed all a 0 1 (evaluation_in all 0 t.label.told) t.below)
+      ≡ faults_below (hero_moves a 0) (refreshed all a 0 1 (evaluation_in all 0 t.label.told) t.below) = omega arith in sum)
 
-  pub right-refreshed : (t new : Plain Label) → size_of t ≤ 4096 → new ≡ rewritten_tree (refreshing all a) t → AllAddUp a new
+  pub right-refreshed : (t new : Plain NodeLabel) → size_of t ≤ 4096 → new ≡ rewritten_tree (refreshing all a) t → AllAddUp a new
   right-refreshed t new few e =
-      subst (AllAddUp a) (sym (e ∙ tree-refreshed t few)) (refl, adds-refreshed all a 0 1 (told_in all 0 t.label.told) t.below)
+      subst (AllAddUp a) (sym (e ∙ tree-refreshed t few)) (refl, adds-refreshed all a 0 1 (evaluation_in all 0 t.label.told) t.below)
 
-  pub told-retold : (t new : Plain Label) → size_of t ≤ 4096 → new ≡ rewritten_tree (refreshing all a) t
-      → told_tree new ≡ retold_tree all (told_tree t)
+  pub told-retold : (t new : Plain NodeLabel) → size_of t ≤ 4096 → new ≡ rewritten_tree (refreshing all a) t
+      → evaluation_tree new ≡ reevaluated_tree all (evaluation_tree t)
   told-retold t new few e =
-      ap told_tree (e ∙ tree-refreshed t few)
-      ∙ ap (λ x. record { label = told_in all 0 t.label.told; below = x }) (told-refreshed all a 0 1 (told_in all 0 t.label.told) t.below)
+      ap evaluation_tree (e ∙ tree-refreshed t few)
+      ∙ ap (λ x. record { label = evaluation_in all 0 t.label.told; below = x }) (told-refreshed all a 0 1 (evaluation_in all 0 t.label.told) t.below)

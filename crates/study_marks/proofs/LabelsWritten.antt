@@ -5,13 +5,13 @@ use Rattle.std.specs.Prelude.{take, ◌-◌}
 use Rattle.study_tree.specs.Forest.{Forest, none, more, nodes_in}
 use Rattle.study_tree.specs.Edits.{width}
 use Rattle.study_text.specs.Counts.{counted}
-use Rattle.study_marks.specs.declared.label.Label.{Label}
-use Rattle.study_marks.specs.declared.label.Told.{Told}
+use Rattle.study_marks.specs.declared.node_label.NodeLabel.{NodeLabel}
+use Rattle.study_marks.specs.declared.node_label.Evaluation.{Evaluation}
 use Rattle.study_marks.specs.declared.mark_rules.Aim.{Aim}
-use Rattle.study_marks.specs.Queries.{counted_times}
+use Rattle.study_marks.specs.Queries.{counted_up_by}
 use Rattle.study_marks.specs.Study.{mapped}
-use Rattle.study_marks.specs.BenchState.{faults_below, AddUp}
-use Rattle.study_marks.specs.Relabelled.{told_in, retold, refreshed, firsts}
+use Rattle.study_marks.specs.BenchState.{faults_below, FaultsAddUp}
+use Rattle.study_marks.specs.Relabelled.{evaluation_in, reevaluated, refreshed, firsts}
 use Rattle.study_marks.proofs.SameShape.{nodes_in-mapped}
 use Rattle.study_marks.proofs.PathRenewed.{below≤all, all≤nodes}
 
@@ -22,31 +22,31 @@ module _ {L : Type 0} where
   firsts-all (suc k) none h = refl
   firsts-all (suc k) (more m l b r) h = ap (more m l b) (firsts-all k r (omega arith))
 
-module _ (all : List Told) (a : Aim) where
+module _ (all : List Evaluation) (a : Aim) where
   -- the evaluations come from the list
-  pub told-refreshed : (d n : ℕ) (q : Told) (f : Forest Label)
-      → mapped (λ (l : Label). l.told) (refreshed all a d n q f) ≡ retold all n (mapped (λ l. l.told) f)
+  pub told-refreshed : (d n : ℕ) (q : Evaluation) (f : Forest NodeLabel)
+      → mapped (λ (l : NodeLabel). l.told) (refreshed all a d n q f) ≡ reevaluated all n (mapped (λ l. l.told) f)
   told-refreshed d n q none = refl
   told-refreshed d n q (more m l b r) =
       ap
-      (λ x. more m (told_in all n l.told) x
-      (mapped (λ (y : Label). y.told) (refreshed all a d (n + 1 + nodes_in b) q r)))
-      (told-refreshed (d + 1) (n + 1) (told_in all n l.told) b)
-      ∙ ap (more m (told_in all n l.told) (retold all (n + 1) (mapped (λ (y : Label). y.told) b)))
+      (λ x. more m (evaluation_in all n l.told) x
+      (mapped (λ (y : NodeLabel). y.told) (refreshed all a d (n + 1 + nodes_in b) q r)))
+      (told-refreshed (d + 1) (n + 1) (evaluation_in all n l.told) b)
+      ∙ ap (more m (evaluation_in all n l.told) (reevaluated all (n + 1) (mapped (λ (y : NodeLabel). y.told) b)))
       (told-refreshed d (n + 1 + nodes_in b) q r
-      ∙ ap (λ x. retold all (n + 1 + x) (mapped (λ (y : Label). y.told) r))
-      (sym (nodes_in-mapped (λ (y : Label). y.told) b)))
+      ∙ ap (λ x. reevaluated all (n + 1 + x) (mapped (λ (y : NodeLabel). y.told) r))
+      (sym (nodes_in-mapped (λ (y : NodeLabel). y.told) b)))
 
   -- the faults add up
-  pub adds-refreshed : (d n : ℕ) (q : Told) (f : Forest Label) → AddUp a d q (refreshed all a d n q f)
+  pub adds-refreshed : (d n : ℕ) (q : Evaluation) (f : Forest NodeLabel) → FaultsAddUp a d q (refreshed all a d n q f)
   adds-refreshed d n q none = tt
-  adds-refreshed d n q (more m l b r) = (refl, adds-refreshed (d + 1) (n + 1) (told_in all n l.told) b, adds-refreshed d (n + 1 + nodes_in b) q r)
+  adds-refreshed d n q (more m l b r) = (refl, adds-refreshed (d + 1) (n + 1) (evaluation_in all n l.told) b, adds-refreshed d (n + 1 + nodes_in b) q r)
 
-  nodes-refreshed : (d n : ℕ) (q : Told) (f : Forest Label) → nodes_in (refreshed all a d n q f) ≡ nodes_in f
+  nodes-refreshed : (d n : ℕ) (q : Evaluation) (f : Forest NodeLabel) → nodes_in (refreshed all a d n q f) ≡ nodes_in f
   nodes-refreshed d n q none = refl
-  nodes-refreshed d n q (more m l b r) = omega (arith, nodes-refreshed (d + 1) (n + 1) (told_in all n l.told) b, nodes-refreshed d (n + 1 + nodes_in b) q r)
+  nodes-refreshed d n q (more m l b r) = omega (arith, nodes-refreshed (d + 1) (n + 1) (evaluation_in all n l.told) b, nodes-refreshed d (n + 1 + nodes_in b) q r)
 
-  pub few-refreshed : (d n : ℕ) (hero : Bool) (q : Told) (f : Forest Label) → faults_below hero (refreshed all a d n q f) ≤ nodes_in f
+  pub few-refreshed : (d n : ℕ) (hero : Bool) (q : Evaluation) (f : Forest NodeLabel) → faults_below hero (refreshed all a d n q f) ≤ nodes_in f
   few-refreshed d n hero q f =
       omega (
         arith,
@@ -70,6 +70,6 @@ take-front (x ∷ xs) ys (suc n) e = ap (λ zs. x ∷ zs) (take-front xs ys n (o
 pub back : (ks zs : List ℕ) (k : ℕ) → zs ≡ ks ++ k ∷ [] → take (length zs - 1) zs ≡ ks
 back ks zs k e = ap (λ xs. take (length xs - 1) xs) e ∙ take-front ks (k ∷ []) (length (ks ++ k ∷ []) - 1) (omega (arith, length-further ks k))
 
-pub counted_times-sum : (b c n : ℕ) → counted_times (b + c) n ≡ counted_times c (counted_times b n)
-counted_times-sum zero c n = ap (λ x. counted_times x n) (let z : 0 + c ≡ c = omega arith in z)
-counted_times-sum (suc b) c n = ap (λ x. counted_times x n) (let z : suc b + c ≡ suc (b + c) = omega arith in z) ∙ counted_times-sum b c (counted n)
+pub counted_times-sum : (b c n : ℕ) → counted_up_by (b + c) n ≡ counted_up_by c (counted_up_by b n)
+counted_times-sum zero c n = ap (λ x. counted_up_by x n) (let z : 0 + c ≡ c = omega arith in z)
+counted_times-sum (suc b) c n = ap (λ x. counted_up_by x n) (let z : suc b + c ≡ suc (b + c) = omega arith in z) ∙ counted_times-sum b c (counted n)

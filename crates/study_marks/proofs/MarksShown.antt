@@ -13,74 +13,74 @@ use Rattle.study_tree.specs.Forest.{Forest, none, more}
 use Rattle.study_tree.specs.Edits.{with_last, add_last, place_edited, dropped_at, raised_at, second}
 use Rattle.study_marks.specs.declared.stipulation.Goal.{Goal}
 use Rattle.study_marks.specs.declared.stipulation.Goal.TheVariants.{Win, Draw, MateIn}
-use Rattle.study_marks.specs.declared.label.Label.{Label}
-use Rattle.study_marks.specs.declared.label.Told.{Told}
+use Rattle.study_marks.specs.declared.node_label.NodeLabel.{NodeLabel}
+use Rattle.study_marks.specs.declared.node_label.Evaluation.{Evaluation}
 use Rattle.study_marks.specs.declared.mark_rules.Aim.{Aim}
 use Rattle.study_marks.specs.Study.{mapped, moves_to, position_after}
 use Rattle.study_marks.specs.Goals.{aim_of, hero_moves, holds, keeps_goal, plies_of}
 use Rattle.study_marks.specs.Marks.{mark_of, move_mark, faults_in}
 use Rattle.study_marks.specs.Annotated.{AreAnnotated}
-use Rattle.study_marks.specs.Tally.{tally_of}
-use Rattle.study_marks.specs.BenchState.{BenchState, count_holding, kept_mark, shown, AreTallied, IsKeptRight}
-use Rattle.study_marks.specs.BenchState.{own, all_faults, faults_below, AddUp, AllAddUp, told_tree}
-use Rattle.study_marks.specs.Told.{IsToldOf, AreTold, AllAreTold}
+use Rattle.study_marks.specs.MoveOutcomes.{tally_of}
+use Rattle.study_marks.specs.BenchState.{BenchState, count_holding, mark_by_label, shown, AreTallied, IsKeptRight}
+use Rattle.study_marks.specs.BenchState.{own_fault, all_faults, faults_below, FaultsAddUp, AllAddUp, evaluation_tree}
+use Rattle.study_marks.specs.Evaluated.{IsEvaluationOf, AreEvaluated, AllAreEvaluated}
 
 -- edits keep the evaluations
-AreTold-with_last : (p : Position) (f : Forest Told) (m : Move) (x : Told) → AreTold p f → IsToldOf (after p m) x → AreTold p (with_last m x f)
+AreTold-with_last : (p : Position) (f : Forest Evaluation) (m : Move) (x : Evaluation) → AreEvaluated p f → IsEvaluationOf (after p m) x → AreEvaluated p (with_last m x f)
 AreTold-with_last p none m x h k = (k, tt, tt)
 AreTold-with_last p (more n t b r) m x h k = (h.0, h.1, AreTold-with_last p r m x h.2 k)
 
-pub AreTold-add_last : (p : Position) (f : Forest Told) (ks : List ℕ) (m : Move) (x : Told) → AreTold p f
-    → IsToldOf (after (position_after p (moves_to f ks)) m) x → AreTold p (add_last f ks m x)
+pub AreTold-add_last : (p : Position) (f : Forest Evaluation) (ks : List ℕ) (m : Move) (x : Evaluation) → AreEvaluated p f
+    → IsEvaluationOf (after (position_after p (moves_to f ks)) m) x → AreEvaluated p (add_last f ks m x)
 AreTold-add_last p f [] m x h k = AreTold-with_last p f m x h k
 AreTold-add_last p none (j ∷ js) m x h k = tt
 AreTold-add_last p (more n t b r) (zero ∷ js) m x h k = (h.0, AreTold-add_last (after p n) b js m x h.1 k, h.2)
 AreTold-add_last p (more n t b r) (suc j ∷ js) m x h k = (h.0, h.1, AreTold-add_last p r (j ∷ js) m x h.2 k)
 
-AreTold-place_edited : (e : ℕ → Forest Told → Forest Told) → ((p : Position) (k : ℕ) (f : Forest Told) → AreTold p f → AreTold p (e k f))
-    → (p : Position) (f : Forest Told) (k : ℕ) (ks : List ℕ) → AreTold p f → AreTold p (place_edited e f k ks)
+AreTold-place_edited : (e : ℕ → Forest Evaluation → Forest Evaluation) → ((p : Position) (k : ℕ) (f : Forest Evaluation) → AreEvaluated p f → AreEvaluated p (e k f))
+    → (p : Position) (f : Forest Evaluation) (k : ℕ) (ks : List ℕ) → AreEvaluated p f → AreEvaluated p (place_edited e f k ks)
 AreTold-place_edited e keeps p f k [] h = keeps p k f h
 AreTold-place_edited e keeps p none k (j ∷ js) h = tt
 AreTold-place_edited e keeps p (more m t b r) zero (j ∷ js) h = (h.0, AreTold-place_edited e keeps (after p m) b j js h.1, h.2)
 AreTold-place_edited e keeps p (more m t b r) (suc k) (j ∷ js) h = (h.0, h.1, AreTold-place_edited e keeps p r k (j ∷ js) h.2)
 
-AreTold-dropped_at : (p : Position) (k : ℕ) (f : Forest Told) → AreTold p f → AreTold p (dropped_at k f)
+AreTold-dropped_at : (p : Position) (k : ℕ) (f : Forest Evaluation) → AreEvaluated p f → AreEvaluated p (dropped_at k f)
 AreTold-dropped_at p k none h = h
 AreTold-dropped_at p zero (more n t b r) h = h.2
 AreTold-dropped_at p (suc k) (more n t b r) h = (h.0, h.1, AreTold-dropped_at p k r h.2)
 
-AreTold-second : (p : Position) (m : Move) (t : Told) (b r : Forest Told) → IsToldOf (after p m) t
-    → AreTold (after p m) b → AreTold p r → AreTold p (second m t b r)
+AreTold-second : (p : Position) (m : Move) (t : Evaluation) (b r : Forest Evaluation) → IsEvaluationOf (after p m) t
+    → AreEvaluated (after p m) b → AreEvaluated p r → AreEvaluated p (second m t b r)
 AreTold-second p m t b none e h k = (e, h, tt)
 AreTold-second p m t b (more n x d r) e h k = (k.0, k.1, (e, h, k.2))
 
-AreTold-raised_at : (p : Position) (k : ℕ) (f : Forest Told) → AreTold p f → AreTold p (raised_at k f)
+AreTold-raised_at : (p : Position) (k : ℕ) (f : Forest Evaluation) → AreEvaluated p f → AreEvaluated p (raised_at k f)
 AreTold-raised_at p k none h = h
 AreTold-raised_at p zero (more n t b r) h = h
 AreTold-raised_at p (suc zero) (more n t b r) h = AreTold-second p n t b r h.0 h.1 h.2
 AreTold-raised_at p (suc (suc k)) (more n t b r) h = (h.0, h.1, AreTold-raised_at p (suc k) r h.2)
 
-pub AreTold-dropped : (p : Position) (f : Forest Told) (k : ℕ) (ks : List ℕ) → AreTold p f → AreTold p (place_edited dropped_at f k ks)
+pub AreTold-dropped : (p : Position) (f : Forest Evaluation) (k : ℕ) (ks : List ℕ) → AreEvaluated p f → AreEvaluated p (place_edited dropped_at f k ks)
 AreTold-dropped = AreTold-place_edited dropped_at AreTold-dropped_at
 
-pub AreTold-raised : (p : Position) (f : Forest Told) (k : ℕ) (ks : List ℕ) → AreTold p f → AreTold p (place_edited raised_at f k ks)
+pub AreTold-raised : (p : Position) (f : Forest Evaluation) (k : ℕ) (ks : List ℕ) → AreEvaluated p f → AreEvaluated p (place_edited raised_at f k ks)
 AreTold-raised = AreTold-place_edited raised_at AreTold-raised_at
 
 -- from right marks to right evaluations
-AreTold-annotated : (a : Aim) (d : ℕ) (p : Position) (v : Value) (q : Told) (f : Forest Label)
-    → AreAnnotated a d p v (shown a d q f) → AreTallied p f → AreTold p (mapped (λ l. l.told) f)
+AreTold-annotated : (a : Aim) (d : ℕ) (p : Position) (v : Value) (q : Evaluation) (f : Forest NodeLabel)
+    → AreAnnotated a d p v (shown a d q f) → AreTallied p f → AreEvaluated p (mapped (λ l. l.told) f)
 AreTold-annotated a d p v q none h t = tt
 AreTold-annotated a d p v q (more m l b r) h t =
     ((h.0, t.0), AreTold-annotated a (d + 1) (after p m) l.told.value l.told b h.3 t.1, AreTold-annotated a d p v q r h.4 t.2)
 
-pub AllAreTold-right : (k : BenchState) → IsKeptRight k → AllAreTold k.study.start.position (told_tree k.study.tree)
+pub AllAreTold-right : (k : BenchState) → IsKeptRight k → AllAreEvaluated k.study.start.position (evaluation_tree k.study.tree)
 AllAreTold-right k h = (
   (h.marks.value, h.root),
   AreTold-annotated (aim_of k.study) 0 k.study.start.position
       k.study.tree.label.told.value k.study.tree.label.told k.study.tree.below h.marks.below h.tallies,
 )
 
-AreTallied-told : (p : Position) (f : Forest Label) → AreTold p (mapped (λ l. l.told) f) → AreTallied p f
+AreTallied-told : (p : Position) (f : Forest NodeLabel) → AreEvaluated p (mapped (λ l. l.told) f) → AreTallied p f
 AreTallied-told p none h = tt
 AreTallied-told p (more m l b r) h = (h.0.1, AreTallied-told (after p m) b h.1, AreTallied-told p r h.2)
 
@@ -182,7 +182,7 @@ mark_of-opponent true after n k = refl
 mark_of-opponent false true n k = refl
 mark_of-opponent false false n k = refl
 
-pub kept-move : (a : Aim) (d : ℕ) (q : Told) (all : List Value) (w : Value) → q.tally ≡ tally_of all → kept_mark a d q w ≡ move_mark a d q.value all w
+pub kept-move : (a : Aim) (d : ℕ) (q : Evaluation) (all : List Value) (w : Value) → q.tally ≡ tally_of all → mark_by_label a d q w ≡ move_mark a d q.value all w
 kept-move a d q all w e = go (hero_moves a d) refl
   where
     held : ℕ
@@ -201,34 +201,34 @@ kept-move a d q all w e = go (hero_moves a d) refl
         (mark_of-opponent (holds a d q.value) (holds a (d + 1) w) held counted)
 
 -- faults that add up are those counted from the marks
-below-opponent : (f : Forest Label) → faults_below false f ≡ all_faults f
+below-opponent : (f : Forest NodeLabel) → faults_below false f ≡ all_faults f
 below-opponent none = refl
 below-opponent (more n k c s) = refl
 
-sums-shown : (hero : Bool) (n later counted : ℕ) (r : Forest Label) → faults_below hero r ≡ counted → n ≡ later
+sums-shown : (hero : Bool) (n later counted : ℕ) (r : Forest NodeLabel) → faults_below hero r ≡ counted → n ≡ later
     → n + (if hero then 0 else all_faults r) ≡ later + (if hero then 0 else counted)
 sums-shown true n later counted r e h = omega (arith, h)
 sums-shown false n later counted r e h = let two : all_faults r ≡ counted = sym (below-opponent r) ∙ e in omega (arith, h, two)
 
-faults-shown : (a : Aim) (d : ℕ) (q : Told) (f : Forest Label) → AddUp a d q f → faults_below (hero_moves a d) f ≡ faults_in a d (shown a d q f)
+faults-shown : (a : Aim) (d : ℕ) (q : Evaluation) (f : Forest NodeLabel) → FaultsAddUp a d q f → faults_below (hero_moves a d) f ≡ faults_in a d (shown a d q f)
 faults-shown a d q none h = refl
 faults-shown a d q (more m l b r) h =
-    sums-shown (hero_moves a d) l.faults (own a d q l.told.value + faults_in a (d + 1) (shown a (d + 1) l.told b)) (faults_in a d (shown a d q r)) r
-    (faults-shown a d q r h.2) (h.0 ∙ ap (λ n. own a d q l.told.value + n) (faults-shown a (d + 1) l.told b h.1))
+    sums-shown (hero_moves a d) l.faults (own_fault a d q l.told.value + faults_in a (d + 1) (shown a (d + 1) l.told b)) (faults_in a d (shown a d q r)) r
+    (faults-shown a d q r h.2) (h.0 ∙ ap (λ n. own_fault a d q l.told.value + n) (faults-shown a (d + 1) l.told b h.1))
 
-AreAnnotated-told : (a : Aim) (d : ℕ) (p : Position) (q : Told) (f : Forest Label) → AddUp a d q f → IsToldOf p q
-    → AreTold p (mapped (λ l. l.told) f) → AreAnnotated a d p q.value (shown a d q f)
+AreAnnotated-told : (a : Aim) (d : ℕ) (p : Position) (q : Evaluation) (f : Forest NodeLabel) → FaultsAddUp a d q f → IsEvaluationOf p q
+    → AreEvaluated p (mapped (λ l. l.told) f) → AreAnnotated a d p q.value (shown a d q f)
 AreAnnotated-told a d p q none s h t = tt
 AreAnnotated-told a d p q (more m l b r) s h t = (
   t.0.0,
-  (kept_mark a d q l.told.value, refl, (h.1.0, h.1.1, kept-move a d q h.1.0 l.told.value h.1.2)),
-  s.0 ∙ ap (λ n. own a d q l.told.value + n) (faults-shown a (d + 1) l.told b s.1),
+  (mark_by_label a d q l.told.value, refl, (h.1.0, h.1.1, kept-move a d q h.1.0 l.told.value h.1.2)),
+  s.0 ∙ ap (λ n. own_fault a d q l.told.value + n) (faults-shown a (d + 1) l.told b s.1),
   AreAnnotated-told a (d + 1) (after p m) l.told b s.1 t.0 t.1,
   AreAnnotated-told a d p q r s.2 h t.2,
 )
 
 -- from right evaluations, and faults that add up, to right marks
-pub right-told : (k : BenchState) → AllAddUp (aim_of k.study) k.study.tree → AllAreTold k.study.start.position (told_tree k.study.tree) → IsKeptRight k
+pub right-told : (k : BenchState) → AllAddUp (aim_of k.study) k.study.tree → AllAreEvaluated k.study.start.position (evaluation_tree k.study.tree) → IsKeptRight k
 right-told k s t = record {
   marks = record {
     value = t.0.0;

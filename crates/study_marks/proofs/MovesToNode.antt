@@ -4,7 +4,7 @@ use Rattle.study_board.specs.Position.{Position}
 use Rattle.study_moves.specs.declared.moves.Move.{Move}
 use Rattle.study_moves.specs.Rules.{is_legal, after}
 use Rattle.study_notation.specs.declared.start.Start.{Start}
-use Rattle.study_notation.specs.Played.{start_after}
+use Rattle.study_notation.specs.StartAfter.{start_after}
 use Rattle.study_tree.specs.Forest.{Forest, none, more}
 use Rattle.study_tree.specs.Edits.{has_node, node_in}
 use Rattle.study_tree.specs.Tree.{Plain, spot_at, twig_spot, has_spot}

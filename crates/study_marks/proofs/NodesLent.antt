@@ -2,34 +2,34 @@
 use Rattle.std.proofs.Common.{◌≡◌, ℕ, ◌+◌, [], Option, Some, None, zero, suc, refl, sym, ap, ◌∙◌}
 use Rattle.study_tree.specs.Forest.{Forest, none, more, Twig}
 use Rattle.study_tree.specs.Edits.{node_in}
-use Rattle.study_marks.specs.declared.label.Label.{Label}
-use Rattle.study_marks.specs.declared.label.Told.{Told}
+use Rattle.study_marks.specs.declared.node_label.NodeLabel.{NodeLabel}
+use Rattle.study_marks.specs.declared.node_label.Evaluation.{Evaluation}
 use Rattle.study_marks.specs.declared.mark.Mark.{Mark}
 use Rattle.study_marks.specs.declared.mark.MoveMark.{MoveMark}
 use Rattle.study_marks.specs.declared.mark_rules.Aim.{Aim}
-use Rattle.study_marks.specs.BenchState.{kept_mark, shown_mark, shown}
+use Rattle.study_marks.specs.BenchState.{mark_by_label, shown_mark, shown}
 
 -- a child as it is shown, at a node of depth d with the evaluation q
-abbrev pub child_shown : Aim → ℕ → Told → Option (Twig Label) → Option (Twig Mark)
+abbrev pub child_shown : Aim → ℕ → Evaluation → Option (Twig NodeLabel) → Option (Twig Mark)
 child_shown a d q None = None
 child_shown a d q (Some t) = Some (record { played = t.played; label = shown_mark a d q t.label; below = shown a (d + 1) t.label.told t.below })
 
-node_in-shown : (a : Aim) (d : ℕ) (q : Told) (f : Forest Label) (k : ℕ) → node_in (shown a d q f) k [] ≡ child_shown a d q (node_in f k [])
+node_in-shown : (a : Aim) (d : ℕ) (q : Evaluation) (f : Forest NodeLabel) (k : ℕ) → node_in (shown a d q f) k [] ≡ child_shown a d q (node_in f k [])
 node_in-shown a d q none k = refl
 node_in-shown a d q (more m l b r) zero = refl
 node_in-shown a d q (more m l b r) (suc k) = node_in-shown a d q r k
 
 -- the mark of a child with the label l, of a node with the label p
-pub mark-made : (a : Aim) (d : ℕ) (p l before label : Label) (made : MoveMark) (mark : Mark) → before ≡ p → label ≡ l
-    → made ≡ kept_mark a d before.told label.told.value → mark ≡ record { value = label.told.value; on_move = Some made; faults = label.faults }
+pub mark-made : (a : Aim) (d : ℕ) (p l before label : NodeLabel) (made : MoveMark) (mark : Mark) → before ≡ p → label ≡ l
+    → made ≡ mark_by_label a d before.told label.told.value → mark ≡ record { value = label.told.value; on_move = Some made; faults = label.faults }
     → shown_mark a d p.told l ≡ mark
 mark-made a d p l before label made mark ep el em er =
     sym
     (er ∙ ap (λ m. record { value = label.told.value; on_move = Some m; faults = label.faults }) em
-    ∙ ap (λ (x : Label). shown_mark a d x.told label) ep ∙ ap (shown_mark a d p.told) el)
+    ∙ ap (λ (x : NodeLabel). shown_mark a d x.told label) ep ∙ ap (shown_mark a d p.told) el)
 
 -- the child with this mark
-pub child-made : (a : Aim) (d : ℕ) (q : Told) (f : Forest Label) (k : ℕ) (t : Twig Label) (mark : Mark) → node_in f k [] ≡ Some t
+pub child-made : (a : Aim) (d : ℕ) (q : Evaluation) (f : Forest NodeLabel) (k : ℕ) (t : Twig NodeLabel) (mark : Mark) → node_in f k [] ≡ Some t
     → shown_mark a d q t.label ≡ mark
     → node_in (shown a d q f) k [] ≡ Some (record { played = t.played; label = mark; below = shown a (d + 1) t.label.told t.below })
 child-made a d q f k t mark e em =
@@ -37,5 +37,5 @@ child-made a d q f k t mark e em =
     ∙ ap (λ m. Some (record { played = t.played; label = m; below = shown a (d + 1) t.label.told t.below })) em
 
 -- there is no such child
-pub child-missing : (a : Aim) (d : ℕ) (q : Told) (f : Forest Label) (k : ℕ) → node_in f k [] ≡ None → node_in (shown a d q f) k [] ≡ None
+pub child-missing : (a : Aim) (d : ℕ) (q : Evaluation) (f : Forest NodeLabel) (k : ℕ) → node_in f k [] ≡ None → node_in (shown a d q f) k [] ≡ None
 child-missing a d q f k e = node_in-shown a d q f k ∙ ap (child_shown a d q) e

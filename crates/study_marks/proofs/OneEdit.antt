@@ -7,7 +7,7 @@ use Rattle.study_moves.specs.Rules.{after}
 use Rattle.study_notation.specs.declared.start.Start.{Start}
 use Rattle.study_text.specs.Counts.{counted}
 use Rattle.study_tree.specs.Tree.{size_of, with_child}
-use Rattle.study_marks.specs.declared.label.Told.{Told}
+use Rattle.study_marks.specs.declared.node_label.Evaluation.{Evaluation}
 use Rattle.study_marks.specs.declared.refusal.Refusal.{Refusal}
 use Rattle.study_marks.specs.declared.edit.Edit.{Edit}
 use Rattle.study_marks.specs.declared.edit.Edit.TheVariants as edits
@@ -15,9 +15,9 @@ use Rattle.study_marks.specs.declared.mark.Mark.{Mark}
 use Rattle.study_marks.specs.declared.stipulation.Stipulation.{Stipulation}
 use Rattle.study_marks.specs.Study.{plain_study, position_at}
 use Rattle.study_marks.specs.Queries.{asked_at, positions_asked, AllHeld, IsOutside, HasAsked, HasStopped}
-use Rattle.study_marks.specs.Queries.{is_of_tables, is_of_device, counted_times, failures_after}
-use Rattle.study_marks.specs.Edits.{positioned, shifted, stipulated, inserted, broken, broken_from, insert_refusal, shift_refusal}
-use Rattle.study_marks.specs.BenchState.{BenchState, marked, told_tree, IsKeptRight}
+use Rattle.study_marks.specs.Queries.{is_of_tables, is_of_device, counted_up_by, failures_after}
+use Rattle.study_marks.specs.Edits.{with_position, with_start, with_stipulation, with_insertion, broken, first_illegal_from, insert_refusal, shift_refusal}
+use Rattle.study_marks.specs.BenchState.{BenchState, marked, evaluation_tree, IsKeptRight}
 use Rattle.study_marks.specs.EditLists.{IsShiftRefusal, IsAccepted, IsApplied}
 use Rattle.study_marks.proofs.SameShape.{nodes_in-mapped}
 use Rattle.study_marks.proofs.StartShifted.{broken-marked}
@@ -79,11 +79,11 @@ module _ {A : Type 0} (held held_now : Class → Bool) (honest honest_now : Type
       → MatchOption (insert_refusal (plain_study (marked old)) steps m) P (λ g. (let x : Result ℕ (Refusal A) = Ok k in x) ≡ Err g)
       → position_at (marked old) steps ≡ position_at (plain_study (marked old)) steps
       → AllHeld held (asked_at (after (position_at (marked old) steps) m))
-      → plain_study (marked new) ≡ inserted (plain_study (marked old)) steps m
+      → plain_study (marked new) ≡ with_insertion (plain_study (marked old)) steps m
       → (honest → IsKeptRight old → IsKeptRight new)
-      → ((told : Told) × (told_tree new.study.tree ≡ with_child (told_tree old.study.tree) steps m told))
-      → new.relabelled ≡ counted_times (length steps + 2) old.relabelled
-      → asked_now ≡ counted_times (length (asked_at (after (position_at (marked old) steps) m))) asked
+      → ((told : Evaluation) × (evaluation_tree new.study.tree ≡ with_child (evaluation_tree old.study.tree) steps m told))
+      → new.relabelled ≡ counted_up_by (length steps + 2) old.relabelled
+      → asked_now ≡ counted_up_by (length (asked_at (after (position_at (marked old) steps) m))) asked
       → failed_now ≡ failed → (honest → honest_now) → ((c : Class) → held_now c ≡ held c)
       → IsApplied held held_now honest honest_now asked asked_now failed failed_now old new e (Ok tt)
   insert-accepted e steps m k P is refusal place found edit right kept labels counts failures stays tables =
@@ -98,7 +98,7 @@ module _ {A : Type 0} (held held_now : Class → Bool) (honest honest_now : Type
         right = right;
         kept = kept;
         labels = labels;
-        counts = subst (λ p. asked_now ≡ counted_times (length (asked_at (after p m))) asked) place counts;
+        counts = subst (λ p. asked_now ≡ counted_up_by (length (asked_at (after p m))) asked) place counts;
         failures = failures;
         stays = stays;
         tables = tables;
@@ -107,12 +107,12 @@ module _ {A : Type 0} (held held_now : Class → Bool) (honest honest_now : Type
 
   -- another start
   pub shift-applied : (e : Edit A) (start copied : Start) (r : Result (Unit {0}) (Refusal A)) → e ≡ edits.Shift start → copied ≡ start
-      → OnOk r (broken_from 0 copied.position (marked old).tree.below ≡ None)
-      → IfErr r (IsShiftRefusal held (positions_asked (shifted (plain_study (marked old)) copied)) (shift_refusal (plain_study (marked old)) copied))
-      → OnOk r (AllHeld held (positions_asked (shifted (plain_study (marked old)) copied)))
-      → OnOk r (plain_study (marked new) ≡ shifted (plain_study (marked old)) copied) → (honest → OnOk r (IsKeptRight new))
-      → OnOk r (new.relabelled ≡ counted_times (size_of (marked old).tree) old.relabelled)
-      → HasAsked (length (positions_asked (shifted (plain_study (marked old)) copied))) r asked asked_now → failed_now ≡ failures_after r failed
+      → OnOk r (first_illegal_from 0 copied.position (marked old).tree.below ≡ None)
+      → IfErr r (IsShiftRefusal held (positions_asked (with_start (plain_study (marked old)) copied)) (shift_refusal (plain_study (marked old)) copied))
+      → OnOk r (AllHeld held (positions_asked (with_start (plain_study (marked old)) copied)))
+      → OnOk r (plain_study (marked new) ≡ with_start (plain_study (marked old)) copied) → (honest → OnOk r (IsKeptRight new))
+      → OnOk r (new.relabelled ≡ counted_up_by (size_of (marked old).tree) old.relabelled)
+      → HasAsked (length (positions_asked (with_start (plain_study (marked old)) copied))) r asked asked_now → failed_now ≡ failures_after r failed
       → (honest → honest_now) → ((c : Class) → held_now c ≡ held c) → OnErr r (new ≡ old)
       → IsApplied held held_now honest honest_now asked asked_now failed failed_now old new e r
   shift-applied e start copied r is e2 shift_broken_at refusal found edit right labels counts failures stays tables same =
@@ -131,8 +131,8 @@ module _ {A : Type 0} (held held_now : Class → Bool) (honest honest_now : Type
       })
     where
       go : (r : Result (Unit {0}) (Refusal A))
-          → OnOk r (broken_from 0 copied.position (marked old).tree.below ≡ None)
-          → OnOk r (AllHeld held (positions_asked (shifted (plain_study (marked old)) copied)))
+          → OnOk r (first_illegal_from 0 copied.position (marked old).tree.below ≡ None)
+          → OnOk r (AllHeld held (positions_asked (with_start (plain_study (marked old)) copied)))
           → OnOk r (IsAccepted {A = A} held (plain_study (marked old)) (edits.Shift copied))
       go (Ok x) h k = record { allowed = ap (broken {A = A}) (broken-marked old copied.position ∙ h); found = k }
       go (Err x) h k = tt
@@ -142,15 +142,15 @@ module _ {A : Type 0} (held held_now : Class → Bool) (honest honest_now : Type
       anew (Err x) = tt
 
       sized : (r : Result (Unit {0}) (Refusal A))
-          → OnOk r (new.relabelled ≡ counted_times (size_of (marked old).tree) old.relabelled)
-          → OnOk r (new.relabelled ≡ counted_times (size_of (plain_study (marked old)).tree) old.relabelled)
-      sized (Ok x) h = h ∙ ap (λ n. counted_times n old.relabelled) (same-size old)
+          → OnOk r (new.relabelled ≡ counted_up_by (size_of (marked old).tree) old.relabelled)
+          → OnOk r (new.relabelled ≡ counted_up_by (size_of (plain_study (marked old)).tree) old.relabelled)
+      sized (Ok x) h = h ∙ ap (λ n. counted_up_by n old.relabelled) (same-size old)
       sized (Err x) h = tt
 
   -- a new position, which only its values may refuse
   pub position-applied : (e : Edit A) (start copied : Start) (r : Result (Unit {0}) (Refusal A)) → e ≡ edits.Position start → copied ≡ start
       → IfErr r (IsOutside held (asked_at copied.position)) → IfErr r (λ f. is_of_tables f ≡ true)
-      → OnOk r (AllHeld held (asked_at copied.position)) → OnOk r (plain_study (marked new) ≡ positioned (plain_study (marked old)) copied)
+      → OnOk r (AllHeld held (asked_at copied.position)) → OnOk r (plain_study (marked new) ≡ with_position (plain_study (marked old)) copied)
       → (honest → OnOk r (IsKeptRight new)) → OnOk r (new.relabelled ≡ 1)
       → HasAsked (length (asked_at copied.position)) r asked asked_now → failed_now ≡ failures_after r failed
       → (honest → honest_now) → ((c : Class) → held_now c ≡ held c) → OnErr r (new ≡ old)
@@ -186,9 +186,9 @@ module _ {A : Type 0} (held held_now : Class → Bool) (honest honest_now : Type
 
   -- another stipulation
   pub stipulation-applied : (e : Edit A) (stipulation : Stipulation) → e ≡ edits.Stipulate stipulation
-      → plain_study (marked new) ≡ stipulated (plain_study (marked old)) stipulation
-      → (IsKeptRight old → IsKeptRight new) → told_tree new.study.tree ≡ told_tree old.study.tree
-      → new.relabelled ≡ counted_times (size_of (marked old).tree) old.relabelled
+      → plain_study (marked new) ≡ with_stipulation (plain_study (marked old)) stipulation
+      → (IsKeptRight old → IsKeptRight new) → evaluation_tree new.study.tree ≡ evaluation_tree old.study.tree
+      → new.relabelled ≡ counted_up_by (size_of (marked old).tree) old.relabelled
       → asked_now ≡ asked → failed_now ≡ failed → (honest → honest_now)
       → ((c : Class) → held_now c ≡ held c) → IsApplied held held_now honest honest_now asked asked_now failed failed_now old new e (Ok tt)
   stipulation-applied e stipulation is edit right kept labels counts failures stays tables =
@@ -198,7 +198,7 @@ module _ {A : Type 0} (held held_now : Class → Bool) (honest honest_now : Type
         edit = edit;
         right = λ h k. right k;
         kept = kept;
-        labels = labels ∙ ap (λ n. counted_times n old.relabelled) (same-size old);
+        labels = labels ∙ ap (λ n. counted_up_by n old.relabelled) (same-size old);
         counts = counts;
         failures = failures;
         stays = stays;

@@ -11,59 +11,59 @@ use Rattle.study_tree.specs.declared.fault.TreeFault.TheVariants.{NoSuchNode}
 use Rattle.study_tree.specs.Tree.{Plain, has_spot, size_of, label_refusal}
 use Rattle.study_tree.specs.Changes.{changed_along, with_changes, counted_by}
 use Rattle.study_text.specs.Counts.{counted}
-use Rattle.study_marks.specs.declared.label.Label.{Label}
-use Rattle.study_marks.specs.declared.label.Told.{Told}
+use Rattle.study_marks.specs.declared.node_label.NodeLabel.{NodeLabel}
+use Rattle.study_marks.specs.declared.node_label.Evaluation.{Evaluation}
 use Rattle.study_marks.specs.declared.mark_rules.Aim.{Aim}
-use Rattle.study_marks.specs.Queries.{counted_times}
+use Rattle.study_marks.specs.Queries.{counted_up_by}
 use Rattle.study_marks.specs.Study.{mapped}
 use Rattle.study_marks.specs.Goals.{hero_moves}
-use Rattle.study_marks.specs.BenchState.{own, all_faults, faults_below, AddUp, AllAddUp, told_tree}
-use Rattle.study_marks.specs.FaultSums.{AddUpBut, IsOff, counts_all, counted_from, faults_moved, label_moved}
+use Rattle.study_marks.specs.BenchState.{own_fault, all_faults, faults_below, FaultsAddUp, AllAddUp, evaluation_tree}
+use Rattle.study_marks.specs.FaultSums.{FaultsAddUpExceptOnPath, FaultsAreOffBy, counts_all, counted_from_depth, faults_after_change, label_moved}
 use Rattle.study_marks.proofs.PathRenewed.{below≤all, all≤nodes, own≤1}
 
 -- a count, increased by one or by so many
 counted_by-one : (k n : ℕ) → counted_by k (counted n) ≡ counted_by (suc k) n
 counted_by-one k n = omega arith
 
-counted_by-times : (k n : ℕ) → n < 2 ^ 64 → counted_by k n ≡ counted_times k n
+counted_by-times : (k n : ℕ) → n < 2 ^ 64 → counted_by k n ≡ counted_up_by k n
 counted_by-times zero n h = omega arith
 counted_by-times (suc k) n h =
     let few : counted n < 2 ^ 64 = omega arith in
     sym (counted_by-one k n) ∙ counted_by-times k (counted n) few
 
 -- increased by at least one
-pub counted_by-more : (k n : ℕ) → counted_by (k + 1) n ≡ counted_times (k + 1) n
+pub counted_by-more : (k n : ℕ) → counted_by (k + 1) n ≡ counted_up_by (k + 1) n
 counted_by-more k n =
     let few : counted n < 2 ^ 64 = omega arith in
     let one : k + 1 ≡ suc k = omega arith in
-    ap (λ j. counted_by j n) one ∙ sym (counted_by-one k n) ∙ counted_by-times k (counted n) few ∙ ap (λ j. counted_times j n) (sym one)
+    ap (λ j. counted_by j n) one ∙ sym (counted_by-one k n) ∙ counted_by-times k (counted n) few ∙ ap (λ j. counted_up_by j n) (sym one)
 
-pub counted_by-size : {L : Type 0} (t : Plain L) (n : ℕ) → counted_by (size_of t) n ≡ counted_times (size_of t) n
+pub counted_by-size : {L : Type 0} (t : Plain L) (n : ℕ) → counted_by (size_of t) n ≡ counted_up_by (size_of t) n
 counted_by-size t n =
     let size : nodes_in t.below + 1 ≡ size_of t = omega arith in
-    subst (λ k. counted_by k n ≡ counted_times k n) size (counted_by-more (nodes_in t.below) n)
+    subst (λ k. counted_by k n ≡ counted_up_by k n) size (counted_by-more (nodes_in t.below) n)
 
 -- the depth from which on a change is counted
-from≥ : (a : Aim) (d : ℕ) (ks : List ℕ) → d ≤ counted_from a d ks
+from≥ : (a : Aim) (d : ℕ) (ks : List ℕ) → d ≤ counted_from_depth a d ks
 from≥ a d [] = omega arith
-from≥ a d (k ∷ ks) = go (nat_le (counted_from a (d + 1) ks) (d + 1) && counts_all (hero_moves a d) k) (from≥ a (d + 1) ks)
+from≥ a d (k ∷ ks) = go (nat_le (counted_from_depth a (d + 1) ks) (d + 1) && counts_all (hero_moves a d) k) (from≥ a (d + 1) ks)
   where
-    go : (b : Bool) → d + 1 ≤ counted_from a (d + 1) ks → d ≤ (if b then d else counted_from a (d + 1) ks)
+    go : (b : Bool) → d + 1 ≤ counted_from_depth a (d + 1) ks → d ≤ (if b then d else counted_from_depth a (d + 1) ks)
     go true h = omega arith
     go false h = omega (arith, h)
 
 -- the same for the rest of the path, and whether the first node counts all its faults
 record IsNext (a : Aim) (from d k : ℕ) (ks : List ℕ) : Type 0 where
-  pub rest : counted_from a (d + 1) ks ≡ d + 1 + (from - (d + 1))
+  pub rest : counted_from_depth a (d + 1) ks ≡ d + 1 + (from - (d + 1))
   pub here : from ≤ d → counts_all (hero_moves a d) k ≡ true
   pub beyond : d < from → counts_all (hero_moves a d) k ≡ true → d + 1 < from
 
-next-from : (a : Aim) (from d k : ℕ) (ks : List ℕ) → counted_from a d (k ∷ ks) ≡ d + (from - d) → IsNext a from d k ks
+next-from : (a : Aim) (from d k : ℕ) (ks : List ℕ) → counted_from_depth a d (k ∷ ks) ≡ d + (from - d) → IsNext a from d k ks
 next-from a from d k ks h =
-    go (nat_le (counted_from a (d + 1) ks) (d + 1)) (counts_all (hero_moves a d) k) refl refl h
+    go (nat_le (counted_from_depth a (d + 1) ks) (d + 1)) (counts_all (hero_moves a d) k) refl refl h
   where
     x : ℕ
-    x = counted_from a (d + 1) ks
+    x = counted_from_depth a (d + 1) ks
 
     go : (b c : Bool) → nat_le x (d + 1) ≡ b → counts_all (hero_moves a d) k ≡ c → (if b && c then d else x) ≡ d + (from - d) → IsNext a from d k ks
     go true true eb ec e = record {
@@ -88,62 +88,62 @@ module _ (a : Aim) (from minus plus : ℕ) where
     pub here : from ≤ d → new + minus ≡ n + plus
     pub beyond : d < from → new ≡ n
 
-  abbrev move : ℕ → Label → Label
+  abbrev move : ℕ → NodeLabel → NodeLabel
   move = label_moved from minus plus
 
   -- a label there
-  moved-here : (d right : ℕ) (l : Label) → from ≤ d → l.faults + plus ≡ right + minus → right ≤ 4096
+  moved-here : (d right : ℕ) (l : NodeLabel) → from ≤ d → l.faults + plus ≡ right + minus → right ≤ 4096
       → (move d l).faults ≡ right
   moved-here d right l near sum few =
-      ap (λ (b : Bool). (if b then record { told = l.told; faults = faults_moved minus plus l.faults } else l).faults) (le-leb from d near)
+      ap (λ (b : Bool). (if b then record { told = l.told; faults = faults_after_change minus plus l.faults } else l).faults) (le-leb from d near)
       ∙ omega (arith, sum, few)
 
-  moved-beyond : (d : ℕ) (l : Label) → d < from → move d l ≡ l
+  moved-beyond : (d : ℕ) (l : NodeLabel) → d < from → move d l ≡ l
   moved-beyond d l far =
-      ap (λ (b : Bool). if b then record { told = l.told; faults = faults_moved minus plus l.faults } else l) (lt-leb from d far)
+      ap (λ (b : Bool). if b then record { told = l.told; faults = faults_after_change minus plus l.faults } else l) (lt-leb from d far)
 
-  moved-told : (d : ℕ) (l : Label) → (move d l).told ≡ l.told
+  moved-told : (d : ℕ) (l : NodeLabel) → (move d l).told ≡ l.told
   moved-told d l = go (nat_le from d)
     where
-      go : (b : Bool) → (if b then record { told = l.told; faults = faults_moved minus plus l.faults } else l).told ≡ l.told
+      go : (b : Bool) → (if b then record { told = l.told; faults = faults_after_change minus plus l.faults } else l).told ≡ l.told
       go true = refl
       go false = refl
 
-  nodes-moved : (d : ℕ) (f : Forest Label) (ks : List ℕ) → nodes_in (changed_along move d f ks) ≡ nodes_in f
+  nodes-moved : (d : ℕ) (f : Forest NodeLabel) (ks : List ℕ) → nodes_in (changed_along move d f ks) ≡ nodes_in f
   nodes-moved d f [] = refl
   nodes-moved d none (k ∷ ks) = refl
   nodes-moved d (more m l b r) (zero ∷ ks) = omega (arith, nodes-moved (d + 1) b ks)
   nodes-moved d (more m l b r) (suc k ∷ ks) = omega (arith, nodes-moved d r (k ∷ ks))
 
-  pub told-moved : (d : ℕ) (f : Forest Label) (ks : List ℕ)
-      → mapped (λ (l : Label). l.told) (changed_along move d f ks) ≡ mapped (λ l. l.told) f
+  pub told-moved : (d : ℕ) (f : Forest NodeLabel) (ks : List ℕ)
+      → mapped (λ (l : NodeLabel). l.told) (changed_along move d f ks) ≡ mapped (λ l. l.told) f
   told-moved d f [] = refl
   told-moved d none (k ∷ ks) = refl
   told-moved d (more m l b r) (zero ∷ ks) =
-      ap (λ x. more m x (mapped (λ (y : Label). y.told) (changed_along move (d + 1) b ks)) (mapped (λ (y : Label). y.told) r)) (moved-told d l)
-      ∙ ap (λ x. more m l.told x (mapped (λ (y : Label). y.told) r)) (told-moved (d + 1) b ks)
+      ap (λ x. more m x (mapped (λ (y : NodeLabel). y.told) (changed_along move (d + 1) b ks)) (mapped (λ (y : NodeLabel). y.told) r)) (moved-told d l)
+      ∙ ap (λ x. more m l.told x (mapped (λ (y : NodeLabel). y.told) r)) (told-moved (d + 1) b ks)
   told-moved d (more m l b r) (suc k ∷ ks) =
-      ap (more m l.told (mapped (λ (y : Label). y.told) b)) (told-moved d r (k ∷ ks))
+      ap (more m l.told (mapped (λ (y : NodeLabel). y.told) b)) (told-moved d r (k ∷ ks))
 
   -- siblings at depth d + 1, of which one and the nodes on the path below it are changed
-  record AreMoved (d : ℕ) (q : Told) (f new : Forest Label) : Type 0 where
-    pub adds : AddUp a d q new
+  record AreMoved (d : ℕ) (q : Evaluation) (f new : Forest NodeLabel) : Type 0 where
+    pub adds : FaultsAddUp a d q new
     pub all : IsMoved (d + 1) (all_faults f) (all_faults new)
 
-  adds-told : (d : ℕ) (q p : Told) (f : Forest Label) → q ≡ p → AddUp a d q f → AddUp a d p f
-  adds-told d q p f e h = subst (λ (x : Told). AddUp a d x f) e h
+  adds-told : (d : ℕ) (q p : Evaluation) (f : Forest NodeLabel) → q ≡ p → FaultsAddUp a d q f → FaultsAddUp a d p f
+  adds-told d q p f e h = subst (λ (x : Evaluation). FaultsAddUp a d x f) e h
 
   -- one node and the forest below it
-  moved-node : (d right : ℕ) (q : Told) (m : Move) (l : Label) (b new r : Forest Label)
-      → AddUp a (d + 1) l.told new → AddUp a d q r → nodes_in new ≤ 4095 → right ≤ 1
-      → right ≡ own a d q l.told.value
+  moved-node : (d right : ℕ) (q : Evaluation) (m : Move) (l : NodeLabel) (b new r : Forest NodeLabel)
+      → FaultsAddUp a (d + 1) l.told new → FaultsAddUp a d q r → nodes_in new ≤ 4095 → right ≤ 1
+      → right ≡ own_fault a d q l.told.value
       → ((from ≤ d + 1 → l.faults + plus ≡ right + faults_below (hero_moves a (d + 1)) new + minus))
       → (d + 1 < from → l.faults ≡ right + faults_below (hero_moves a (d + 1)) new)
       → AreMoved d q (more m l b r) (more m (move (d + 1) l) new r)
   moved-node d right q m l b new r under later few one is_own near far =
       record {
         adds = (
-          faults ∙ ap (λ x. x + faults_below (hero_moves a (d + 1)) new) (is_own ∙ ap (λ (t : Told). own a d q t.value) (sym (moved-told (d + 1) l))),
+          faults ∙ ap (λ x. x + faults_below (hero_moves a (d + 1)) new) (is_own ∙ ap (λ (t : Evaluation). own_fault a d q t.value) (sym (moved-told (d + 1) l))),
           adds-told (d + 1) l.told (move (d + 1) l).told new (sym (moved-told (d + 1) l)) under,
           later,
         );
@@ -158,13 +158,13 @@ module _ (a : Aim) (from minus plus : ℕ) where
 
       go : (b : Bool) → nat_le from (d + 1) ≡ b → (move (d + 1) l).faults ≡ right + faults_below (hero_moves a (d + 1)) new
       go true e = moved-here (d + 1) (right + faults_below (hero_moves a (d + 1)) new) l (leb-true from (d + 1) e) (near (leb-true from (d + 1) e)) small
-      go false e = ap (λ (x : Label). x.faults) (moved-beyond (d + 1) l (leb-false from (d + 1) e)) ∙ far (leb-false from (d + 1) e)
+      go false e = ap (λ (x : NodeLabel). x.faults) (moved-beyond (d + 1) l (leb-false from (d + 1) e)) ∙ far (leb-false from (d + 1) e)
 
       faults : (move (d + 1) l).faults ≡ right + faults_below (hero_moves a (d + 1)) new
       faults = go (nat_le from (d + 1)) refl
 
   -- the faults that the nodes count for their parent
-  below-moved : (hero : Bool) (d : ℕ) (f : Forest Label) (k : ℕ) (ks : List ℕ) → IsTrue (has_node f (k ∷ ks))
+  below-moved : (hero : Bool) (d : ℕ) (f : Forest NodeLabel) (k : ℕ) (ks : List ℕ) → IsTrue (has_node f (k ∷ ks))
       → (from ≤ d → counts_all hero k ≡ true) → (d < from → counts_all hero k ≡ true → d + 1 < from)
       → IsMoved (d + 1) (all_faults f) (all_faults (changed_along move (d + 1) f (k ∷ ks)))
       → IsMoved d (faults_below hero f) (faults_below hero (changed_along move (d + 1) f (k ∷ ks)))
@@ -178,23 +178,23 @@ module _ (a : Aim) (from minus plus : ℕ) where
   below-moved false d (more m l b r) (suc k) ks found here beyond h =
       record { here = λ near. omega (arith, h.here (omega (arith, near))); beyond = λ far. omega (arith, h.beyond (beyond far refl)) }
 
-  record IsDone (d : ℕ) (q : Told) (f new : Forest Label) : Type 0 where
-    pub adds : AddUp a d q new
+  record IsDone (d : ℕ) (q : Evaluation) (f new : Forest NodeLabel) : Type 0 where
+    pub adds : FaultsAddUp a d q new
     pub below : IsMoved d (faults_below (hero_moves a d) f) (faults_below (hero_moves a d) new)
 
-  are-moved : (d : ℕ) (q : Told) (f : Forest Label) (k : ℕ) (ks : List ℕ) → IsTrue (has_node f (k ∷ ks))
-      → AddUpBut a d q f (k ∷ ks) minus plus → nodes_in f ≤ 4096
-      → counted_from a (d + 1) ks ≡ d + 1 + (from - (d + 1))
+  are-moved : (d : ℕ) (q : Evaluation) (f : Forest NodeLabel) (k : ℕ) (ks : List ℕ) → IsTrue (has_node f (k ∷ ks))
+      → FaultsAddUpExceptOnPath a d q f (k ∷ ks) minus plus → nodes_in f ≤ 4096
+      → counted_from_depth a (d + 1) ks ≡ d + 1 + (from - (d + 1))
       → AreMoved d q f (changed_along move (d + 1) f (k ∷ ks))
   are-moved d q none k ks found h few e = let no : ⊥ = cc in absurd no
   are-moved d q (more m l b r) zero [] found h few e =
-      moved-node d (own a d q l.told.value) q m l b b r h.1 h.2 (omega (arith, few)) (own≤1 a d q l.told.value) refl
+      moved-node d (own_fault a d q l.told.value) q m l b b r h.1 h.2 (omega (arith, few)) (own≤1 a d q l.told.value) refl
       (λ near. omega (arith, h.0)) (λ far. absurd (omega (arith, e, far)))
   are-moved d q (more m l b r) zero (j ∷ js) found h few e =
       let n = next-from a from (d + 1) j js e in
       let i = are-moved (d + 1) l.told b j js found h.1 (omega (arith, few)) n.rest in
       let below = below-moved (hero_moves a (d + 1)) (d + 1) b j js found n.here n.beyond i.all in
-      moved-node d (own a d q l.told.value) q m l b (changed_along move (d + 1 + 1) b (j ∷ js)) r i.adds h.2
+      moved-node d (own_fault a d q l.told.value) q m l b (changed_along move (d + 1 + 1) b (j ∷ js)) r i.adds h.2
       (omega (arith, few, nodes-moved (d + 1 + 1) b (j ∷ js))) (own≤1 a d q l.told.value) refl
       (λ near. omega (arith, h.0, below.here near)) (λ far. omega (arith, h.0, below.beyond far))
   are-moved d q (more m l b r) (suc k) ks found h few e =
@@ -204,8 +204,8 @@ module _ (a : Aim) (from minus plus : ℕ) where
         all = record { here = λ near. omega (arith, i.all.here near); beyond = λ far. omega (arith, i.all.beyond far) };
       }
 
-  is-done : (d : ℕ) (q : Told) (f : Forest Label) (k : ℕ) (ks : List ℕ) → IsTrue (has_node f (k ∷ ks))
-      → AddUpBut a d q f (k ∷ ks) minus plus → nodes_in f ≤ 4096 → counted_from a d (k ∷ ks) ≡ d + (from - d)
+  is-done : (d : ℕ) (q : Evaluation) (f : Forest NodeLabel) (k : ℕ) (ks : List ℕ) → IsTrue (has_node f (k ∷ ks))
+      → FaultsAddUpExceptOnPath a d q f (k ∷ ks) minus plus → nodes_in f ≤ 4096 → counted_from_depth a d (k ∷ ks) ≡ d + (from - d)
       → IsDone d q f (changed_along move (d + 1) f (k ∷ ks))
   is-done d q f k ks found h few e =
       let n = next-from a from d k ks e in
@@ -213,8 +213,8 @@ module _ (a : Aim) (from minus plus : ℕ) where
       record { adds = i.adds; below = below-moved (hero_moves a d) d f k ks found n.here n.beyond i.all }
 
   -- the whole tree
-  pub all-moved : (t : Plain Label) (ks : List ℕ) → IsTrue (has_spot t ks) → IsOff a t ks minus plus → size_of t ≤ 4096
-      → from ≡ counted_from a 0 ks → AllAddUp a (with_changes (label_moved from minus plus) t ks)
+  pub all-moved : (t : Plain NodeLabel) (ks : List ℕ) → IsTrue (has_spot t ks) → FaultsAreOffBy a t ks minus plus → size_of t ≤ 4096
+      → from ≡ counted_from_depth a 0 ks → AllAddUp a (with_changes (label_moved from minus plus) t ks)
   all-moved t [] found off few e = (
     moved-here 0 (faults_below (hero_moves a 0) t.below) t.label (omega (arith, e)) off.0
         (omega (arith, few, below≤all (hero_moves a 0) t.below, all≤nodes a 0 t.label.told t.below off.1)),
@@ -222,7 +222,7 @@ module _ (a : Aim) (from minus plus : ℕ) where
   )
   all-moved t (k ∷ ks) found off few e = (go (nat_le from 0) refl, adds-told 0 t.label.told (move 0 t.label).told new (sym (moved-told 0 t.label)) i.adds)
     where
-      new : Forest Label
+      new : Forest NodeLabel
       new = changed_along move (0 + 1) t.below (k ∷ ks)
 
       i : IsDone 0 t.label.told t.below new
@@ -234,16 +234,16 @@ module _ (a : Aim) (from minus plus : ℕ) where
           (omega (arith, off.0, i.below.here (leb-true from 0 en)))
           (omega (arith, few, below≤all (hero_moves a 0) new, all≤nodes a 0 t.label.told new i.adds, nodes-moved (0 + 1) t.below (k ∷ ks)))
       go false en =
-          ap (λ (x : Label). x.faults) (moved-beyond 0 t.label (leb-false from 0 en))
+          ap (λ (x : NodeLabel). x.faults) (moved-beyond 0 t.label (leb-false from 0 en))
           ∙ omega (arith, off.0, i.below.beyond (leb-false from 0 en))
 
-  pub all-told : (t : Plain Label) (ks : List ℕ) → told_tree (with_changes (label_moved from minus plus) t ks) ≡ told_tree t
+  pub all-told : (t : Plain NodeLabel) (ks : List ℕ) → evaluation_tree (with_changes (label_moved from minus plus) t ks) ≡ evaluation_tree t
   all-told t ks =
-      ap (λ x. record { label = x; below = mapped (λ (l : Label). l.told) (changed_along move 1 t.below ks) }) (moved-told 0 t.label)
+      ap (λ x. record { label = x; below = mapped (λ (l : NodeLabel). l.told) (changed_along move 1 t.below ks) }) (moved-told 0 t.label)
       ∙ ap (λ x. record { label = t.label.told; below = x }) (told-moved 1 t.below ks)
 
 -- the change at a node that exists
-pub changed-there : (t : Plain Label) (ks : List ℕ) (r : Result (Unit {0}) TreeFault) (P : Type 0)
+pub changed-there : (t : Plain NodeLabel) (ks : List ℕ) (r : Result (Unit {0}) TreeFault) (P : Type 0)
     → IsTrue (has_spot t ks) → MatchOption (label_refusal t ks) (IsOk r) (λ f. r ≡ Err f) → OnOk r P → P
 changed-there t ks r P found h k = go r (subst (λ b. MatchOption (if not b then Some NoSuchNode else None) (IsOk r) (λ f. r ≡ Err f)) found h) k
   where

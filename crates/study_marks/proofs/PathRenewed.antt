@@ -8,19 +8,19 @@ use Rattle.study_values.specs.declared.value.Value.{Value}
 use Rattle.study_marks.specs.declared.mark.MoveMark.{MoveMark}
 use Rattle.study_marks.specs.declared.mark.MoveMark.TheVariants.{Only, Dual, Mistake, Idle, Reply}
 use Rattle.study_marks.specs.Marks.{own_faults}
-use Rattle.study_marks.specs.declared.label.Label.{Label}
-use Rattle.study_marks.specs.declared.label.Told.{Told}
+use Rattle.study_marks.specs.declared.node_label.NodeLabel.{NodeLabel}
+use Rattle.study_marks.specs.declared.node_label.Evaluation.{Evaluation}
 use Rattle.study_marks.specs.declared.mark_rules.Aim.{Aim}
 use Rattle.study_marks.specs.Goals.{hero_moves}
-use Rattle.study_marks.specs.BenchState.{own, kept_mark, all_faults, faults_below, AddUp}
+use Rattle.study_marks.specs.BenchState.{own_fault, mark_by_label, all_faults, faults_below, FaultsAddUp}
 
 -- the twig that a spot shows
-pub twig-of : (o : Option (Twig Label)) (s : Spot Label) → twig_spot o ≡ Some s → (t : Twig Label) × (o ≡ Some t) × (t.label ≡ s.label)
+pub twig-of : (o : Option (Twig NodeLabel)) (s : Spot NodeLabel) → twig_spot o ≡ Some s → (t : Twig NodeLabel) × (o ≡ Some t) × (t.label ≡ s.label)
 twig-of None s e = let no : ⊥ = cc in absurd no
 twig-of (Some t) s e = (
   t,
   refl,
-  ap (λ (u : Spot Label). u.label)
+  ap (λ (u : Spot NodeLabel). u.label)
       (let same : record { played = Some t.played; label = t.label; children = width t.below } ≡ s = cc in same),
 )
 
@@ -33,13 +33,13 @@ has-node (more m l b r) (suc k) [] t e = has-node r k [] t e
 has-node (more m l b r) (suc k) (j ∷ js) t e = has-node r k (j ∷ js) t e
 
 -- No more faults than nodes.
-pub below≤all : (hero : Bool) (f : Forest Label) → faults_below hero f ≤ all_faults f
+pub below≤all : (hero : Bool) (f : Forest NodeLabel) → faults_below hero f ≤ all_faults f
 below≤all hero none = omega arith
 below≤all true (more m l b r) = omega arith
 below≤all false (more m l b r) = omega arith
 
-pub own≤1 : (a : Aim) (d : ℕ) (q : Told) (v : Value) → own a d q v ≤ 1
-own≤1 a d q v = go (hero_moves a d) (kept_mark a d q v)
+pub own≤1 : (a : Aim) (d : ℕ) (q : Evaluation) (v : Value) → own_fault a d q v ≤ 1
+own≤1 a d q v = go (hero_moves a d) (mark_by_label a d q v)
   where
     go : (hero : Bool) (m : MoveMark) → own_faults hero (Some m) ≤ 1
     go true Only = omega arith
@@ -49,7 +49,7 @@ own≤1 a d q v = go (hero_moves a d) (kept_mark a d q v)
     go true Reply = omega arith
     go false m = omega arith
 
-pub all≤nodes : (a : Aim) (d : ℕ) (q : Told) (f : Forest Label) → AddUp a d q f → all_faults f ≤ nodes_in f
+pub all≤nodes : (a : Aim) (d : ℕ) (q : Evaluation) (f : Forest NodeLabel) → FaultsAddUp a d q f → all_faults f ≤ nodes_in f
 all≤nodes a d q none h = omega arith
 all≤nodes a d q (more m l b r) h =
     omega (arith, h.0, own≤1 a d q l.told.value, below≤all (hero_moves a (d + 1)) b, all≤nodes a (d + 1) l.told b h.1, all≤nodes a d q r h.2)

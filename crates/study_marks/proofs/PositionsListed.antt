@@ -11,13 +11,13 @@ use Rattle.study_values.specs.declared.values.ProbeFault.TheVariants as probe
 use Rattle.study_tree.specs.Forest.{Forest, none, more, Twig, nodes_in}
 use Rattle.study_tree.specs.Edits.{node_in, width}
 use Rattle.study_tree.specs.Tree.{Plain}
-use Rattle.study_marks.specs.declared.label.Label.{Label}
-use Rattle.study_marks.specs.declared.label.Told.{Told}
+use Rattle.study_marks.specs.declared.node_label.NodeLabel.{NodeLabel}
+use Rattle.study_marks.specs.declared.node_label.Evaluation.{Evaluation}
 use Rattle.study_marks.specs.Study.{mapped, IsPlayable}
-use Rattle.study_marks.specs.Queries.{asked_at, asked_below, AreTablesHeld, IsFirstMissing, IsFirstUnread, counted_times}
-use Rattle.study_marks.specs.Told.{IsToldOf, AreTold, AllAreTold, IsUntold, WasAsked}
-use Rattle.study_marks.specs.BenchState.{told_tree}
-use Rattle.study_marks.specs.Relabelled.{told_in, retold, retold_tree, firsts, positions_in, asked_each, AreToldOf}
+use Rattle.study_marks.specs.Queries.{asked_at, asked_below, AreTablesHeld, IsFirstMissing, IsFirstUnread, counted_up_by}
+use Rattle.study_marks.specs.Evaluated.{IsEvaluationOf, AreEvaluated, AllAreEvaluated, IsProbeFaultOf, ProbeCount}
+use Rattle.study_marks.specs.BenchState.{evaluation_tree}
+use Rattle.study_marks.specs.Relabelled.{evaluation_in, reevaluated, reevaluated_tree, firsts, positions_in, asked_each, AreToldOf}
 use Rattle.study_marks.proofs.ValuesAsked.{missing-same, unread-same}
 use Rattle.study_marks.proofs.LabelsWritten.{firsts-all, counted_times-sum}
 
@@ -26,21 +26,21 @@ append-none [] = refl
 append-none (x ∷ xs) = ap (λ ys. x ∷ ys) (append-none xs)
 
 -- the positions of the first nodes, and of one more
-IsPlayable-nth : (p : Position) (f : Forest Label) (k : ℕ) (u : Twig Label) → node_in f k [] ≡ Some u
+IsPlayable-nth : (p : Position) (f : Forest NodeLabel) (k : ℕ) (u : Twig NodeLabel) → node_in f k [] ≡ Some u
     → IsPlayable p f → (is_legal p u.played ≡ true) × IsPlayable (after p u.played) u.below
 IsPlayable-nth p none k u e h = let no : ⊥ = cc in absurd no
 IsPlayable-nth p (more m l b r) zero u e h =
-    subst (λ (x : Twig Label). (is_legal p x.played ≡ true) × IsPlayable (after p x.played) x.below)
+    subst (λ (x : Twig NodeLabel). (is_legal p x.played ≡ true) × IsPlayable (after p x.played) x.below)
     (let s : record { played = m; label = l; below = b } ≡ u = cc in s) (h.0, h.1)
 IsPlayable-nth p (more m l b r) (suc k) u e h = IsPlayable-nth p r k u e h.2
 
-positions-next : (p : Position) (f : Forest Label) (k : ℕ) (u : Twig Label) → node_in f k [] ≡ Some u
+positions-next : (p : Position) (f : Forest NodeLabel) (k : ℕ) (u : Twig NodeLabel) → node_in f k [] ≡ Some u
     → positions_in p (firsts (suc k) f) ≡ positions_in p (firsts k f)
     ++ (after p u.played ∷ positions_in (after p u.played) u.below)
 positions-next p none k u e = let no : ⊥ = cc in absurd no
 positions-next p (more m l b r) zero u e =
     ap (λ x. after p m ∷ x) (append-none (positions_in (after p m) b))
-    ∙ ap (λ (x : Twig Label). after p x.played ∷ positions_in (after p x.played) x.below) (let s : record { played = m; label = l; below = b } ≡ u = cc in s)
+    ∙ ap (λ (x : Twig NodeLabel). after p x.played ∷ positions_in (after p x.played) x.below) (let s : record { played = m; label = l; below = b } ≡ u = cc in s)
 positions-next p (more m l b r) (suc k) u e =
     ap (λ x. after p m ∷ (positions_in (after p m) b ++ x)) (positions-next p r k u e)
     ∙ ap (λ x. after p m ∷ x)
@@ -48,12 +48,12 @@ positions-next p (more m l b r) (suc k) u e =
     (after p u.played ∷ positions_in (after p u.played) u.below)))
 
 -- in the terms of the loop
-module _ (p : Position) (f : Forest Label) (k : ℕ) where
-  pub legal-child : (u : Twig Label) → node_in f k [] ≡ Some u → IsPlayable p f
+module _ (p : Position) (f : Forest NodeLabel) (k : ℕ) where
+  pub legal-child : (u : Twig NodeLabel) → node_in f k [] ≡ Some u → IsPlayable p f
       → (is_legal p u.played ≡ true) × IsPlayable (after p u.played) u.below
   legal-child u e h = IsPlayable-nth p f k u e h
 
-  pub listed-next : (u : Twig Label) (next : Position) (old all one new : List Position) → node_in f k [] ≡ Some u
+  pub listed-next : (u : Twig NodeLabel) (next : Position) (old all one new : List Position) → node_in f k [] ≡ Some u
       → next ≡ after p u.played → all ≡ old ++ positions_in p (firsts k f) → one ≡ all ++ next ∷ []
       → new ≡ one ++ positions_in next u.below → new ≡ old ++ positions_in p (firsts (k + 1) f)
   listed-next u next old all one new e en h one_is new_is =
@@ -66,20 +66,20 @@ module _ (p : Position) (f : Forest Label) (k : ℕ) where
       ∙ ap (λ i. old ++ positions_in p (firsts i f)) (let z : suc k ≡ k + 1 = omega arith in z)
 
   pub listed-all : (old all : List Position) → width f ≤ k → all ≡ old ++ positions_in p (firsts k f) → all ≡ old ++ positions_in p f
-  listed-all old all full h = h ∙ ap (λ (x : Forest Label). old ++ positions_in p x) (firsts-all k f full)
+  listed-all old all full h = h ∙ ap (λ (x : Forest NodeLabel). old ++ positions_in p x) (firsts-all k f full)
 
 -- the probes for a list of positions
 pub asked_each-append : (ps qs : List Position) → asked_each (ps ++ qs) ≡ asked_each ps ++ asked_each qs
 asked_each-append [] qs = refl
 asked_each-append (p ∷ ps) qs = ap (λ x. asked_at p ++ x) (asked_each-append ps qs) ∙ sym (append_assoc (asked_at p) (asked_each ps) (asked_each qs))
 
-asked-positions : (p : Position) (f : Forest Label) → asked_each (positions_in p f) ≡ asked_below p f
+asked-positions : (p : Position) (f : Forest NodeLabel) → asked_each (positions_in p f) ≡ asked_below p f
 asked-positions p none = refl
 asked-positions p (more m l b r) =
     ap (λ x. asked_at (after p m) ++ x) (asked_each-append (positions_in (after p m) b) (positions_in p r)
     ∙ ap (λ x. x ++ asked_each (positions_in p r)) (asked-positions (after p m) b) ∙ ap (λ x. asked_below (after p m) b ++ x) (asked-positions p r))
 
-pub asked-tree : (p : Position) (f : Forest Label) (ps : List Position) → ps ≡ p ∷ positions_in p f → asked_each ps ≡ asked_at p ++ asked_below p f
+pub asked-tree : (p : Position) (f : Forest NodeLabel) (ps : List Position) → ps ≡ p ∷ positions_in p f → asked_each ps ≡ asked_at p ++ asked_below p f
 asked-tree p f ps e = ap asked_each e ∙ ap (λ x. asked_at p ++ x) (asked-positions p f)
 
 -- tables that are loaded, and the first that is not
@@ -112,7 +112,7 @@ unread-back held [] ys f h k = k
 unread-back held (x ∷ xs) ys f h k = (h.0, inr (unread-back held xs ys f h.1 k))
 
 untold-middle : (held now : Class → Bool) (xs ys zs : List Position) (f : ProbeFault)
-    → ((d : Class) → now d ≡ held d) → AreTablesHeld held xs → IsUntold now ys f → IsUntold held (xs ++ (ys ++ zs)) f
+    → ((d : Class) → now d ≡ held d) → AreTablesHeld held xs → IsProbeFaultOf now ys f → IsProbeFaultOf held (xs ++ (ys ++ zs)) f
 untold-middle held now xs ys zs (probe.NoTable c) same h k =
     missing-back held xs (ys ++ zs) c h (missing-front held ys zs c (missing-same held now ys c same k))
 untold-middle held now xs ys zs (probe.TableRead x) same h k =
@@ -122,7 +122,7 @@ untold-middle held now xs ys zs (probe.PageDamaged c n) same h k =
     let f = probe.PageDamaged c n in
     unread-back held xs (ys ++ zs) f h (unread-front held ys zs f (unread-same held now ys f same k))
 
-AreToldOf-append : (ps qs : List Position) (ts us : List Told) → AreToldOf ps ts → AreToldOf qs us → AreToldOf (ps ++ qs) (ts ++ us)
+AreToldOf-append : (ps qs : List Position) (ts us : List Evaluation) → AreToldOf ps ts → AreToldOf qs us → AreToldOf (ps ++ qs) (ts ++ us)
 AreToldOf-append [] qs [] us h k = k
 AreToldOf-append [] qs (t ∷ ts) us h k = absurd h
 AreToldOf-append (p ∷ ps) qs [] us h k = absurd h
@@ -130,29 +130,29 @@ AreToldOf-append (p ∷ ps) qs (t ∷ ts) us h k = (h.0, AreToldOf-append ps qs 
 
 -- The results when all these positions were probed: loaded tables, and the counts of probes and of failures, before and after.
 pub record IsAsked (held now : Class → Bool) (asked asked_now failed failed_now : ℕ) (honest honest_now : Type 0)
-    (ps : List Position) (was all : List Told) : Type 0 where
+    (ps : List Position) (was all : List Evaluation) : Type 0 where
   pub tables : (c : Class) → now c ≡ held c
   pub found : AreTablesHeld held (asked_each ps)
-  pub counts : asked_now ≡ counted_times (length (asked_each ps)) asked
+  pub counts : asked_now ≡ counted_up_by (length (asked_each ps)) asked
   pub failures : failed_now ≡ failed
   pub stays : honest → honest_now
-  pub told : honest → (ts : List Told) × AreToldOf ps ts × (all ≡ was ++ ts)
+  pub told : honest → (ts : List Evaluation) × AreToldOf ps ts × (all ≡ was ++ ts)
 
 pub asked-next : (held mid now : Class → Bool) (asked asked_mid asked_now failed failed_mid failed_now : ℕ)
-    (honest honest_mid honest_now : Type 0) (ps : List Position) (p : Position) (was all new : List Told)
+    (honest honest_mid honest_now : Type 0) (ps : List Position) (p : Position) (was all new : List Evaluation)
     → IsAsked held mid asked asked_mid failed failed_mid honest honest_mid ps was all
     → ((c : Class) → now c ≡ mid c) → AreTablesHeld mid (asked_at p)
-    → asked_now ≡ counted_times (length (asked_at p)) asked_mid → failed_now ≡ failed_mid
+    → asked_now ≡ counted_up_by (length (asked_at p)) asked_mid → failed_now ≡ failed_mid
     → (honest_mid → honest_now)
-    → (honest_mid → (t : Told) × IsToldOf p t × (new ≡ all ++ t ∷ []))
+    → (honest_mid → (t : Evaluation) × IsEvaluationOf p t × (new ≡ all ++ t ∷ []))
     → IsAsked held now asked asked_now failed failed_now honest honest_now (ps ++ p ∷ []) was new
 asked-next held mid now asked asked_mid asked_now failed failed_mid failed_now honest honest_mid honest_now ps p was
     all new h tables found counts failures stays told = record {
       tables = λ c. tables c ∙ h.tables c;
       found = subst (AreTablesHeld held) (sym one)
           (AreTablesHeld-append held (asked_each ps) (asked_at p) h.found (AreTablesHeld-same held mid (asked_at p) h.tables found));
-      counts = counts ∙ ap (counted_times (length (asked_at p))) h.counts ∙ sym (counted_times-sum (length (asked_each ps)) (length (asked_at p)) asked)
-          ∙ ap (λ n. counted_times n asked) (sym (ap length one ∙ length-append (asked_each ps) (asked_at p)));
+      counts = counts ∙ ap (counted_up_by (length (asked_at p))) h.counts ∙ sym (counted_times-sum (length (asked_each ps)) (length (asked_at p)) asked)
+          ∙ ap (λ n. counted_up_by n asked) (sym (ap length one ∙ length-append (asked_each ps) (asked_at p)));
       failures = failures ∙ h.failures;
       stays = λ k. stays (h.stays k);
       told = λ k. let x = h.told k in let y = told (h.stays k) in
@@ -178,26 +178,26 @@ take-one {X = X} xs i x h e = ap (λ n. take n xs) (let z : i + 1 ≡ suc i = om
 
 -- if a value could not be read
 module _ (held mid : Class → Bool) (asked asked_mid failed failed_mid : ℕ) (honest honest_mid : Type 0)
-    (xs : List Position) (i : ℕ) (p : Position) (was all : List Told)
+    (xs : List Position) (i : ℕ) (p : Position) (was all : List Evaluation)
     (h : IsAsked held mid asked asked_mid failed failed_mid honest honest_mid (take i xs) was all) (short : i < length xs) (is : p ≡ get_or xs i p) where
   middle : asked_each xs ≡ asked_each (take i xs) ++ (asked_at p ++ asked_each (drop (suc i) xs))
   middle = ap asked_each (split-at xs i p short is) ∙ asked_each-append (take i xs) (p ∷ drop (suc i) xs)
 
-  pub untold-at : (f : ProbeFault) → IsUntold mid (asked_at p) f → IsUntold held (asked_each xs) f
+  pub untold-at : (f : ProbeFault) → IsProbeFaultOf mid (asked_at p) f → IsProbeFaultOf held (asked_each xs) f
   untold-at f k =
-      subst (λ ps. IsUntold held ps f) (sym middle)
+      subst (λ ps. IsProbeFaultOf held ps f) (sym middle)
       (untold-middle held mid (asked_each (take i xs)) (asked_at p) (asked_each (drop (suc i) xs)) f h.tables
       h.found k)
 
-  pub asked-at : (new : ℕ) → WasAsked (length (asked_at p)) false asked_mid new → WasAsked (length (asked_each xs)) false asked new
+  pub asked-at : (new : ℕ) → ProbeCount (length (asked_at p)) false asked_mid new → ProbeCount (length (asked_each xs)) false asked new
   asked-at new k =
       let n = length (asked_each (take i xs)) in
       let long : length (asked_each xs) ≡ n + (length (asked_at p) + length (asked_each (drop (suc i) xs))) =
       ap length middle ∙ length-append (asked_each (take i xs)) (asked_at p ++ asked_each (drop (suc i) xs))
       ∙ ap (λ m. n + m) (length-append (asked_at p) (asked_each (drop (suc i) xs))) in
       let sum : n + suc k.0 ≡ suc (n + k.0) = omega arith in
-      let count = k.2 ∙ ap (counted_times (suc k.0)) h.counts ∙ sym (counted_times-sum n (suc k.0) asked) in
-      (n + k.0, omega (arith, k.1, long), subst (λ m. new ≡ counted_times m asked) sum count)
+      let count = k.2 ∙ ap (counted_up_by (suc k.0)) h.counts ∙ sym (counted_times-sum n (suc k.0) asked) in
+      (n + k.0, omega (arith, k.1, long), subst (λ m. new ≡ counted_up_by m asked) sum count)
 
 -- a result that passes a fault on
 pub same-fault : {T : Type 0} (r : Result T ProbeFault) (f : ProbeFault) (P : ProbeFault → Type 0) → IsErrAnd r (λ x. x ≡ f) → P f → IfErr r P
@@ -205,27 +205,27 @@ same-fault (Ok x) f P e h = absurd e
 same-fault (Err x) f P e h = subst P (sym e) h
 
 pub fault-asked : {T : Type 0} (r : Result T ProbeFault) (f : ProbeFault) (n old new : ℕ) → IsErrAnd r (λ x. x ≡ f)
-    → WasAsked n false old new → WasAsked n (is_ok r) old new
+    → ProbeCount n false old new → ProbeCount n (is_ok r) old new
 fault-asked (Ok x) f n old new e h = absurd e
 fault-asked (Err x) f n old new e h = h
 
 -- the evaluations of all nodes
-AreAt : List Told → ℕ → List Position → Type 0
+AreAt : List Evaluation → ℕ → List Position → Type 0
 AreAt all n [] = Unit {0}
-AreAt all n (p ∷ ps) = ((d : Told) → IsToldOf p (told_in all n d)) × AreAt all (suc n) ps
+AreAt all n (p ∷ ps) = ((d : Evaluation) → IsEvaluationOf p (evaluation_in all n d)) × AreAt all (suc n) ps
 
-at-later : (t : Told) (all : List Told) (n : ℕ) (ps : List Position) → AreAt all n ps → AreAt (t ∷ all) (suc n) ps
+at-later : (t : Evaluation) (all : List Evaluation) (n : ℕ) (ps : List Position) → AreAt all n ps → AreAt (t ∷ all) (suc n) ps
 unfolding AreAt
 at-later t all n [] h = tt
 at-later t all n (p ∷ ps) h = (h.0, at-later t all (suc n) ps h.1)
 
-at-told : (ps : List Position) (ts : List Told) → AreToldOf ps ts → AreAt ts 0 ps
+at-told : (ps : List Position) (ts : List Evaluation) → AreToldOf ps ts → AreAt ts 0 ps
 unfolding AreAt
 at-told [] ts h = tt
 at-told (p ∷ ps) [] h = absurd h
 at-told (p ∷ ps) (t ∷ ts) h = ((λ d. h.0), at-later t ts 0 ps (at-told ps ts h.1))
 
-at-append : (all : List Told) (n j : ℕ) (ps qs : List Position) → AreAt all n (ps ++ qs) → j ≡ n + length ps → AreAt all n ps × AreAt all j qs
+at-append : (all : List Evaluation) (n j : ℕ) (ps qs : List Position) → AreAt all n (ps ++ qs) → j ≡ n + length ps → AreAt all n ps × AreAt all j qs
 unfolding AreAt
 at-append all n j [] qs h e = (tt, subst (λ x. AreAt all x qs) (let z : n ≡ j = omega (arith, e) in z) h)
 at-append all n j (p ∷ ps) qs h e = let x = at-append all (suc n) j ps qs h.1 (omega (arith, e)) in ((h.0, x.0), x.1)
@@ -246,7 +246,7 @@ positions-mapped g p (more m l b r) =
     ap (λ x. after p m ∷ (x ++ positions_in p (mapped g r))) (positions-mapped g (after p m) b)
     ∙ ap (λ x. after p m ∷ (positions_in (after p m) b ++ x)) (positions-mapped g p r)
 
-retold-told : (all : List Told) (p : Position) (n : ℕ) (f : Forest Told) → AreAt all n (positions_in p f) → AreTold p (retold all n f)
+retold-told : (all : List Evaluation) (p : Position) (n : ℕ) (f : Forest Evaluation) → AreAt all n (positions_in p f) → AreEvaluated p (reevaluated all n f)
 unfolding AreAt
 retold-told all p n none h = tt
 retold-told all p n (more m t b r) h =
@@ -258,11 +258,11 @@ retold-told all p n (more m t b r) h =
       retold-told all p (n + 1 + nodes_in b) r x.1,
     )
 
-pub told-everywhere : (p : Position) (t : Plain Label) (ps : List Position) (all : List Told)
-    → ps ≡ p ∷ positions_in p t.below → ((ts : List Told) × AreToldOf ps ts × (all ≡ [] ++ ts))
-    → AllAreTold p (retold_tree all (told_tree t))
+pub told-everywhere : (p : Position) (t : Plain NodeLabel) (ps : List Position) (all : List Evaluation)
+    → ps ≡ p ∷ positions_in p t.below → ((ts : List Evaluation) × AreToldOf ps ts × (all ≡ [] ++ ts))
+    → AllAreEvaluated p (reevaluated_tree all (evaluation_tree t))
 unfolding AreAt
 told-everywhere p t ps all e h =
     let told : AreToldOf (p ∷ positions_in p t.below) all = subst (λ x. AreToldOf x all) e (subst (AreToldOf ps) (sym h.2) h.1) in
     let at = at-told (p ∷ positions_in p t.below) all told in
-    (at.0 t.label.told, retold-told all p 1 (told_tree t).below (subst (AreAt all 1) (sym (positions-mapped (λ (l : Label). l.told) p t.below)) at.1))
+    (at.0 t.label.told, retold-told all p 1 (evaluation_tree t).below (subst (AreAt all 1) (sym (positions-mapped (λ (l : NodeLabel). l.told) p t.below)) at.1))

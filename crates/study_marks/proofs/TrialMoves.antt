@@ -11,18 +11,18 @@ use Rattle.study_values.specs.Game.{IsValueOf}
 use Rattle.study_tree.specs.Forest.{Forest, none, more}
 use Rattle.study_tree.specs.Edits.{has_node}
 use Rattle.study_tree.specs.Tree.{Plain, Spot, has_spot, spot_at, size_of}
-use Rattle.study_marks.specs.declared.label.Label.{Label}
-use Rattle.study_marks.specs.declared.label.Told.{Told}
+use Rattle.study_marks.specs.declared.node_label.NodeLabel.{NodeLabel}
+use Rattle.study_marks.specs.declared.node_label.Evaluation.{Evaluation}
 use Rattle.study_marks.specs.declared.mark.Mark.{Mark}
 use Rattle.study_marks.specs.declared.refusal.Refusal.{Refusal}
 use Rattle.study_marks.specs.declared.refusal.Refusal.TheVariants as refusal
 use Rattle.study_marks.specs.Study.{plain_study, mapped, moves_to, position_after, position_at, place_at}
-use Rattle.study_marks.specs.Edits.{Plainly, insert_refusal}
+use Rattle.study_marks.specs.Edits.{PlainStudy, insert_refusal}
 use Rattle.study_marks.specs.Goals.{aim_of}
 use Rattle.study_marks.specs.Annotated.{AreAnnotated}
-use Rattle.study_marks.specs.BenchState.{BenchState, marked, kept_mark, own, moved_mark, IsKeptRight}
-use Rattle.study_marks.specs.Told.{IsToldOf, AreTold}
-use Rattle.study_marks.specs.FaultSums.{told_at}
+use Rattle.study_marks.specs.BenchState.{BenchState, marked, mark_by_label, own_fault, mark_of_new_node, IsKeptRight}
+use Rattle.study_marks.specs.Evaluated.{IsEvaluationOf, AreEvaluated}
+use Rattle.study_marks.specs.FaultSums.{evaluation_at}
 use Rattle.study_marks.specs.Trial.{trial_refusal, IsMarkOf}
 use Rattle.study_marks.proofs.SameShape.{has_node-mapped, moves_to-mapped}
 use Rattle.study_marks.proofs.BenchEdits.{bare-marked}
@@ -47,8 +47,8 @@ trial-reason {A = A} b k steps m found legal same e l =
     let p = b.study.start.position in
     ap (λ (x : BenchState). trial_refusal {A = A} (plain_study (marked x)) steps m) (sym same)
     ∙ ap (λ (t : Plain (Unit {0})). tried {A = A} (has_spot t steps) (is_legal (position_after p (moves_to t.below steps)) m)) (bare-marked b)
-    ∙ tried-same _ found _ legal (has_node-mapped (λ (x : Label). tt {0}) b.study.tree.below steps ∙ e)
-    (ap (λ ms. is_legal (position_after p ms) m) (moves_to-mapped (λ (x : Label). tt {0}) b.study.tree.below steps) ∙ l)
+    ∙ tried-same _ found _ legal (has_node-mapped (λ (x : NodeLabel). tt {0}) b.study.tree.below steps ∙ e)
+    (ap (λ ms. is_legal (position_after p ms) m) (moves_to-mapped (λ (x : NodeLabel). tt {0}) b.study.tree.below steps) ∙ l)
 
 -- a reason at the steps of a path is one at the path
 pub refused-first : {A T U : Type 0} (reason : List ℕ → Option (Refusal A)) (steps path : List ℕ) (r : Result T (Refusal A)) (f : Refusal A)
@@ -74,7 +74,7 @@ not-refused {A = A} reason steps path r x way e h = ap reason (sym way) ∙ go (
     go (Some f) h = let no : Ok x ≡ Err f = sym e ∙ h in absurd cc
 
 -- a reason not to try a move is one not to insert it
-pub insert-first : {A : Type 0} (s : Plainly) (steps : List ℕ) (m : Move) (f : Refusal A) → trial_refusal s steps m ≡ Some f
+pub insert-first : {A : Type 0} (s : PlainStudy) (steps : List ℕ) (m : Move) (f : Refusal A) → trial_refusal s steps m ≡ Some f
     → insert_refusal s steps m ≡ Some f
 insert-first s steps m f e = go (has_spot s.tree steps) (is_legal (position_at s steps) m) e
   where
@@ -97,16 +97,16 @@ refused-next {A = A} {U = U} (Some g) next r f answer P on e h a =
     told x (Err y) k = ap Err k
 
 -- the evaluation at a node is that of its position
-told-node : (p : Position) (q : Told) (f : Forest Label) (ks : List ℕ) → IsToldOf p q → AreTold p (mapped (λ l. l.told) f) → IsTrue (has_node f ks)
-    → IsToldOf (position_after p (moves_to f ks)) (told_at q f ks)
+told-node : (p : Position) (q : Evaluation) (f : Forest NodeLabel) (ks : List ℕ) → IsEvaluationOf p q → AreEvaluated p (mapped (λ l. l.told) f) → IsTrue (has_node f ks)
+    → IsEvaluationOf (position_after p (moves_to f ks)) (evaluation_at q f ks)
 told-node p q f [] h t n = h
 told-node p q none (k ∷ ks) h t n = absurd (false≢true n)
 told-node p q (more m l b r) (zero ∷ ks) h t n = told-node (after p m) l.told b ks t.0 t.1 n
 told-node p q (more m l b r) (suc k ∷ ks) h t n = told-node p q r (k ∷ ks) h t.2 n
 
 -- the mark of the move, from the evaluation of the node
-pub tried-mark : (k : BenchState) (steps : List ℕ) (m : Move) (w : Value) (mark : Mark) (s : Spot Label) → spot_at k.study.tree steps ≡ Some s
-    → mark ≡ moved_mark (aim_of k.study) (length steps) s.label.told w → IsValueOf (after (position_at (marked k) steps) m) w → IsKeptRight k
+pub tried-mark : (k : BenchState) (steps : List ℕ) (m : Move) (w : Value) (mark : Mark) (s : Spot NodeLabel) → spot_at k.study.tree steps ≡ Some s
+    → mark ≡ mark_of_new_node (aim_of k.study) (length steps) s.label.told w → IsValueOf (after (position_at (marked k) steps) m) w → IsKeptRight k
     → IsMarkOf (marked k) steps m mark
 tried-mark k steps m w mark s there is game right = λ x seen.
     let t = k.study.tree in
@@ -115,15 +115,15 @@ tried-mark k steps m w mark s there is game right = λ x seen.
     let d = length steps in
     let p = position_at (marked k) steps in
     let old = AllAreTold-right k right in
-    let kept : IsToldOf (position_at k.study steps) (told_at t.label.told t.below steps) =
+    let kept : IsEvaluationOf (position_at k.study steps) (evaluation_at t.label.told t.below steps) =
     told-node k.study.start.position t.label.told t.below steps old.0 old.1 (there-spot t steps s there) in
-    let told : IsToldOf p q = subst (λ (y : Position). IsToldOf y q) (position-marked k k steps steps refl refl)
-    (subst (λ (u : Told). IsToldOf (position_at k.study steps) u) (told-spot t steps s there) kept) in
+    let told : IsEvaluationOf p q = subst (λ (y : Position). IsEvaluationOf y q) (position-marked k k steps steps refl refl)
+    (subst (λ (u : Evaluation). IsEvaluationOf (position_at k.study steps) u) (told-spot t steps s there) kept) in
     let value : q.value ≡ x.label.value = same-value _ x (shown-spot k steps s (on_move_of (spot_at (marked k).tree steps)) there refl ∙ seen) in
-    let none_more : own a d q w ≡ own a d q w + 0 = omega arith in
+    let none_more : own_fault a d q w ≡ own_fault a d q w + 0 = omega arith in
     subst (λ (y : Mark). AreAnnotated a d p x.label.value (more m y none none)) (sym is)
-    (subst (λ (v : Value). AreAnnotated a d p v (more m (moved_mark a d q w) none none)) value
-    (game, (kept_mark a d q w, refl, (told.1.0, told.1.1, kept-move a d q told.1.0 w told.1.2)), none_more, tt, tt))
+    (subst (λ (v : Value). AreAnnotated a d p v (more m (mark_of_new_node a d q w) none none)) value
+    (game, (mark_by_label a d q w, refl, (told.1.0, told.1.1, kept-move a d q told.1.0 w told.1.2)), none_more, tt, tt))
   where
     same-value : (y x : Spot Mark) → Some y ≡ Some x → y.label.value ≡ x.label.value
     same-value y x e = ap (λ (z : Spot Mark). z.label.value) (let one : y ≡ x = cc in one)

@@ -16,13 +16,13 @@ use Rattle.study_values.specs.declared.values.ProbeFault.{ProbeFault}
 use Rattle.study_values.specs.declared.values.ProbeFault.TheVariants as probe
 use Rattle.study_text.specs.Counts.{counted}
 use Rattle.study_marks.specs.Annotated.{AreValuesAfter}
-use Rattle.study_marks.specs.Tally.{Tally, tally_of, with_value, with_last_value, tallies_joined}
+use Rattle.study_marks.specs.MoveOutcomes.{MoveOutcomes, tally_of, with_value, with_last_value, tallies_joined}
 use Rattle.study_values.specs.Values.{page_number}
-use Rattle.study_marks.specs.Queries.{IsTableHeld, IsFirstMissing, IsFirstUnread, counted_times}
-use Rattle.study_marks.specs.Told.{IsUntold, WasAsked}
+use Rattle.study_marks.specs.Queries.{IsTableHeld, IsFirstMissing, IsFirstUnread, counted_up_by}
+use Rattle.study_marks.specs.Evaluated.{IsProbeFaultOf, ProbeCount}
 
 -- one more value, counted before or after
-joined-with : (t u : Tally) (v : Value) → tallies_joined (with_last_value t v) u ≡ tallies_joined t (with_value v u)
+joined-with : (t u : MoveOutcomes) (v : Value) → tallies_joined (with_last_value t v) u ≡ tallies_joined t (with_value v u)
 joined-with t u (Win n) = refl
 joined-with t u (Loss n) = ap (λ ms. record { mates = ms; draws = t.draws + u.draws }) (append_assoc t.mates (n ∷ []) u.mates)
 joined-with t u Draw =
@@ -30,10 +30,10 @@ joined-with t u Draw =
     ap (λ n. record { mates = t.mates ++ u.mates; draws = n }) sum
 
 -- the values after the moves are in the tally
-abbrev pub AreCounted : Position → List Move → Tally → Tally → Type 0
+abbrev pub AreCounted : Position → List Move → MoveOutcomes → MoveOutcomes → Type 0
 AreCounted p ms old new = (all : List Value) × AreValuesAfter p ms all × (new ≡ tallies_joined old (tally_of all))
 
-pub counted-more : {T : Type 0} (p : Position) (m : Move) (ms rest : List Move) (v : Value) (old mid new : Tally)
+pub counted-more : {T : Type 0} (p : Position) (m : Move) (ms rest : List Move) (v : Value) (old mid new : MoveOutcomes)
     (r : Result T ProbeFault) → ms ≡ m ∷ rest → IsValueOf (after p m) v → mid ≡ with_last_value old v
     → OnOk r (AreCounted p rest mid new) → OnOk r (AreCounted p ms old new)
 counted-more p m ms rest v old mid new (Ok x) e g t h =
@@ -84,7 +84,7 @@ unread-held held p r f e other h c o = go (held c) refl
 pub untold-here : {V : Type 0} (held : Class → Bool) (p : Position) (ps : List Position) (r : Result V ProbeFault)
     (f : ProbeFault) → r ≡ Err f → ((c : Class) → IsErrOf r (probe.NoTable c) ↔ (IsOf c p × (held c ≡ false)))
     → ((c : Class) (n : ℕ) → IsErrOf r (probe.PageDamaged c n) → IsOf c p × (n ≡ page_number p))
-    → IsUntold held (p ∷ ps) f
+    → IsProbeFaultOf held (p ∷ ps) f
 untold-here held p ps r (probe.NoTable c) e h d = inl ((h c).0 e)
 untold-here held p ps r (probe.TableRead x) e h d =
     (unread-held held p r (probe.TableRead x) e (λ c is. let no : ⊥ = cc in no) h, inl tt)
@@ -92,7 +92,7 @@ untold-here held p ps r (probe.PageDamaged c n) e h d =
     (unread-held held p r (probe.PageDamaged c n) e (λ b is. let no : ⊥ = cc in no) h, inl (d c n e))
 
 pub untold-later : (held now : Class → Bool) (p : Position) (ps : List Position) (f : ProbeFault) → IsTableHeld held p
-    → ((d : Class) → now d ≡ held d) → IsUntold now ps f → IsUntold held (p ∷ ps) f
+    → ((d : Class) → now d ≡ held d) → IsProbeFaultOf now ps f → IsProbeFaultOf held (p ∷ ps) f
 untold-later held now p ps (probe.NoTable c) k same h = inr (k, missing-same held now ps c same h)
 untold-later held now p ps (probe.TableRead x) k same h = (k, inr (unread-same held now ps (probe.TableRead x) same h))
 untold-later held now p ps (probe.PageDamaged c n) k same h =
@@ -101,20 +101,20 @@ untold-later held now p ps (probe.PageDamaged c n) k same h =
 pub untold-more : {T V : Type 0} (held now : Class → Bool) (p : Position) (ps : List Position)
     (a : Result V ProbeFault) (v : V) (r : Result T ProbeFault) → a ≡ Ok v
     → ((c : Class) → IsErrOf a (probe.NoTable c) ↔ (IsOf c p × (held c ≡ false))) → ((d : Class) → now d ≡ held d)
-    → IfErr r (IsUntold now ps) → IfErr r (IsUntold held (p ∷ ps))
+    → IfErr r (IsProbeFaultOf now ps) → IfErr r (IsProbeFaultOf held (p ∷ ps))
 untold-more held now p ps a v (Ok x) e k same h = tt
 untold-more held now p ps a v (Err f) e k same h = untold-later held now p ps f (held-told held p a v e k) same h
 
 -- the number of probes
-pub asked-more : (n : ℕ) (b : Bool) (old mid new : ℕ) → mid ≡ counted old → WasAsked n b mid new → WasAsked (suc n) b old new
-asked-more n true old mid new e h = h ∙ ap (counted_times n) e
-asked-more n false old mid new e h = (suc h.0, (let z : suc h.0 < suc n = omega (arith, h.1) in z), h.2 ∙ ap (counted_times (suc h.0)) e)
+pub asked-more : (n : ℕ) (b : Bool) (old mid new : ℕ) → mid ≡ counted old → ProbeCount n b mid new → ProbeCount (suc n) b old new
+asked-more n true old mid new e h = h ∙ ap (counted_up_by n) e
+asked-more n false old mid new e h = (suc h.0, (let z : suc h.0 < suc n = omega (arith, h.1) in z), h.2 ∙ ap (counted_up_by (suc h.0)) e)
 
 -- the remaining moves are legal
 pub legal-rest : (p : Position) (m : Move) (ms rest : List Move) → ms ≡ m ∷ rest → All (λ n. is_legal p n ≡ true) ms → All (λ n. is_legal p n ≡ true) rest
 legal-rest p m ms rest e h = λ k d i. subst (λ l. All (λ n. is_legal p n ≡ true) l) e h (suc k) d (let z : suc k < length (m ∷ rest) = omega (arith, i) in z)
 
-pub room-with : (t : Tally) (v : Value) (n : ℕ) → length t.mates + t.draws + suc n ≤ 62
+pub room-with : (t : MoveOutcomes) (v : Value) (n : ℕ) → length t.mates + t.draws + suc n ≤ 62
     → length (with_last_value t v).mates + (with_last_value t v).draws + n ≤ 62
 room-with t (Win k) n h = omega (arith, h)
 room-with t (Loss k) n h = let long : length (t.mates ++ k ∷ []) ≡ length t.mates + 1 = length-append t.mates (k ∷ []) in omega (arith, h, long)

@@ -12,9 +12,9 @@ use Rattle.study_marks.specs.declared.stipulation.Goal.{Goal}
 use Rattle.study_marks.specs.declared.stipulation.Goal.TheVariants.{Win, Draw, MateIn}
 use Rattle.study_marks.specs.declared.mark.MoveMark.{MoveMark}
 use Rattle.study_marks.specs.declared.mark.Mark.{Mark}
-use Rattle.study_marks.specs.declared.label.Label.{Label}
-use Rattle.study_marks.specs.declared.label.Told.{Told}
-use Rattle.study_marks.specs.Tally.{Tally, tally_of}
+use Rattle.study_marks.specs.declared.node_label.NodeLabel.{NodeLabel}
+use Rattle.study_marks.specs.declared.node_label.Evaluation.{Evaluation}
+use Rattle.study_marks.specs.MoveOutcomes.{MoveOutcomes, tally_of}
 use Rattle.study_marks.specs.Study.{Study, mapped_tree, IsPlayable, AreDistinct}
 use Rattle.study_marks.specs.declared.mark_rules.Aim.{Aim}
 use Rattle.study_marks.specs.Goals.{aim_of, hero_moves, holds, plies_of}
@@ -24,35 +24,35 @@ use Rattle.study_marks.specs.Edits.{is_tag_text}
 
 -- a bench as contracts see it: the study with the labels of its nodes, and the number of labels written
 pub record BenchState : Type 0 where
-  pub study : Study Label
+  pub study : Study NodeLabel
   pub relabelled : ℕ
 
 -- the labels of the nodes without the faults: the evaluations
-abbrev pub told_tree : Plain Label → Plain Told
-told_tree t = mapped_tree (λ l. l.told) t
+abbrev pub evaluation_tree : Plain NodeLabel → Plain Evaluation
+evaluation_tree t = mapped_tree (λ l. l.told) t
 
 -- the number of tallied moves that lead to a position at depth d that holds, if the hero makes them
-abbrev pub count_holding : Goal → Bool → ℕ → Tally → ℕ
+abbrev pub count_holding : Goal → Bool → ℕ → MoveOutcomes → ℕ
 count_holding Win first d t = length t.mates
 count_holding Draw first d t = length t.mates + t.draws
 count_holding (MateIn k) first d t = count_by (λ n. nat_le (d + n) (plies_of first k)) t.mates
 
 -- the mark of a move to a position with the value w, from the evaluation q of the node before it, which is at depth d
-abbrev pub kept_mark : Aim → ℕ → Told → Value → MoveMark
-kept_mark a d q w = mark_of (hero_moves a d) (holds a d q.value) (holds a (d + 1) w) (count_holding a.goal a.hero_first (d + 1) q.tally)
+abbrev pub mark_by_label : Aim → ℕ → Evaluation → Value → MoveMark
+mark_by_label a d q w = mark_of (hero_moves a d) (holds a d q.value) (holds a (d + 1) w) (count_holding a.goal a.hero_first (d + 1) q.tally)
 
 -- the marks that a bench shows: of sibling nodes, whose moves are made at depth d at the node with the evaluation q
-abbrev pub shown_mark : Aim → ℕ → Told → Label → Mark
-shown_mark a d q l = record { value = l.told.value; on_move = Some (kept_mark a d q l.told.value); faults = l.faults }
+abbrev pub shown_mark : Aim → ℕ → Evaluation → NodeLabel → Mark
+shown_mark a d q l = record { value = l.told.value; on_move = Some (mark_by_label a d q l.told.value); faults = l.faults }
 
-abbrev pub shown : Aim → ℕ → Told → Forest Label → Forest Mark
+abbrev pub shown : Aim → ℕ → Evaluation → Forest NodeLabel → Forest Mark
 shown a d q none = none
 shown a d q (more m l b r) = more m (shown_mark a d q l) (shown a (d + 1) l.told b) (shown a d q r)
 
-abbrev pub shown_root : Label → Mark
+abbrev pub shown_root : NodeLabel → Mark
 shown_root l = record { value = l.told.value; on_move = None; faults = l.faults }
 
-abbrev pub shown_tree : Aim → Plain Label → Plain Mark
+abbrev pub shown_tree : Aim → Plain NodeLabel → Plain Mark
 shown_tree a t = record { label = shown_root t.label; below = shown a 0 t.label.told t.below }
 
 -- the study with the marks that the readers show
@@ -60,10 +60,10 @@ abbrev pub marked : BenchState → Study Mark
 marked k = record { start = k.study.start; stipulation = k.study.stipulation; tags = k.study.tags; tree = shown_tree (aim_of k.study) k.study.tree }
 
 -- the tally of the game's values after each legal move
-abbrev pub IsTallied : Position → Tally → Type 0
+abbrev pub IsTallied : Position → MoveOutcomes → Type 0
 IsTallied p t = (all : List Value) × AreValuesAfter p (legal_list p) all × (t ≡ tally_of all)
 
-abbrev pub AreTallied : Position → Forest Label → Type 0
+abbrev pub AreTallied : Position → Forest NodeLabel → Type 0
 AreTallied p none = Unit {0}
 AreTallied p (more m l b r) = IsTallied (after p m) l.told.tally × AreTallied (after p m) b × AreTallied p r
 
@@ -74,29 +74,29 @@ pub record IsKeptRight (k : BenchState) : Type 0 where
   pub tallies : AreTallied k.study.start.position k.study.tree.below
 
 -- Faults that add up: each node's are its own and those that its children count for it.
-abbrev pub all_faults : Forest Label → ℕ
+abbrev pub all_faults : Forest NodeLabel → ℕ
 all_faults none = 0
 all_faults (more m l b r) = l.faults + all_faults r
 
 -- the faults of each child if the opponent moves, of the first alone if the hero does
-abbrev pub faults_below : Bool → Forest Label → ℕ
+abbrev pub faults_below : Bool → Forest NodeLabel → ℕ
 faults_below hero none = 0
 faults_below hero (more m l b r) = l.faults + (if hero then 0 else all_faults r)
 
-abbrev pub own : Aim → ℕ → Told → Value → ℕ
-own a d q v = own_faults (hero_moves a d) (Some (kept_mark a d q v))
+abbrev pub own_fault : Aim → ℕ → Evaluation → Value → ℕ
+own_fault a d q v = own_faults (hero_moves a d) (Some (mark_by_label a d q v))
 
 -- the mark of a new node, from the evaluation of the node before it
-abbrev pub moved_mark : Aim → ℕ → Told → Value → Mark
-moved_mark a d q v = record { value = v; on_move = Some (kept_mark a d q v); faults = own a d q v }
+abbrev pub mark_of_new_node : Aim → ℕ → Evaluation → Value → Mark
+mark_of_new_node a d q v = record { value = v; on_move = Some (mark_by_label a d q v); faults = own_fault a d q v }
 
-abbrev pub AddUp : Aim → ℕ → Told → Forest Label → Type 0
-AddUp a d q none = Unit {0}
-AddUp a d q (more m l b r) =
-    (l.faults ≡ own a d q l.told.value + faults_below (hero_moves a (d + 1)) b) × AddUp a (d + 1) l.told b × AddUp a d q r
+abbrev pub FaultsAddUp : Aim → ℕ → Evaluation → Forest NodeLabel → Type 0
+FaultsAddUp a d q none = Unit {0}
+FaultsAddUp a d q (more m l b r) =
+    (l.faults ≡ own_fault a d q l.told.value + faults_below (hero_moves a (d + 1)) b) × FaultsAddUp a (d + 1) l.told b × FaultsAddUp a d q r
 
-abbrev pub AllAddUp : Aim → Plain Label → Type 0
-AllAddUp a t = (t.label.faults ≡ faults_below (hero_moves a 0) t.below) × AddUp a 0 t.label.told t.below
+abbrev pub AllAddUp : Aim → Plain NodeLabel → Type 0
+AllAddUp a t = (t.label.faults ≡ faults_below (hero_moves a 0) t.below) × FaultsAddUp a 0 t.label.told t.below
 
 abbrev pub IsTag : Option (List ℕ) → Type 0
 IsTag None = Unit {0}

@@ -6,7 +6,7 @@ use Rattle.study_moves.specs.Rules.{after}
 use Rattle.study_material.specs.declared.class.Class.{Class}
 use Rattle.study_text.specs.Counts.{counted}
 use Rattle.study_tree.specs.Tree.{Plain, size_of, with_child, without, moved_up}
-use Rattle.study_marks.specs.declared.label.Told.{Told}
+use Rattle.study_marks.specs.declared.node_label.Evaluation.{Evaluation}
 use Rattle.study_marks.specs.declared.refusal.Refusal.{Refusal}
 use Rattle.study_marks.specs.declared.refusal.Refusal.TheVariants.{OutOfMemory}
 use Rattle.study_marks.specs.declared.edit.Edit.{Edit}
@@ -14,18 +14,18 @@ use Rattle.study_marks.specs.declared.edit.Edit.TheVariants as edits
 use Rattle.study_marks.specs.declared.edit.Stopped.{Stopped}
 use Rattle.study_marks.specs.Study.{plain_study, position_at}
 use Rattle.study_marks.specs.Queries.{asked_at, positions_asked, AllHeld, IsOutside, HasAsked, HasStopped}
-use Rattle.study_marks.specs.Queries.{is_of_tables, is_of_device, counted_times, failures_after}
-use Rattle.study_marks.specs.Edits.{Plainly, shifted, edited, edit_refusal, insert_refusal, delete_refusal, promote_refusal, shift_refusal, tag_refusal}
-use Rattle.study_marks.specs.BenchState.{BenchState, marked, IsKeptRight, told_tree}
+use Rattle.study_marks.specs.Queries.{is_of_tables, is_of_device, counted_up_by, failures_after}
+use Rattle.study_marks.specs.Edits.{PlainStudy, with_start, edited, edit_refusal, insert_refusal, delete_refusal, promote_refusal, shift_refusal, tag_refusal}
+use Rattle.study_marks.specs.BenchState.{BenchState, marked, IsKeptRight, evaluation_tree}
 use Rattle.study_marks.specs.Answers.{TellsFirstFault}
 use Rattle.study_values.specs.Values.{ProbeAnswer}
 use Rattle.study_values.specs.declared.fault.SourceFault.{SourceFault}
 
 module _ {A : Type 0} where
   -- the positions whose values an edit of this study probes
-  abbrev pub questions_of : Plainly → Edit A → List Position
+  abbrev pub questions_of : PlainStudy → Edit A → List Position
   questions_of s (edits.Position start) = asked_at start.position
-  questions_of s (edits.Shift start) = positions_asked (shifted s start)
+  questions_of s (edits.Shift start) = positions_asked (with_start s start)
   questions_of s (edits.Stipulate stipulation) = []
   questions_of s (edits.Insert steps m) = asked_at (after (position_at s steps) m)
   questions_of s (edits.Delete steps) = []
@@ -37,9 +37,9 @@ module _ {A : Type 0} where
   IsShiftRefusal held asked reason r = MatchOption reason (IsOutside held asked r) (λ fault. (r ≡ fault) ⊎ (r ≡ OutOfMemory))
 
   -- the edit of this study may be refused with r; a new position needs no memory
-  abbrev pub IsRefusalOf : (Class → Bool) → Plainly → Edit A → Refusal A → Type 0
+  abbrev pub IsRefusalOf : (Class → Bool) → PlainStudy → Edit A → Refusal A → Type 0
   IsRefusalOf held s (edits.Position start) r = IsOutside held (asked_at start.position) r × (is_of_tables r ≡ true)
-  IsRefusalOf held s (edits.Shift start) r = IsShiftRefusal held (positions_asked (shifted s start)) (shift_refusal s start) r
+  IsRefusalOf held s (edits.Shift start) r = IsShiftRefusal held (positions_asked (with_start s start)) (shift_refusal s start) r
   IsRefusalOf held s (edits.Stipulate stipulation) r = ⊥
   IsRefusalOf held s (edits.Insert steps m) r =
       MatchOption (insert_refusal s steps m) (IsOutside held (asked_at (after (position_at s steps) m)) r) (λ fault. r ≡ fault)
@@ -48,60 +48,60 @@ module _ {A : Type 0} where
   IsRefusalOf held s (edits.Tag name text) r = MatchOption (tag_refusal text.bytes) ⊥ (λ fault. r ≡ fault)
 
   -- the edit of this study has no reason to be refused, and a table of each position that it probes is loaded
-  pub record IsAccepted (held : Class → Bool) (s : Plainly) (e : Edit A) : Type 0 where
+  pub record IsAccepted (held : Class → Bool) (s : PlainStudy) (e : Edit A) : Type 0 where
     pub allowed : edit_refusal s e ≡ None
     pub found : AllHeld held (questions_of s e)
 
-  abbrev pub AreAccepted : (Class → Bool) → Plainly → List (Edit A) → Type 0
+  abbrev pub AreAccepted : (Class → Bool) → PlainStudy → List (Edit A) → Type 0
   AreAccepted held s [] = Unit {0}
   AreAccepted held s (e ∷ es) = IsAccepted held s e × AreAccepted held (edited s e) es
 
   -- the count of labels after an edit of this study: a new position resets it
-  abbrev pub labels_after : Plainly → Edit A → ℕ → ℕ
+  abbrev pub labels_after : PlainStudy → Edit A → ℕ → ℕ
   labels_after s (edits.Position start) n = 1
-  labels_after s (edits.Shift start) n = counted_times (size_of s.tree) n
-  labels_after s (edits.Stipulate stipulation) n = counted_times (size_of s.tree) n
-  labels_after s (edits.Insert steps m) n = counted_times (length steps + 2) n
-  labels_after s (edits.Delete steps) n = counted_times (length steps) n
-  labels_after s (edits.Promote steps) n = counted_times (length steps) n
+  labels_after s (edits.Shift start) n = counted_up_by (size_of s.tree) n
+  labels_after s (edits.Stipulate stipulation) n = counted_up_by (size_of s.tree) n
+  labels_after s (edits.Insert steps m) n = counted_up_by (length steps + 2) n
+  labels_after s (edits.Delete steps) n = counted_up_by (length steps) n
+  labels_after s (edits.Promote steps) n = counted_up_by (length steps) n
   labels_after s (edits.Tag name text) n = n
 
-  abbrev pub labels_by : Plainly → List (Edit A) → ℕ → ℕ
+  abbrev pub labels_by : PlainStudy → List (Edit A) → ℕ → ℕ
   labels_by s [] n = n
   labels_by s (e ∷ es) n = labels_by (edited s e) es (labels_after s e n)
 
   -- The evaluations of the nodes after an edit, right or not: nodes that stay keep their evaluation. A new position and a shift evaluate all nodes
   -- anew, and an insertion evaluates its node.
-  abbrev pub IsKeptAfter : Plain Told → Edit A → Plain Told → Type 0
+  abbrev pub IsKeptAfter : Plain Evaluation → Edit A → Plain Evaluation → Type 0
   IsKeptAfter old (edits.Position start) new = Unit {0}
   IsKeptAfter old (edits.Shift start) new = Unit {0}
   IsKeptAfter old (edits.Stipulate stipulation) new = new ≡ old
-  IsKeptAfter old (edits.Insert steps m) new = (told : Told) × (new ≡ with_child old steps m told)
+  IsKeptAfter old (edits.Insert steps m) new = (told : Evaluation) × (new ≡ with_child old steps m told)
   IsKeptAfter old (edits.Delete steps) new = new ≡ without old steps
   IsKeptAfter old (edits.Promote steps) new = new ≡ moved_up old steps
   IsKeptAfter old (edits.Tag name text) new = new ≡ old
 
-  abbrev pub AreKeptAfter : Plain Told → List (Edit A) → Plain Told → Type 0
+  abbrev pub AreKeptAfter : Plain Evaluation → List (Edit A) → Plain Evaluation → Type 0
   AreKeptAfter old [] new = new ≡ old
-  AreKeptAfter old (e ∷ es) new = (mid : Plain Told) × IsKeptAfter old e mid × AreKeptAfter mid es new
+  AreKeptAfter old (e ∷ es) new = (mid : Plain Evaluation) × IsKeptAfter old e mid × AreKeptAfter mid es new
 
   -- after n of the edits, the next is refused with r
-  abbrev pub IsStopped : (Class → Bool) → Plainly → List (Edit A) → ℕ → Refusal A → Type 0
+  abbrev pub IsStopped : (Class → Bool) → PlainStudy → List (Edit A) → ℕ → Refusal A → Type 0
   IsStopped held s [] n r = ⊥
   IsStopped held s (e ∷ es) zero r = IsRefusalOf held s e r
   IsStopped held s (e ∷ es) (suc n) r = IsStopped held (edited s e) es n r
 
   -- the number of probes: all of each accepted edit, and those of the refused edit up to one that could not be read
-  abbrev pub asked_after_edits : Plainly → List (Edit A) → ℕ → ℕ
+  abbrev pub asked_after_edits : PlainStudy → List (Edit A) → ℕ → ℕ
   asked_after_edits s [] n = n
-  asked_after_edits s (e ∷ es) n = asked_after_edits (edited s e) es (counted_times (length (questions_of s e)) n)
+  asked_after_edits s (e ∷ es) n = asked_after_edits (edited s e) es (counted_up_by (length (questions_of s e)) n)
 
-  abbrev pub HasAskedUpTo : Plainly → List (Edit A) → ℕ → Refusal A → ℕ → ℕ → Type 0
+  abbrev pub HasAskedUpTo : PlainStudy → List (Edit A) → ℕ → Refusal A → ℕ → ℕ → Type 0
   HasAskedUpTo s [] n r old new = ⊥
   HasAskedUpTo s (e ∷ es) zero r old new = HasStopped (is_of_tables r) (length (questions_of s e)) old new
-  HasAskedUpTo s (e ∷ es) (suc n) r old new = HasAskedUpTo (edited s e) es n r (counted_times (length (questions_of s e)) old) new
+  HasAskedUpTo s (e ∷ es) (suc n) r old new = HasAskedUpTo (edited s e) es n r (counted_up_by (length (questions_of s e)) old) new
 
-  abbrev pub HasAskedBy : Plainly → List (Edit A) → Result (Unit {0}) (Stopped A) → ℕ → ℕ → Type 0
+  abbrev pub HasAskedBy : PlainStudy → List (Edit A) → Result (Unit {0}) (Stopped A) → ℕ → ℕ → Type 0
   HasAskedBy s es (Ok x) old new = new ≡ asked_after_edits s es old
   HasAskedBy s es (Err stop) old new = HasAskedUpTo s es stop.done stop.refusal old new
 
@@ -111,7 +111,7 @@ module _ {A : Type 0} where
   failures_stopped (Err s) old = if is_of_device s.refusal then counted old else old
 
   -- after n of the edits, the next is refused with the fault of the first value that could not be read, of the values in their state then
-  abbrev pub StopsAtFault : {V : Type 0} → (V → Position → ProbeAnswer → Type 0) → (V → Class → SourceFault → Type 0) → (V → ℕ) → V → Plainly → List (Edit A)
+  abbrev pub StopsAtFault : {V : Type 0} → (V → Position → ProbeAnswer → Type 0) → (V → Class → SourceFault → Type 0) → (V → ℕ) → V → PlainStudy → List (Edit A)
       → ℕ → V → Refusal A → Type 0
   StopsAtFault gives may_fail asked_of mid s [] n new r = ⊥
   StopsAtFault gives may_fail asked_of mid s (e ∷ es) zero new r = TellsFirstFault gives may_fail asked_of mid (questions_of s e) new r
@@ -119,7 +119,7 @@ module _ {A : Type 0} where
 
   -- the values of the accepted edits were probed, then those of the refused one, up to the first that could not be read
   pub record TellsStop {V : Type 0} (gives : V → Position → ProbeAnswer → Type 0) (may_fail : V → Class → SourceFault → Type 0)
-      (asked_of : V → ℕ) (old new : V) (s : Plainly)
+      (asked_of : V → ℕ) (old new : V) (s : PlainStudy)
       (es : List (Edit A)) (stop : Stopped A) : Type 0 where
     pub mid : V
     pub asked : asked_of mid ≡ asked_after_edits s (take stop.done es) (asked_of old)
@@ -135,7 +135,7 @@ module _ {A : Type 0} where
     pub accepted : OnOk r (IsAccepted held (plain_study (marked old)) e)
     pub edit : OnOk r (plain_study (marked new) ≡ edited (plain_study (marked old)) e)
     pub right : honest → IsKeptRight old → OnOk r (IsKeptRight new)
-    pub kept : OnOk r (IsKeptAfter (told_tree old.study.tree) e (told_tree new.study.tree))
+    pub kept : OnOk r (IsKeptAfter (evaluation_tree old.study.tree) e (evaluation_tree new.study.tree))
     pub labels : OnOk r (new.relabelled ≡ labels_after (plain_study (marked old)) e old.relabelled)
     pub counts : HasAsked (length (questions_of (plain_study (marked old)) e)) r asked asked_now
     pub failures : failed_now ≡ failures_after r failed

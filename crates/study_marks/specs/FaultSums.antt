@@ -2,18 +2,18 @@
 use Rattle.std.specs.Prelude.{◌≡◌, ℕ, ◌+◌, ◌-◌, ◌^◌, min, nat_le, not, ◌&&◌, Bool, true, List, [], ◌∷◌, Option, Some, None, zero, suc, if◌then◌else◌}
 use Rattle.study_tree.specs.Forest.{Forest, none, more}
 use Rattle.study_tree.specs.Tree.{Plain, Spot}
-use Rattle.study_marks.specs.declared.label.Label.{Label}
-use Rattle.study_marks.specs.declared.label.Told.{Told}
+use Rattle.study_marks.specs.declared.node_label.NodeLabel.{NodeLabel}
+use Rattle.study_marks.specs.declared.node_label.Evaluation.{Evaluation}
 use Rattle.study_marks.specs.declared.mark_rules.Aim.{Aim}
 use Rattle.study_marks.specs.Goals.{hero_moves}
-use Rattle.study_marks.specs.BenchState.{own, faults_below, AddUp}
+use Rattle.study_marks.specs.BenchState.{own_fault, faults_below, FaultsAddUp}
 
 -- the evaluation of the path's node, if q is the evaluation of the path's start
-abbrev pub told_at : Told → Forest Label → List ℕ → Told
-told_at q f [] = q
-told_at q none (k ∷ ks) = q
-told_at q (more m l b r) (zero ∷ ks) = told_at l.told b ks
-told_at q (more m l b r) (suc k ∷ ks) = told_at q r (k ∷ ks)
+abbrev pub evaluation_at : Evaluation → Forest NodeLabel → List ℕ → Evaluation
+evaluation_at q f [] = q
+evaluation_at q none (k ∷ ks) = q
+evaluation_at q (more m l b r) (zero ∷ ks) = evaluation_at l.told b ks
+evaluation_at q (more m l b r) (suc k ∷ ks) = evaluation_at q r (k ∷ ks)
 
 -- the faults that a child at place k with n faults counts for its parent; `hero`: the hero moves there
 abbrev pub counted_faults : Bool → ℕ → ℕ → ℕ
@@ -26,40 +26,40 @@ counts_all hero zero = true
 counts_all hero (suc k) = not hero
 
 -- the least depth from which on a change of the faults of the path's node counts at each node of the path; the path begins at depth d
-abbrev pub counted_from : Aim → ℕ → List ℕ → ℕ
-counted_from a d [] = d
-counted_from a d (k ∷ ks) =
-    if nat_le (counted_from a (d + 1) ks) (d + 1) && counts_all (hero_moves a d) k then d else counted_from a (d + 1) ks
+abbrev pub counted_from_depth : Aim → ℕ → List ℕ → ℕ
+counted_from_depth a d [] = d
+counted_from_depth a d (k ∷ ks) =
+    if nat_le (counted_from_depth a (d + 1) ks) (d + 1) && counts_all (hero_moves a d) k then d else counted_from_depth a (d + 1) ks
 
 -- n faults with `minus` removed and `plus` added
-abbrev pub faults_moved : ℕ → ℕ → ℕ → ℕ
-faults_moved minus plus n = min (n + plus - minus) (2 ^ 32 - 1)
+abbrev pub faults_after_change : ℕ → ℕ → ℕ → ℕ
+faults_after_change minus plus n = min (n + plus - minus) (2 ^ 32 - 1)
 
 -- the new label of a path's node at depth d, if the change counts from depth `from` on
-abbrev pub label_moved : ℕ → ℕ → ℕ → ℕ → Label → Label
-label_moved from minus plus d l = if nat_le from d then record { told = l.told; faults = faults_moved minus plus l.faults } else l
+abbrev pub label_moved : ℕ → ℕ → ℕ → ℕ → NodeLabel → NodeLabel
+label_moved from minus plus d l = if nat_le from d then record { told = l.told; faults = faults_after_change minus plus l.faults } else l
 
 -- the faults of a node are right, except at the path's node: there `minus` is still counted and `plus` is not yet
-abbrev pub AddsUp : ℕ → ℕ → List ℕ → ℕ → ℕ → Type 0
-AddsUp n right [] minus plus = n + plus ≡ right + minus
-AddsUp n right (k ∷ ks) minus plus = n ≡ right
+abbrev pub FaultAddsUp : ℕ → ℕ → List ℕ → ℕ → ℕ → Type 0
+FaultAddsUp n right [] minus plus = n + plus ≡ right + minus
+FaultAddsUp n right (k ∷ ks) minus plus = n ≡ right
 
-abbrev pub AddUpBut : Aim → ℕ → Told → Forest Label → List ℕ → ℕ → ℕ → Type 0
-AddUpBut a d q f [] minus plus = AddUp a d q f
-AddUpBut a d q none (k ∷ ks) minus plus = Unit {0}
-AddUpBut a d q (more m l b r) (zero ∷ ks) minus plus =
-    AddsUp l.faults (own a d q l.told.value + faults_below (hero_moves a (d + 1)) b) ks minus plus
-    × AddUpBut a (d + 1) l.told b ks minus plus × AddUp a d q r
-AddUpBut a d q (more m l b r) (suc k ∷ ks) minus plus =
-    (l.faults ≡ own a d q l.told.value + faults_below (hero_moves a (d + 1)) b)
-    × AddUp a (d + 1) l.told b × AddUpBut a d q r (k ∷ ks) minus plus
+abbrev pub FaultsAddUpExceptOnPath : Aim → ℕ → Evaluation → Forest NodeLabel → List ℕ → ℕ → ℕ → Type 0
+FaultsAddUpExceptOnPath a d q f [] minus plus = FaultsAddUp a d q f
+FaultsAddUpExceptOnPath a d q none (k ∷ ks) minus plus = Unit {0}
+FaultsAddUpExceptOnPath a d q (more m l b r) (zero ∷ ks) minus plus =
+    FaultAddsUp l.faults (own_fault a d q l.told.value + faults_below (hero_moves a (d + 1)) b) ks minus plus
+    × FaultsAddUpExceptOnPath a (d + 1) l.told b ks minus plus × FaultsAddUp a d q r
+FaultsAddUpExceptOnPath a d q (more m l b r) (suc k ∷ ks) minus plus =
+    (l.faults ≡ own_fault a d q l.told.value + faults_below (hero_moves a (d + 1)) b)
+    × FaultsAddUp a (d + 1) l.told b × FaultsAddUpExceptOnPath a d q r (k ∷ ks) minus plus
 
-abbrev pub IsOff : Aim → Plain Label → List ℕ → ℕ → ℕ → Type 0
-IsOff a t ks minus plus =
-    AddsUp t.label.faults (faults_below (hero_moves a 0) t.below) ks minus plus × AddUpBut a 0 t.label.told t.below ks minus plus
+abbrev pub FaultsAreOffBy : Aim → Plain NodeLabel → List ℕ → ℕ → ℕ → Type 0
+FaultsAreOffBy a t ks minus plus =
+    FaultAddsUp t.label.faults (faults_below (hero_moves a 0) t.below) ks minus plus × FaultsAddUpExceptOnPath a 0 t.label.told t.below ks minus plus
 
 -- the faults of a node, 0 if it does not exist
-abbrev pub faults_of : Option (Spot Label) → ℕ
+abbrev pub faults_of : Option (Spot NodeLabel) → ℕ
 faults_of None = 0
 faults_of (Some s) = s.label.faults
 

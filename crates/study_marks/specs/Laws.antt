@@ -17,7 +17,7 @@ use Rattle.study_marks.specs.Goals.{aim_of, hero_moves, holds}
 use Rattle.study_marks.specs.Marks.{move_mark}
 use Rattle.study_marks.specs.Annotated.{AreValuesAfter, IsAnnotated}
 use Rattle.study_marks.specs.Blocks.{block_faults}
-use Rattle.study_marks.specs.Edits.{Plainly, positioned, shifted, inserted, deleted, promoted}
+use Rattle.study_marks.specs.Edits.{PlainStudy, with_position, with_start, with_insertion, with_deletion, with_promotion}
 
 -- a plain study has exactly one annotation
 abbrev pub AnnotationsAreUnique : Type 0
@@ -27,11 +27,11 @@ AnnotationsAreUnique = (s t : Study Mark) → IsAnnotated s → IsAnnotated t �
 -- move is a row after the block of its parent, a deletion deletes the block, and a promotion exchanges the block with that of the sibling before it.
 abbrev pub StudyEditsAreOfRows : Type 0
 StudyEditsAreOfRows =
-    ((s : Plainly) (start : Start) → rows (positioned s start).tree ≡ take 1 (rows s.tree))
-    × ((s : Plainly) (start : Start) → rows (shifted s start).tree ≡ rows s.tree)
-    × ((s : Plainly) (steps : List ℕ) (m : Move) → rows (inserted s steps m).tree ≡ rows_with_child (rows s.tree) steps m tt)
-    × ((s : Plainly) (k : ℕ) (ks : List ℕ) → rows (deleted s (k ∷ ks)).tree ≡ rows_without (rows s.tree) (k ∷ ks))
-    × ((s : Plainly) (steps : List ℕ) → move_up_refusal s.tree steps ≡ None → rows (promoted s steps).tree ≡ rows_moved_up (rows s.tree) steps)
+    ((s : PlainStudy) (start : Start) → rows (with_position s start).tree ≡ take 1 (rows s.tree))
+    × ((s : PlainStudy) (start : Start) → rows (with_start s start).tree ≡ rows s.tree)
+    × ((s : PlainStudy) (steps : List ℕ) (m : Move) → rows (with_insertion s steps m).tree ≡ rows_with_child (rows s.tree) steps m tt)
+    × ((s : PlainStudy) (k : ℕ) (ks : List ℕ) → rows (with_deletion s (k ∷ ks)).tree ≡ rows_without (rows s.tree) (k ∷ ks))
+    × ((s : PlainStudy) (steps : List ℕ) → move_up_refusal s.tree steps ≡ None → rows (with_promotion s steps).tree ≡ rows_moved_up (rows s.tree) steps)
 
 -- In an annotated study each node has the faults of its block of rows: those of the rows that solution steps join to the block's first.
 abbrev pub FaultsAreOfRows : Type 0

@@ -104,19 +104,19 @@ module _ {A : Type 0} where
   is_of_device OutOfMemory = false
 
 -- a count, increased k times
-abbrev pub counted_times : ℕ → ℕ → ℕ
-counted_times zero n = n
-counted_times (suc k) n = counted_times k (counted n)
+abbrev pub counted_up_by : ℕ → ℕ → ℕ
+counted_up_by zero n = n
+counted_up_by (suc k) n = counted_up_by k (counted n)
 
 -- values were probed up to one that could not be read, after some that were; or none was probed
 abbrev pub HasStopped : Bool → ℕ → ℕ → ℕ → Type 0
-HasStopped true n old new = (k : ℕ) × (k < n) × (new ≡ counted_times (suc k) old)
+HasStopped true n old new = (k : ℕ) × (k < n) × (new ≡ counted_up_by (suc k) old)
 HasStopped false n old new = new ≡ old
 
 module _ {T A : Type 0} where
   -- the number of probes: all n; or at least one and at most n if a value could not be read; or none if the edit was refused before
   abbrev pub HasAsked : ℕ → Result T (Refusal A) → ℕ → ℕ → Type 0
-  HasAsked n (Ok x) old new = new ≡ counted_times n old
+  HasAsked n (Ok x) old new = new ≡ counted_up_by n old
   HasAsked n (Err e) old new = HasStopped (is_of_tables e) n old new
 
   -- the count of failures rises exactly if the refusal is a device's

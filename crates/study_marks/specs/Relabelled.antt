@@ -5,45 +5,45 @@ use Rattle.study_moves.specs.Rules.{after}
 use Rattle.study_tree.specs.Forest.{Forest, none, more, nodes_in}
 use Rattle.study_tree.specs.Tree.{Plain}
 use Rattle.study_tree.specs.Changes.{Pass}
-use Rattle.study_marks.specs.declared.label.Label.{Label}
-use Rattle.study_marks.specs.declared.label.Told.{Told}
+use Rattle.study_marks.specs.declared.node_label.NodeLabel.{NodeLabel}
+use Rattle.study_marks.specs.declared.node_label.Evaluation.{Evaluation}
 use Rattle.study_marks.specs.declared.mark_rules.Aim.{Aim}
 use Rattle.study_marks.specs.Goals.{hero_moves}
-use Rattle.study_marks.specs.BenchState.{own, faults_below}
+use Rattle.study_marks.specs.BenchState.{own_fault, faults_below}
 use Rattle.study_marks.specs.FaultSums.{counted_faults}
 use Rattle.study_marks.specs.Queries.{asked_at}
-use Rattle.study_marks.specs.Told.{IsToldOf}
+use Rattle.study_marks.specs.Evaluated.{IsEvaluationOf}
 
 -- the list's evaluation of node n; the node's present one if the list is shorter
-abbrev pub told_in : List Told → ℕ → Told → Told
-told_in all n t = slice_index_or all n t
+abbrev pub evaluation_in : List Evaluation → ℕ → Evaluation → Evaluation
+evaluation_in all n t = slice_index_or all n t
 
 -- the same sibling nodes with the list's evaluations; the first of them is node n
-abbrev pub retold : List Told → ℕ → Forest Told → Forest Told
-retold all n none = none
-retold all n (more m t b r) = more m (told_in all n t) (retold all (n + 1) b) (retold all (n + 1 + nodes_in b) r)
+abbrev pub reevaluated : List Evaluation → ℕ → Forest Evaluation → Forest Evaluation
+reevaluated all n none = none
+reevaluated all n (more m t b r) = more m (evaluation_in all n t) (reevaluated all (n + 1) b) (reevaluated all (n + 1 + nodes_in b) r)
 
 -- the tree with the list's evaluations of its nodes; the root is node 0
-abbrev pub retold_tree : List Told → Plain Told → Plain Told
-retold_tree all t = record { label = told_in all 0 t.label; below = retold all 1 t.below }
+abbrev pub reevaluated_tree : List Evaluation → Plain Evaluation → Plain Evaluation
+reevaluated_tree all t = record { label = evaluation_in all 0 t.label; below = reevaluated all 1 t.below }
 
 -- the same nodes with their faults; their moves are made at depth d at the node with the evaluation q
-abbrev pub refreshed : List Told → Aim → ℕ → ℕ → Told → Forest Label → Forest Label
+abbrev pub refreshed : List Evaluation → Aim → ℕ → ℕ → Evaluation → Forest NodeLabel → Forest NodeLabel
 refreshed all a d n q none = none
 refreshed all a d n q (more m l b r) =
     more m
     (record {
-      told = told_in all n l.told;
-      faults = own a d q (told_in all n l.told).value + faults_below
-          (hero_moves a (d + 1)) (refreshed all a (d + 1) (n + 1) (told_in all n l.told) b);
+      told = evaluation_in all n l.told;
+      faults = own_fault a d q (evaluation_in all n l.told).value + faults_below
+          (hero_moves a (d + 1)) (refreshed all a (d + 1) (n + 1) (evaluation_in all n l.told) b);
     })
-    (refreshed all a (d + 1) (n + 1) (told_in all n l.told) b) (refreshed all a d (n + 1 + nodes_in b) q r)
+    (refreshed all a (d + 1) (n + 1) (evaluation_in all n l.told) b) (refreshed all a d (n + 1 + nodes_in b) q r)
 
 -- `refreshed`, as labels are written one after the other: a node begins with its own faults, and each child adds its count
-abbrev pub refreshing : List Told → Aim → Pass Label
+abbrev pub refreshing : List Evaluation → Aim → Pass NodeLabel
 refreshing all a = record {
-  begun = λ l. record { told = told_in all 0 l.told; faults = 0 };
-  entered = λ d n q l. record { told = told_in all n l.told; faults = own a d q.told (told_in all n l.told).value };
+  begun = λ l. record { told = evaluation_in all 0 l.told; faults = 0 };
+  entered = λ d n q l. record { told = evaluation_in all n l.told; faults = own_fault a d q.told (evaluation_in all n l.told).value };
   joined = λ d k q l. record { told = q.told; faults = min (q.faults + counted_faults (hero_moves a d) k l.faults) (2 ^ 32 - 1) };
 }
 
@@ -64,8 +64,8 @@ asked_each [] = []
 asked_each (p ∷ ps) = asked_at p ++ asked_each ps
 
 -- the evaluation of each of these positions
-abbrev pub AreToldOf : List Position → List Told → Type 0
+abbrev pub AreToldOf : List Position → List Evaluation → Type 0
 AreToldOf [] [] = Unit {0}
 AreToldOf [] (t ∷ ts) = ⊥
 AreToldOf (p ∷ ps) [] = ⊥
-AreToldOf (p ∷ ps) (t ∷ ts) = IsToldOf p t × AreToldOf ps ts
+AreToldOf (p ∷ ps) (t ∷ ts) = IsEvaluationOf p t × AreToldOf ps ts

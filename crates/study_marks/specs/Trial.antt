@@ -10,10 +10,10 @@ use Rattle.study_marks.specs.declared.refusal.Refusal.TheVariants.{NoSuchNode, I
 use Rattle.study_marks.specs.Study.{Study, position_at}
 use Rattle.study_marks.specs.Goals.{aim_of}
 use Rattle.study_marks.specs.Annotated.{AreAnnotated}
-use Rattle.study_marks.specs.Edits.{Plainly}
+use Rattle.study_marks.specs.Edits.{PlainStudy}
 
 -- the first reason not to try a move, apart from tables and memory
-abbrev pub trial_refusal : {A : Type 0} → Plainly → List ℕ → Move → Option (Refusal A)
+abbrev pub trial_refusal : {A : Type 0} → PlainStudy → List ℕ → Move → Option (Refusal A)
 trial_refusal s steps m =
     if not (has_spot s.tree steps) then Some NoSuchNode
     else (if not (is_legal (position_at s steps) m) then Some IllegalMove else None)

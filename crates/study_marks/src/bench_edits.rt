@@ -8,15 +8,15 @@ ghost use Rattle.study_tree.specs.Forest.{none};
 ghost use Rattle.study_tree.specs.Edits.{children_at};
 ghost use Rattle.study_tree.specs.Tree.{size_of};
 ghost use Rattle.study_marks.specs.Bench.{text_of};
-ghost use Rattle.study_marks.specs.Study.{plain_study, position_at, place_of_tag, IsPlayable};
+ghost use Rattle.study_marks.specs.Study.{plain_study, position_at, tag_index, IsPlayable};
 ghost use Rattle.study_tree.specs.Tree.{with_child, without, moved_up};
-ghost use Rattle.study_marks.specs.declared.label.Told.{Told as ATold};
-ghost use Rattle.study_marks.specs.BenchState.{marked, told_tree, IsKeptRight};
-ghost use Rattle.study_marks.specs.Queries.{asked_at, positions_asked, is_of_tables, AllHeld, IsOutside, HasAsked, failures_after, counted_times};
+ghost use Rattle.study_marks.specs.declared.node_label.Evaluation.{Evaluation as ATold};
+ghost use Rattle.study_marks.specs.BenchState.{marked, evaluation_tree, IsKeptRight};
+ghost use Rattle.study_marks.specs.Queries.{asked_at, positions_asked, is_of_tables, AllHeld, IsOutside, HasAsked, failures_after, counted_up_by};
 ghost use Rattle.study_marks.specs.EditLists.{AreKeptAfter, IsShiftRefusal, IsStopped, TellsStop, questions_of, AreAccepted, labels_by, HasAskedBy};
 ghost use Rattle.study_marks.specs.EditLists.{failures_stopped, IsApplied};
-ghost use Rattle.study_marks.specs.Edits.{broken_from, positioned, shifted, stipulated, inserted, deleted};
-ghost use Rattle.study_marks.specs.Edits.{promoted, tagged, edited_by, accepted_of, insert_refusal, delete_refusal};
+ghost use Rattle.study_marks.specs.Edits.{first_illegal_from, with_position, with_start, with_stipulation, with_insertion, with_deletion};
+ghost use Rattle.study_marks.specs.Edits.{with_promotion, with_tag, edited_by, accepted_of, insert_refusal, delete_refusal};
 ghost use Rattle.study_marks.specs.Edits.{promote_refusal, shift_refusal, is_printable, is_tag_text, tag_refusal};
 ghost use Rattle.std.specs.List.{list_all};
 ghost use Rattle.study_marks.specs.Answers.{TellsFirstFault, IsUndamaged};
@@ -26,8 +26,8 @@ use crate::child_by_move::find_child;
 use crate::edit::{Edit, Stopped};
 use crate::evaluate::evaluate;
 use crate::evaluate_all::evaluate_all;
-use crate::label::Label;
 use crate::mark_rules::aim_of;
+use crate::node_label::NodeLabel;
 use crate::refusal::Refusal;
 use crate::relabel::{find_illegal_move, relabel_all};
 use crate::stipulation::Stipulation;
@@ -74,7 +74,7 @@ impl<'a, A: Allocator> Bench<'a, A> {
             start,
             stipulation,
             tags: [None; 6],
-            tree: Tree::new(alloc, Label { told, faults: 0 }),
+            tree: Tree::new(alloc, NodeLabel { told, faults: 0 }),
         })
     }
 
@@ -89,7 +89,7 @@ impl<'a, A: Allocator> Bench<'a, A> {
         ensures no_damage { V.is_honest values.old → IfErr result IsUndamaged }
         ensures first { IfErr result (TellsFirstFault V.gives V.may_fail V.asked_of values.old (asked_at start.position) values.new) }
         ensures found { OnOk result (AllHeld (V.held values.old) (asked_at start.position)) }
-        ensures edited { OnOk result (plain_study (marked self.new) ≡ positioned (plain_study (marked self.old)) start) }
+        ensures edited { OnOk result (plain_study (marked self.new) ≡ with_position (plain_study (marked self.old)) start) }
         ensures right { V.is_honest values.old → OnOk result (IsKeptRight self.new) }
         ensures relabelled { OnOk result (self.new.relabelled ≡ 1) }
         ensures asked { HasAsked (length (asked_at start.position)) result (V.asked_of values.old) (V.asked_of values.new) }
@@ -100,7 +100,7 @@ impl<'a, A: Allocator> Bench<'a, A> {
         ensures same { OnErr result (self.new ≡ self.old) }
     {
         let told = evaluate(&start.position, values)?;
-        self.tree = Tree::new(self.alloc, Label { told, faults: 0 });
+        self.tree = Tree::new(self.alloc, NodeLabel { told, faults: 0 });
         self.start = start;
         Ok(())
     }
@@ -111,17 +111,17 @@ impl<'a, A: Allocator> Bench<'a, A> {
         start: Start,
         values: &mut V,
     ) -> Result<(), Refusal<'a, A>>
-        ensures broken { OnOk result (broken_from 0 start.position (marked self.old).tree.below ≡ None) }
-        ensures refusal { IfErr result (IsShiftRefusal (V.held values.old) (positions_asked (shifted (plain_study (marked self.old)) start))
+        ensures broken { OnOk result (first_illegal_from 0 start.position (marked self.old).tree.below ≡ None) }
+        ensures refusal { IfErr result (IsShiftRefusal (V.held values.old) (positions_asked (with_start (plain_study (marked self.old)) start))
             (shift_refusal (plain_study (marked self.old)) start)) }
-        ensures edited { OnOk result (plain_study (marked self.new) ≡ shifted (plain_study (marked self.old)) start) }
+        ensures edited { OnOk result (plain_study (marked self.new) ≡ with_start (plain_study (marked self.old)) start) }
         ensures right { V.is_honest values.old → OnOk result (IsKeptRight self.new) }
-        ensures relabelled { OnOk result (self.new.relabelled ≡ counted_times (size_of (marked self.old).tree) self.old.relabelled) }
+        ensures relabelled { OnOk result (self.new.relabelled ≡ counted_up_by (size_of (marked self.old).tree) self.old.relabelled) }
         ensures no_damage { V.is_honest values.old → IfErr result IsUndamaged }
         ensures first { IfErr result (TellsFirstFault V.gives V.may_fail V.asked_of values.old
-            (positions_asked (shifted (plain_study (marked self.old)) start)) values.new) }
-        ensures found { OnOk result (AllHeld (V.held values.old) (positions_asked (shifted (plain_study (marked self.old)) start))) }
-        ensures asked { HasAsked (length (positions_asked (shifted (plain_study (marked self.old)) start))) result
+            (positions_asked (with_start (plain_study (marked self.old)) start)) values.new) }
+        ensures found { OnOk result (AllHeld (V.held values.old) (positions_asked (with_start (plain_study (marked self.old)) start))) }
+        ensures asked { HasAsked (length (positions_asked (with_start (plain_study (marked self.old)) start))) result
             (V.asked_of values.old) (V.asked_of values.new) }
         ensures failures { V.failed_of values.new ≡ failures_after result (V.failed_of values.old) }
         ensures honest { V.is_honest values.old → V.is_honest values.new }
@@ -150,11 +150,11 @@ impl<'a, A: Allocator> Bench<'a, A> {
         ensures first { IfErr result (TellsFirstFault V.gives V.may_fail V.asked_of values.old
             (asked_at (after (position_at (marked self.old) path.now) m)) values.new) }
         ensures found { OnOk result (AllHeld (V.held values.old) (asked_at (after (position_at (marked self.old) path.now) m))) }
-        ensures edited { OnOk result (plain_study (marked self.new) ≡ inserted (plain_study (marked self.old)) path.now m) }
-        ensures kept { OnOk result ((told : ATold) × (told_tree self.new.study.tree ≡ with_child (told_tree self.old.study.tree) path.now m told)) }
+        ensures edited { OnOk result (plain_study (marked self.new) ≡ with_insertion (plain_study (marked self.old)) path.now m) }
+        ensures kept { OnOk result ((told : ATold) × (evaluation_tree self.new.study.tree ≡ with_child (evaluation_tree self.old.study.tree) path.now m told)) }
         ensures place { IfOk result (λ k. k ≡ children_at (marked self.old).tree.below path.now) }
         ensures right { V.is_honest values.old → IsKeptRight self.old → OnOk result (IsKeptRight self.new) }
-        ensures relabelled { OnOk result (self.new.relabelled ≡ counted_times (length path.now + 2) self.old.relabelled) }
+        ensures relabelled { OnOk result (self.new.relabelled ≡ counted_up_by (length path.now + 2) self.old.relabelled) }
         ensures asked { HasAsked (length (asked_at (after (position_at (marked self.old) path.now) m))) result (V.asked_of values.old) (V.asked_of values.new) }
         ensures failures { V.failed_of values.new ≡ failures_after result (V.failed_of values.old) }
         ensures honest { V.is_honest values.old → V.is_honest values.new }
@@ -175,10 +175,10 @@ impl<'a, A: Allocator> Bench<'a, A> {
 
     /// Sets another stipulation.
     pub fn set_stipulation(&mut self, stipulation: Stipulation)
-        ensures edited { plain_study (marked self.new) ≡ stipulated (plain_study (marked self.old)) stipulation }
-        ensures kept { told_tree self.new.study.tree ≡ told_tree self.old.study.tree }
+        ensures edited { plain_study (marked self.new) ≡ with_stipulation (plain_study (marked self.old)) stipulation }
+        ensures kept { evaluation_tree self.new.study.tree ≡ evaluation_tree self.old.study.tree }
         ensures right { IsKeptRight self.old → IsKeptRight self.new }
-        ensures relabelled { self.new.relabelled ≡ counted_times (size_of (marked self.old).tree) self.old.relabelled }
+        ensures relabelled { self.new.relabelled ≡ counted_up_by (size_of (marked self.old).tree) self.old.relabelled }
     {
         let aim = aim_of(&stipulation, self.start.position.to_move());
         relabel_all(&aim, &mut self.tree, &[]);
@@ -188,10 +188,10 @@ impl<'a, A: Allocator> Bench<'a, A> {
     /// Removes the node, with all nodes below it.
     pub fn delete(&mut self, path: &Path<'a, A>) -> Result<(), Refusal<'a, A>>
         ensures refusal { MatchOption (delete_refusal (plain_study (marked self.old)) path.now) (IsOk result) (λ fault. result ≡ Err fault) }
-        ensures edited { OnOk result (plain_study (marked self.new) ≡ deleted (plain_study (marked self.old)) path.now) }
-        ensures kept { OnOk result (told_tree self.new.study.tree ≡ without (told_tree self.old.study.tree) path.now) }
+        ensures edited { OnOk result (plain_study (marked self.new) ≡ with_deletion (plain_study (marked self.old)) path.now) }
+        ensures kept { OnOk result (evaluation_tree self.new.study.tree ≡ without (evaluation_tree self.old.study.tree) path.now) }
         ensures right { IsKeptRight self.old → OnOk result (IsKeptRight self.new) }
-        ensures relabelled { OnOk result (self.new.relabelled ≡ counted_times (length path.now) self.old.relabelled) }
+        ensures relabelled { OnOk result (self.new.relabelled ≡ counted_up_by (length path.now) self.old.relabelled) }
         ensures same { OnErr result (self.new ≡ self.old) }
     {
         let aim = aim_of(&self.stipulation, self.start.position.to_move());
@@ -202,10 +202,10 @@ impl<'a, A: Allocator> Bench<'a, A> {
     /// Exchanges the node with the one before it.
     pub fn promote(&mut self, path: &Path<'a, A>) -> Result<(), Refusal<'a, A>>
         ensures refusal { MatchOption (promote_refusal (plain_study (marked self.old)) path.now) (IsOk result) (λ fault. result ≡ Err fault) }
-        ensures edited { OnOk result (plain_study (marked self.new) ≡ promoted (plain_study (marked self.old)) path.now) }
-        ensures kept { OnOk result (told_tree self.new.study.tree ≡ moved_up (told_tree self.old.study.tree) path.now) }
+        ensures edited { OnOk result (plain_study (marked self.new) ≡ with_promotion (plain_study (marked self.old)) path.now) }
+        ensures kept { OnOk result (evaluation_tree self.new.study.tree ≡ moved_up (evaluation_tree self.old.study.tree) path.now) }
         ensures right { IsKeptRight self.old → OnOk result (IsKeptRight self.new) }
-        ensures relabelled { OnOk result (self.new.relabelled ≡ counted_times (length path.now) self.old.relabelled) }
+        ensures relabelled { OnOk result (self.new.relabelled ≡ counted_up_by (length path.now) self.old.relabelled) }
         ensures same { OnErr result (self.new ≡ self.old) }
     {
         let aim = aim_of(&self.stipulation, self.start.position.to_move());
@@ -216,7 +216,7 @@ impl<'a, A: Allocator> Bench<'a, A> {
     /// Sets another text of a tag.
     pub fn set_tag(&mut self, name: TagName, text: &str) -> Result<(), Refusal<'a, A>>
         ensures refusal { MatchOption (tag_refusal text.now) (IsOk result) (λ fault. result ≡ Err fault) }
-        ensures edited { OnOk result (plain_study (marked self.new) ≡ tagged (plain_study (marked self.old)) name text.now) }
+        ensures edited { OnOk result (plain_study (marked self.new) ≡ with_tag (plain_study (marked self.old)) name text.now) }
         ensures kept { self.new.study.tree ≡ self.old.study.tree }
         ensures right { IsKeptRight self.old → OnOk result (IsKeptRight self.new) }
         ensures relabelled { self.new.relabelled ≡ self.old.relabelled }
@@ -239,7 +239,7 @@ impl<'a, A: Allocator> Bench<'a, A> {
         ensures refusal { IfErr result (IsOutside (V.held values.old) (positions_asked (marked self.old))) }
         ensures study { OnOk result (plain_study (marked self.new) ≡ plain_study (marked self.old)) }
         ensures right { V.is_honest values.old → OnOk result (IsKeptRight self.new) }
-        ensures relabelled { OnOk result (self.new.relabelled ≡ counted_times (size_of (marked self.old).tree) self.old.relabelled) }
+        ensures relabelled { OnOk result (self.new.relabelled ≡ counted_up_by (size_of (marked self.old).tree) self.old.relabelled) }
         ensures no_damage { V.is_honest values.old → IfErr result IsUndamaged }
         ensures first { IfErr result (TellsFirstFault V.gives V.may_fail V.asked_of values.old (positions_asked (marked self.old)) values.new) }
         ensures found { OnOk result (AllHeld (V.held values.old) (positions_asked (marked self.old))) }
@@ -265,7 +265,7 @@ impl<'a, A: Allocator> Bench<'a, A> {
         ensures first { IfErr result (TellsStop V.gives V.may_fail V.asked_of values.old values.new (plain_study (marked self.old)) edits.now) }
         ensures accepted { AreAccepted (V.held values.old) (plain_study (marked self.old)) (accepted_of result edits.now) }
         ensures edited { plain_study (marked self.new) ≡ edited_by (plain_study (marked self.old)) (accepted_of result edits.now) }
-        ensures kept { AreKeptAfter (told_tree self.old.study.tree) (accepted_of result edits.now) (told_tree self.new.study.tree) }
+        ensures kept { AreKeptAfter (evaluation_tree self.old.study.tree) (accepted_of result edits.now) (evaluation_tree self.new.study.tree) }
         ensures right { V.is_honest values.old → IsKeptRight self.old → IsKeptRight self.new }
         ensures relabelled { self.new.relabelled ≡ labels_by (plain_study (marked self.old)) (accepted_of result edits.now) self.old.relabelled }
         ensures asked { HasAskedBy (plain_study (marked self.old)) edits.now result (V.asked_of values.old) (V.asked_of values.new) }
@@ -306,15 +306,15 @@ impl<'a, A: Allocator> Bench<'a, A> {
     /// Sets another start, from which each move of the tree is legal, and keeps the tree: probes every value, then writes all labels.
     fn annotate<V: Values>(&mut self, start: Start, values: &mut V) -> Result<(), Refusal<'a, A>>
         requires playable { IsPlayable start.position self.old.study.tree.below }
-        ensures refusal { IfErr result (IsOutside (V.held values.old) (positions_asked (shifted (plain_study (marked self.old)) start))) }
+        ensures refusal { IfErr result (IsOutside (V.held values.old) (positions_asked (with_start (plain_study (marked self.old)) start))) }
         ensures no_damage { V.is_honest values.old → IfErr result IsUndamaged }
         ensures first { IfErr result (TellsFirstFault V.gives V.may_fail V.asked_of values.old
-            (positions_asked (shifted (plain_study (marked self.old)) start)) values.new) }
-        ensures found { OnOk result (AllHeld (V.held values.old) (positions_asked (shifted (plain_study (marked self.old)) start))) }
-        ensures edited { OnOk result (plain_study (marked self.new) ≡ shifted (plain_study (marked self.old)) start) }
+            (positions_asked (with_start (plain_study (marked self.old)) start)) values.new) }
+        ensures found { OnOk result (AllHeld (V.held values.old) (positions_asked (with_start (plain_study (marked self.old)) start))) }
+        ensures edited { OnOk result (plain_study (marked self.new) ≡ with_start (plain_study (marked self.old)) start) }
         ensures right { V.is_honest values.old → OnOk result (IsKeptRight self.new) }
-        ensures relabelled { OnOk result (self.new.relabelled ≡ counted_times (size_of (marked self.old).tree) self.old.relabelled) }
-        ensures asked { HasAsked (length (positions_asked (shifted (plain_study (marked self.old)) start))) result
+        ensures relabelled { OnOk result (self.new.relabelled ≡ counted_up_by (size_of (marked self.old).tree) self.old.relabelled) }
+        ensures asked { HasAsked (length (positions_asked (with_start (plain_study (marked self.old)) start))) result
             (V.asked_of values.old) (V.asked_of values.new) }
         ensures failures { V.failed_of values.new ≡ failures_after result (V.failed_of values.old) }
         ensures honest { V.is_honest values.old → V.is_honest values.new }
@@ -359,7 +359,7 @@ impl<'a, A: Allocator> Bench<'a, A> {
 
 /// Sets the text of a tag.
 fn set_tag_text(tags: &mut [Option<ArrayString<64>>; 6], name: TagName, text: ArrayString<64>)
-    ensures { map text_of tags.new ≡ slice_set (map text_of tags.old) (place_of_tag name) (Some text.bytes) }
+    ensures { map text_of tags.new ≡ slice_set (map text_of tags.old) (tag_index name) (Some text.bytes) }
 {
     tags[tag_place(name)] = Some(text);
 }

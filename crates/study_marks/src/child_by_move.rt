@@ -6,7 +6,7 @@ ghost use Rattle.study_marks.specs.Study.{place_from, place_at};
 ghost use Rattle.study_marks.specs.Bench.{played_by};
 ghost use Rattle.study_marks.specs.FaultSums.{below_at, skipped};
 
-use crate::label::Label;
+use crate::node_label::NodeLabel;
 use arrayvec::ArrayVec;
 use std::alloc::Allocator;
 use study_moves::Move;
@@ -14,7 +14,7 @@ use study_tree::Tree;
 
 /// The move of the node's child at this place, if there is one.
 fn child_move<'a, A: Allocator>(
-    tree: &Tree<'a, Label, A>,
+    tree: &Tree<'a, NodeLabel, A>,
     steps: &[u16],
     place: u16,
 ) -> Option<Move>
@@ -34,7 +34,7 @@ fn child_move<'a, A: Allocator>(
 
 /// The place of the first child with the move, from a place on.
 fn find_from<'a, A: Allocator>(
-    tree: &Tree<'a, Label, A>,
+    tree: &Tree<'a, NodeLabel, A>,
     steps: &[u16],
     m: &Move,
     place: u16,
@@ -63,7 +63,7 @@ fn find_from<'a, A: Allocator>(
 
 /// The place of the node's child with this move, if there is one.
 pub fn find_child<'a, A: Allocator>(
-    tree: &Tree<'a, Label, A>,
+    tree: &Tree<'a, NodeLabel, A>,
     steps: &[u16],
     m: &Move,
 ) -> Option<u16>

@@ -5,15 +5,15 @@ ghost use Rattle.study_material.specs.declared.class.Class.{Class as AClass};
 ghost use Rattle.study_moves.specs.Rules.{is_legal, after};
 ghost use Rattle.study_values.specs.declared.value.Value.{Value as AValue};
 ghost use Rattle.study_marks.specs.Annotated.{AreValuesAfter};
-ghost use Rattle.study_marks.specs.Tally.{tally_of, tallies_joined};
+ghost use Rattle.study_marks.specs.MoveOutcomes.{tally_of, tallies_joined};
 ghost use Rattle.study_marks.specs.Queries.{asked_at, AreTablesHeld};
-ghost use Rattle.study_marks.specs.Told.{IsToldOf, IsUntold, WasAsked, failures_told};
+ghost use Rattle.study_marks.specs.Evaluated.{IsEvaluationOf, IsProbeFaultOf, ProbeCount, failures_of};
 ghost use Rattle.study_values.specs.Values.{IsNotDamage};
 ghost use Rattle.study_values.specs.declared.fault.SourceFault.{SourceFault as ASourceFault};
 ghost use Rattle.study_marks.specs.Answers.{IsFirstFault, WereTold};
 
-use crate::label::Told;
-use crate::tally::Tally;
+use crate::move_outcomes::MoveOutcomes;
+use crate::node_label::Evaluation;
 use study_board::Position;
 use study_moves::{MAX_MOVES, Move, legal_moves, played};
 use study_values::{ProbeFault, Values};
@@ -23,19 +23,19 @@ fn tally_moves<V: Values>(
     p: &Position,
     moves: &[Move],
     values: &mut V,
-    tally: &mut Tally,
+    tally: &mut MoveOutcomes,
 ) -> Result<(), ProbeFault>
     requires legal { All (λ m. is_legal p.now m ≡ true) moves.now }
     requires room { length tally.old.mates + tally.old.draws + length moves.now ≤ MAX_MOVES }
     ensures game { V.is_honest values.old → OnOk result ((all : List AValue) × AreValuesAfter p.now moves.now all
         × (tally.new ≡ tallies_joined tally.old (tally_of all))) }
-    ensures untold { IfErr result (IsUntold (V.held values.old) (map (after p.now) moves.now)) }
+    ensures untold { IfErr result (IsProbeFaultOf (V.held values.old) (map (after p.now) moves.now)) }
     ensures held { OnOk result (AreTablesHeld (V.held values.old) (map (after p.now) moves.now)) }
     ensures told { OnOk result (WereTold V.gives V.may_fail V.asked_of values.old (map (after p.now) moves.now) values.new) }
     ensures no_damage { V.is_honest values.old → IfErr result IsNotDamage }
     ensures first { IfErr result (λ f. IsFirstFault V.gives V.may_fail V.asked_of values.old (map (after p.now) moves.now) f values.new) }
-    ensures asked { WasAsked (length moves.now) (is_ok result) (V.asked_of values.old) (V.asked_of values.new) }
-    ensures failures { V.failed_of values.new ≡ failures_told result (V.failed_of values.old) }
+    ensures asked { ProbeCount (length moves.now) (is_ok result) (V.asked_of values.old) (V.asked_of values.new) }
+    ensures failures { V.failed_of values.new ≡ failures_of result (V.failed_of values.old) }
     ensures honest { V.is_honest values.old → V.is_honest values.new }
     ensures fails_as_before { (c : AClass) (f : ASourceFault) → V.may_fail values.new c f → V.may_fail values.old c f }
     ensures tables { (c : AClass) → V.held values.new c ≡ V.held values.old c }
@@ -56,15 +56,15 @@ fn tally_moves<V: Values>(
 }
 
 /// Evaluates a position: its value, and the values after its legal moves.
-pub fn evaluate<V: Values>(p: &Position, values: &mut V) -> Result<Told, ProbeFault>
-    ensures game { V.is_honest values.old → IfOk result (IsToldOf p.now) }
-    ensures untold { IfErr result (IsUntold (V.held values.old) (asked_at p.now)) }
+pub fn evaluate<V: Values>(p: &Position, values: &mut V) -> Result<Evaluation, ProbeFault>
+    ensures game { V.is_honest values.old → IfOk result (IsEvaluationOf p.now) }
+    ensures untold { IfErr result (IsProbeFaultOf (V.held values.old) (asked_at p.now)) }
     ensures held { OnOk result (AreTablesHeld (V.held values.old) (asked_at p.now)) }
     ensures told { OnOk result (WereTold V.gives V.may_fail V.asked_of values.old (asked_at p.now) values.new) }
     ensures no_damage { V.is_honest values.old → IfErr result IsNotDamage }
     ensures first { IfErr result (λ f. IsFirstFault V.gives V.may_fail V.asked_of values.old (asked_at p.now) f values.new) }
-    ensures asked { WasAsked (length (asked_at p.now)) (is_ok result) (V.asked_of values.old) (V.asked_of values.new) }
-    ensures failures { V.failed_of values.new ≡ failures_told result (V.failed_of values.old) }
+    ensures asked { ProbeCount (length (asked_at p.now)) (is_ok result) (V.asked_of values.old) (V.asked_of values.new) }
+    ensures failures { V.failed_of values.new ≡ failures_of result (V.failed_of values.old) }
     ensures honest { V.is_honest values.old → V.is_honest values.new }
     ensures fails_as_before { (c : AClass) (f : ASourceFault) → V.may_fail values.new c f → V.may_fail values.old c f }
     ensures tables { (c : AClass) → V.held values.new c ≡ V.held values.old c }
@@ -75,10 +75,10 @@ pub fn evaluate<V: Values>(p: &Position, values: &mut V) -> Result<Told, ProbeFa
         Err(fault) => Err(fault),
         Ok(value) => {
             let moves = legal_moves(p);
-            let mut tally = Tally::new();
+            let mut tally = MoveOutcomes::new();
             match tally_moves(p, moves.as_slice(), values, &mut tally) {
                 Err(fault) => Err(fault),
-                Ok(_) => Ok(Told { value, tally }),
+                Ok(_) => Ok(Evaluation { value, tally }),
             }
         }
     }

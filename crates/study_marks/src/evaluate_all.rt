@@ -2,23 +2,23 @@
 ghost use Rattle.std.specs.Prelude.{◌≡◌, ◌+◌, ◌<◌, ◌≤◌, ◌++◌, ◌∷◌, [], List, OnOk, IfOk, IfErr, length, is_ok, vec_len, vec_capacity};
 ghost use Rattle.study_material.specs.declared.class.Class.{Class as AClass};
 ghost use Rattle.study_tree.specs.Tree.{plain_tree};
-ghost use Rattle.study_marks.specs.declared.label.Told.{Told as ATold};
+ghost use Rattle.study_marks.specs.declared.node_label.Evaluation.{Evaluation as ATold};
 ghost use Rattle.study_marks.specs.Study.{IsPlayable};
 ghost use Rattle.study_marks.specs.Queries.{asked_at, asked_below, AreTablesHeld, IsOutside, HasAsked, failures_after};
 ghost use Rattle.study_values.specs.Values.{IsNotDamage};
 ghost use Rattle.study_values.specs.declared.fault.SourceFault.{SourceFault as ASourceFault};
 ghost use Rattle.study_marks.specs.Answers.{IsUndamaged, WereTold, IsFirstFault, TellsFirstFault};
-ghost use Rattle.study_marks.specs.Told.{IsToldOf, AllAreTold, IsUntold, WasAsked, failures_told};
-ghost use Rattle.study_marks.specs.BenchState.{told_tree};
-ghost use Rattle.study_marks.specs.Relabelled.{positions_in, asked_each, AreToldOf, retold_tree};
+ghost use Rattle.study_marks.specs.Evaluated.{IsEvaluationOf, AllAreEvaluated, IsProbeFaultOf, ProbeCount, failures_of};
+ghost use Rattle.study_marks.specs.BenchState.{evaluation_tree};
+ghost use Rattle.study_marks.specs.Relabelled.{positions_in, asked_each, AreToldOf, reevaluated_tree};
 
 use crate::evaluate::evaluate;
-use crate::label::{Label, Told};
+use crate::node_label::{Evaluation, NodeLabel};
 use crate::refusal::Refusal;
 use std::alloc::{AllocError, Allocator};
 use study_board::Position;
 use study_moves::played;
-use study_tree::{Branch, Tree};
+use study_tree::{Subtree, Tree};
 use study_values::{ProbeFault, Values};
 
 /// Appends a position to the list.
@@ -36,7 +36,7 @@ fn push_position<'a, A: Allocator>(
 
 /// Lists the positions of all nodes below the node, which has this position, in written order.
 fn list_positions_below<'t, 'a, A: Allocator>(
-    node: &Branch<'t, 'a, Label, A>,
+    node: &Subtree<'t, 'a, NodeLabel, A>,
     position: &Position,
     all: &mut Vec<Position, &'a A>,
 ) -> Result<(), AllocError>
@@ -60,7 +60,7 @@ fn list_positions_below<'t, 'a, A: Allocator>(
 /// The positions of all nodes in written order; this is the root's.
 fn list_positions<'a, A: Allocator>(
     alloc: &'a A,
-    tree: &Tree<'a, Label, A>,
+    tree: &Tree<'a, NodeLabel, A>,
     position: &Position,
 ) -> Result<Vec<Position, &'a A>, AllocError>
     requires playable { IsPlayable position.now (plain_tree tree.now).below }
@@ -76,17 +76,17 @@ fn list_positions<'a, A: Allocator>(
 fn evaluate_one<'a, A: Allocator, V: Values>(
     p: &Position,
     values: &mut V,
-    all: &mut Vec<Told, &'a A>,
+    all: &mut Vec<Evaluation, &'a A>,
 ) -> Result<(), ProbeFault>
     requires room { vec_len all.old < vec_capacity all.old }
-    ensures game { V.is_honest values.old → OnOk result ((t : ATold) × IsToldOf p.now t × (all.new.items ≡ all.old.items ++ t ∷ [])) }
-    ensures untold { IfErr result (IsUntold (V.held values.old) (asked_at p.now)) }
+    ensures game { V.is_honest values.old → OnOk result ((t : ATold) × IsEvaluationOf p.now t × (all.new.items ≡ all.old.items ++ t ∷ [])) }
+    ensures untold { IfErr result (IsProbeFaultOf (V.held values.old) (asked_at p.now)) }
     ensures held { OnOk result (AreTablesHeld (V.held values.old) (asked_at p.now)) }
     ensures told { OnOk result (WereTold V.gives V.may_fail V.asked_of values.old (asked_at p.now) values.new) }
     ensures no_damage { V.is_honest values.old → IfErr result IsNotDamage }
     ensures first { IfErr result (λ f. IsFirstFault V.gives V.may_fail V.asked_of values.old (asked_at p.now) f values.new) }
-    ensures asked { WasAsked (length (asked_at p.now)) (is_ok result) (V.asked_of values.old) (V.asked_of values.new) }
-    ensures failures { V.failed_of values.new ≡ failures_told result (V.failed_of values.old) }
+    ensures asked { ProbeCount (length (asked_at p.now)) (is_ok result) (V.asked_of values.old) (V.asked_of values.new) }
+    ensures failures { V.failed_of values.new ≡ failures_of result (V.failed_of values.old) }
     ensures honest { V.is_honest values.old → V.is_honest values.new }
     ensures fails_as_before { (c : AClass) (f : ASourceFault) → V.may_fail values.new c f → V.may_fail values.old c f }
     ensures tables { (c : AClass) → V.held values.new c ≡ V.held values.old c }
@@ -99,19 +99,19 @@ fn evaluate_one<'a, A: Allocator, V: Values>(
 }
 
 /// Evaluates these positions, one after the other; the list must have room for all.
-fn evaluate_each<'a, A: Allocator, V: Values>(
+fn evaluate_positions<'a, A: Allocator, V: Values>(
     positions: &[Position],
     values: &mut V,
-    all: &mut Vec<Told, &'a A>,
+    all: &mut Vec<Evaluation, &'a A>,
 ) -> Result<(), ProbeFault>
     requires room { vec_len all.old + length positions.now ≤ vec_capacity all.old }
     ensures game { V.is_honest values.old → OnOk result ((told : List ATold) × AreToldOf positions.now told × (all.new.items ≡ all.old.items ++ told)) }
-    ensures untold { IfErr result (IsUntold (V.held values.old) (asked_each positions.now)) }
+    ensures untold { IfErr result (IsProbeFaultOf (V.held values.old) (asked_each positions.now)) }
     ensures held { OnOk result (AreTablesHeld (V.held values.old) (asked_each positions.now)) }
     ensures no_damage { V.is_honest values.old → IfErr result IsNotDamage }
     ensures first { IfErr result (λ f. IsFirstFault V.gives V.may_fail V.asked_of values.old (asked_each positions.now) f values.new) }
-    ensures asked { WasAsked (length (asked_each positions.now)) (is_ok result) (V.asked_of values.old) (V.asked_of values.new) }
-    ensures failures { V.failed_of values.new ≡ failures_told result (V.failed_of values.old) }
+    ensures asked { ProbeCount (length (asked_each positions.now)) (is_ok result) (V.asked_of values.old) (V.asked_of values.new) }
+    ensures failures { V.failed_of values.new ≡ failures_of result (V.failed_of values.old) }
     ensures honest { V.is_honest values.old → V.is_honest values.new }
     ensures fails_as_before { (c : AClass) (f : ASourceFault) → V.may_fail values.new c f → V.may_fail values.old c f }
     ensures tables { (c : AClass) → V.held values.new c ≡ V.held values.old c }
@@ -125,12 +125,12 @@ fn evaluate_each<'a, A: Allocator, V: Values>(
 /// Evaluates all nodes of the tree, whose root has this position, in written order. All memory is allocated before the first value is probed.
 pub fn evaluate_all<'a, A: Allocator, V: Values>(
     alloc: &'a A,
-    tree: &Tree<'a, Label, A>,
+    tree: &Tree<'a, NodeLabel, A>,
     position: &Position,
     values: &mut V,
-) -> Result<Vec<Told, &'a A>, Refusal<'a, A>>
+) -> Result<Vec<Evaluation, &'a A>, Refusal<'a, A>>
     requires playable { IsPlayable position.now (plain_tree tree.now).below }
-    ensures game { V.is_honest values.old → IfOk result (λ all. AllAreTold position.now (retold_tree all.items (told_tree (plain_tree tree.now)))) }
+    ensures game { V.is_honest values.old → IfOk result (λ all. AllAreEvaluated position.now (reevaluated_tree all.items (evaluation_tree (plain_tree tree.now)))) }
     ensures refusal { IfErr result (IsOutside (V.held values.old) (asked_at position.now ++ asked_below position.now (plain_tree tree.now).below)) }
     ensures no_damage { V.is_honest values.old → IfErr result IsUndamaged }
     ensures first { IfErr result (TellsFirstFault V.gives V.may_fail V.asked_of values.old
@@ -151,6 +151,6 @@ pub fn evaluate_all<'a, A: Allocator, V: Values>(
         Err(_) => return Err(Refusal::OutOfMemory),
         Ok(all) => all,
     };
-    evaluate_each(positions.as_slice(), values, &mut all)?;
+    evaluate_positions(positions.as_slice(), values, &mut all)?;
     Ok(all)
 }

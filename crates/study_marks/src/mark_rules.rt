@@ -4,12 +4,12 @@ ghost use Rattle.std.specs.List.{count_by};
 ghost use Rattle.study_board.specs.Men.{same_side};
 ghost use Rattle.study_marks.specs.Goals.{hero_moves, hero_mates, hero_loses, plies_of, holds};
 ghost use Rattle.study_marks.specs.Marks.{only_or_dual, is_fault};
-ghost use Rattle.study_marks.specs.BenchState.{count_holding, kept_mark, own};
+ghost use Rattle.study_marks.specs.BenchState.{count_holding, mark_by_label, own_fault};
 
-use crate::label::Told;
 use crate::mark::MoveMark;
+use crate::move_outcomes::MoveOutcomes;
+use crate::node_label::Evaluation;
 use crate::stipulation::{Goal, MateMoves, Stipulation};
-use crate::tally::Tally;
 use study_board::Side;
 use study_moves::MAX_MOVES;
 use study_values::Value;
@@ -74,7 +74,7 @@ fn plies_of(hero_first: bool, moves: MateMoves) -> usize
 }
 
 /// Whether so many plies after this depth are within the limit.
-fn within(depth: usize, plies: u8, limit: usize) -> bool
+fn is_within(depth: usize, plies: u8, limit: usize) -> bool
     ensures { result ≡ nat_le (depth + plies) limit }
 {
     depth <= limit && plies as usize <= limit - depth
@@ -91,7 +91,7 @@ pub fn holds(aim: &Aim, depth: usize, value: Value) -> bool
         Goal::Draw => !hero_loses(hero, value),
         Goal::MateIn(moves) => match hero_mates(hero, value) {
             None => false,
-            Some(plies) => within(depth, plies, plies_of(aim.hero_first, moves)),
+            Some(plies) => is_within(depth, plies, plies_of(aim.hero_first, moves)),
         },
     }
 }
@@ -103,7 +103,7 @@ fn count_within(mates: &[u8], depth: usize, limit: usize) -> usize
 {
     let mut count = 0;
     for plies in mates {
-        if within(depth, *plies, limit) {
+        if is_within(depth, *plies, limit) {
             count += 1;
         }
     }
@@ -111,7 +111,7 @@ fn count_within(mates: &[u8], depth: usize, limit: usize) -> usize
 }
 
 /// The number of tallied moves of the hero that lead to a position at this depth that holds.
-fn count_holding(aim: &Aim, depth: usize, tally: &Tally) -> usize
+fn count_holding(aim: &Aim, depth: usize, tally: &MoveOutcomes) -> usize
     ensures value { result ≡ count_holding aim.now.goal aim.now.hero_first depth tally.now }
     ensures few { result ≤ MAX_MOVES }
 {
@@ -139,9 +139,9 @@ pub fn only_or_dual(count: usize) -> MoveMark
 }
 
 /// The mark of a move from a node at this depth to a position with this value.
-pub fn mark_of_move(aim: &Aim, depth: usize, before: &Told, after: Value) -> MoveMark
+pub fn mark_of_move(aim: &Aim, depth: usize, before: &Evaluation, after: Value) -> MoveMark
     requires { depth + 1 < 2 ^ 64 }
-    ensures { result ≡ kept_mark aim.now depth before.now after }
+    ensures { result ≡ mark_by_label aim.now depth before.now after }
 {
     let held = holds(aim, depth, before.value);
     let holds_after = holds(aim, depth + 1, after);
@@ -171,9 +171,9 @@ fn is_fault(mark: MoveMark) -> bool
 }
 
 /// The faults of a node for the move that led to it: 1 or 0.
-pub fn own_faults(aim: &Aim, depth: usize, before: &Told, after: Value) -> u32
+pub fn own_faults(aim: &Aim, depth: usize, before: &Evaluation, after: Value) -> u32
     requires { depth + 1 < 2 ^ 64 }
-    ensures value { result ≡ own aim.now depth before.now after }
+    ensures value { result ≡ own_fault aim.now depth before.now after }
     ensures few { result ≤ 1 }
 {
     if hero_moves(aim, depth) && is_fault(mark_of_move(aim, depth, before, after)) {

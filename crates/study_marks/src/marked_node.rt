@@ -3,13 +3,13 @@ ghost use Rattle.std.specs.Prelude.{◌≡◌, [], MatchOption, Some, None};
 ghost use Rattle.study_tree.specs.Edits.{IsWithin, node_in, width};
 ghost use Rattle.study_marks.specs.BenchState.{shown_tree};
 
-use crate::label::Label;
 use crate::mark::Mark;
 use crate::mark_rules::{Aim, mark_of_move};
+use crate::node_label::NodeLabel;
 use std::alloc::Allocator;
 use std::marker::Model;
 use study_moves::Move;
-use study_tree::Branch;
+use study_tree::Subtree;
 
 /// A borrowed node, and all nodes below it, seen as an annotated tree of its own.
 #[derive(Drop)]
@@ -17,7 +17,7 @@ pub struct MarkedNode<'t, 'a, A: Allocator> {
     aim: Aim,
     depth: usize,
     mark: Mark,
-    branch: Branch<'t, 'a, Label, A>,
+    branch: Subtree<'t, 'a, NodeLabel, A>,
 }
 
 impl<'t, 'a, A: Allocator> Model for MarkedNode<'t, 'a, A> {
@@ -46,7 +46,7 @@ pub struct MarkedChild<'t, 'a, A: Allocator> {
 
 impl<'t, 'a, A: Allocator> MarkedNode<'t, 'a, A> {
     /// The root of a tree, to which no move led.
-    pub(crate) fn of_root(aim: Aim, branch: Branch<'t, 'a, Label, A>) -> Self
+    pub(crate) fn of_root(aim: Aim, branch: Subtree<'t, 'a, NodeLabel, A>) -> Self
         requires { IsWithin 256 branch.below }
         ensures { result ≡ shown_tree aim branch.entry }
     {

@@ -4,10 +4,10 @@ ghost use Rattle.study_material.specs.declared.class.Class.{Class as AClass};
 ghost use Rattle.study_values.specs.declared.fault.SourceFault.{SourceFault as ASourceFault};
 ghost use Rattle.study_moves.specs.Rules.{is_legal, after};
 ghost use Rattle.study_tree.specs.Tree.{Spot, has_spot, spot_at};
-ghost use Rattle.study_marks.specs.declared.label.Label.{Label as ALabel};
+ghost use Rattle.study_marks.specs.declared.node_label.NodeLabel.{NodeLabel as ALabel};
 ghost use Rattle.study_marks.specs.Study.{plain_study, position_at};
 ghost use Rattle.study_marks.specs.Goals.{aim_of};
-ghost use Rattle.study_marks.specs.BenchState.{marked, moved_mark, IsKeptRight};
+ghost use Rattle.study_marks.specs.BenchState.{marked, mark_of_new_node, IsKeptRight};
 ghost use Rattle.study_marks.specs.Queries.{AllHeld, IsOutside, HasAsked, failures_after};
 ghost use Rattle.study_marks.specs.Answers.{TellsFirstFault, IsUndamaged};
 ghost use Rattle.study_marks.specs.Trial.{trial_refusal, IsMarkOf};
@@ -77,7 +77,7 @@ impl<'a, A: Allocator> Bench<'a, A> {
         requires short { length steps.now ≤ 256 }
         requires found { IsTrue (has_spot self.now.study.tree steps.now) }
         ensures { (s : Spot ALabel) → spot_at self.now.study.tree steps.now ≡ Some s
-            → result ≡ moved_mark (aim_of self.now.study) (length steps.now) s.label.told after }
+            → result ≡ mark_of_new_node (aim_of self.now.study) (length steps.now) s.label.told after }
     {
         let aim = aim_of(&self.stipulation, self.start.position.to_move());
         match self.tree.node(steps) {

@@ -5,13 +5,13 @@
 #![tactic(auto)]
 
 mod class;
+mod classify;
 mod fault;
 mod laws;
-mod material;
-mod reached;
+mod needed_classes;
 
 pub use class::{CLASS_COUNT, Class};
+pub use classify::class_of;
 pub use fault::ClassFault;
 pub use laws::{moves_lead_into_needs, needs_come_first, positions_have_one_class};
-pub use material::class_of;
-pub use reached::{classes_by_size, needs, order};
+pub use needed_classes::{classes_by_size, needs, order};

@@ -14,7 +14,7 @@ use Rattle.study_board.specs.declared.men.Side.{Side}
 use Rattle.study_board.specs.declared.men.Side.TheVariants.{White, Black}
 use Rattle.study_board.specs.declared.men.Kind.TheVariants.{King, Pawn}
 use Rattle.study_board.specs.Geometry.{file_of, rank_of, ranks_apart}
-use Rattle.study_board.specs.Men.{same_side, other_side, same_kind, is_man, is_attacked, bears_on, is_pawn}
+use Rattle.study_board.specs.Men.{same_side, other_side, same_kind, is_man, is_attacked, attacks_square, is_pawn}
 use Rattle.study_board.specs.Position.{Position, IsValid, IsAscending, man_at, is_occupied}
 use Rattle.study_board.specs.Position.{is_empty, has_man, has_one_king, is_end_pawn, has_end_pawn}
 use Rattle.study_board.specs.Position.{in_check, could_be_passed, passed_possible}
@@ -89,9 +89,9 @@ unfolding in_check
 king_safe men s k e i t = second_false _ _ t (none_among (λ k. is_man s King k && is_attacked men (other_side s) k.at) men k e i)
 
 not_bearing : (men : List Man) (s : Side) (x : ℕ) (man : Man) → is_attacked men s x ≡ false → IsAmong man men
-    → same_side man.side s ≡ true → bears_on men man x ≡ false
+    → same_side man.side s ≡ true → attacks_square men man x ≡ false
 unfolding is_attacked
-not_bearing men s x man e i t = second_false _ _ t (none_among (λ m. same_side m.side s && bears_on men m x) men man e i)
+not_bearing men s x man e i t = second_false _ _ t (none_among (λ m. same_side m.side s && attacks_square men m x) men man e i)
 
 empty_there : (men : List Man) (x : ℕ) (k : Man) → is_empty men x ≡ true → IsAmong k men → k.at ≡ x → ⊥
 unfolding is_occupied

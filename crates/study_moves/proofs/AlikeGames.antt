@@ -2,7 +2,7 @@
 use Rattle.std.proofs.Common.{sym, subst}
 use Rattle.study_board.specs.Position.{Position}
 use Rattle.study_board.proofs.ImagesOfImages.{IsTurnable-from_valid}
-use Rattle.study_moves.specs.EnPassant.{bare}
+use Rattle.study_moves.specs.EnPassant.{without_idle_passed_square}
 use Rattle.study_moves.specs.Alike.{AreAlike}
 use Rattle.study_moves.specs.Laws.{HasSameGame, AgreesAlike}
 use Rattle.study_moves.proofs.ImageMates.{HasSameGame-image}
@@ -15,11 +15,11 @@ pub HasSameGame-alike : (p q : Position) → AreAlike p q → HasSameGame p q
 HasSameGame-alike p q h =
     let b = AgreesWithBare-from_valid p h.left in
     let c = AgreesWithBare-from_valid q h.right in
-    let t = IsTurnable-from_valid h.images.by (bare p) b.valid h.images.admitted in
-    let turned : HasSameGame (bare p) (bare q) =
-    subst (λ (x : Position). HasSameGame (bare p) x) (sym h.images.is)
-    (HasSameGame-image h.images.by (bare p) t) in
-    HasSameGame-joined p (bare p) q b.game (HasSameGame-joined (bare p) (bare q) q turned (HasSameGame-back q (bare q) c.game))
+    let t = IsTurnable-from_valid h.images.by (without_idle_passed_square p) b.valid h.images.admitted in
+    let turned : HasSameGame (without_idle_passed_square p) (without_idle_passed_square q) =
+    subst (λ (x : Position). HasSameGame (without_idle_passed_square p) x) (sym h.images.is)
+    (HasSameGame-image h.images.by (without_idle_passed_square p) t) in
+    HasSameGame-joined p (without_idle_passed_square p) q b.game (HasSameGame-joined (without_idle_passed_square p) (without_idle_passed_square q) q turned (HasSameGame-back q (without_idle_passed_square q) c.game))
 
 pub AgreesAlike-from : (p q : Position) → AreAlike p q → AgreesAlike p q
 AgreesAlike-from p q h =

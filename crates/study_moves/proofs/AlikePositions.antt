@@ -13,7 +13,7 @@ use Rattle.study_moves.specs.declared.moves.Move.{Move}
 use Rattle.study_moves.specs.Rules.{is_legal, after, men_after, survives, moved, reaches_last_rank}
 use Rattle.study_moves.specs.Symmetry.{image_move}
 use Rattle.study_moves.specs.Game.{IsLegal, IsMate}
-use Rattle.study_moves.specs.EnPassant.{has_legal_en_passant, without_passed, bare}
+use Rattle.study_moves.specs.EnPassant.{has_legal_en_passant, without_passed, without_idle_passed_square}
 use Rattle.study_moves.specs.Alike.{AreAlike, Leads}
 use Rattle.study_moves.proofs.NoMoveBetween.{HasMover-from_is_legal}
 use Rattle.study_moves.proofs.RulesOfImages.{after-turned, image_legal, moved_pawn}
@@ -60,7 +60,7 @@ admits_after s p m l a = by_pawn (list_any is_pawn p.men) refl (list_any is_pawn
     by_pawn true e c f k = rw k (or_true (not c))
     by_pawn false e c f k = let none : c ≡ false = sym f ∙ no_pawn_after p m l e in rw none
 
-pub admits_bare : (s : Symmetry) (p : Position) → admits (bare p) s ≡ admits p s
+pub admits_bare : (s : Symmetry) (p : Position) → admits (without_idle_passed_square p) s ≡ admits p s
 admits_bare s p = by_live (has_legal_en_passant p)
   where
     by_live : (b : Bool) → admits (cond b p (without_passed p)) s ≡ admits p s
@@ -68,14 +68,14 @@ admits_bare s p = by_live (has_legal_en_passant p)
     by_live false = refl
 
 pub AreAlike-back : (p q : Position) → AreAlike p q → AreAlike q p
-AreAlike-back p q h = record { left = h.right; right = h.left; images = IsImage-sym (bare p) (bare q) (AgreesWithBare-from_valid p h.left).valid h.images }
+AreAlike-back p q h = record { left = h.right; right = h.left; images = IsImage-sym (without_idle_passed_square p) (without_idle_passed_square q) (AgreesWithBare-from_valid p h.left).valid h.images }
 
 pub AreAlike-mated : (p q : Position) → AreAlike p q → IsMate p → IsMate q
 AreAlike-mated p q h mate =
     let b = AgreesWithBare-from_valid p h.left in
     let c = AgreesWithBare-from_valid q h.right in
-    let t = IsTurnable-from_valid h.images.by (bare p) b.valid h.images.admitted in
-    c.game.mate.1 (subst IsMate (sym h.images.is) (IsMate-image h.images.by (bare p) t (b.game.mate.0 mate)))
+    let t = IsTurnable-from_valid h.images.by (without_idle_passed_square p) b.valid h.images.admitted in
+    c.game.mate.1 (subst IsMate (sym h.images.is) (IsMate-image h.images.by (without_idle_passed_square p) t (b.game.mate.0 mate)))
 
 -- given that a legal move leads to a valid position
 module _ (valid_after : (p : Position) (m : Move) → IsValid p → is_legal p m ≡ true → IsValid (after p m)) where
@@ -85,13 +85,13 @@ module _ (valid_after : (p : Position) (m : Move) → IsValid p → is_legal p m
       let m = l.0 in
       let b = AgreesWithBare-from_valid p h.left in
       let c = AgreesWithBare-from_valid q h.right in
-      let t = IsTurnable-from_valid s (bare p) b.valid h.images.admitted in
-      let lb : IsLegal (bare p) m = b.legal m ∙ l.1 in
+      let t = IsTurnable-from_valid s (without_idle_passed_square p) b.valid h.images.admitted in
+      let lb : IsLegal (without_idle_passed_square p) m = b.legal m ∙ l.1 in
       let m' = image_move s m in
-      let lq : IsLegal (bare q) m' = subst (λ (x : Position). IsLegal x m') (sym h.images.is) (image_legal s (bare p) t m lb) in
+      let lq : IsLegal (without_idle_passed_square q) m' = subst (λ (x : Position). IsLegal x m') (sym h.images.is) (image_legal s (without_idle_passed_square p) t m lb) in
       let l' : IsLegal q m' = sym (c.legal m') ∙ lq in
       let same : after q m' ≡ image s p' =
-      sym (c.after m' l') ∙ ap (λ x. after x m') h.images.is ∙ after-turned s (bare p) t m lb ∙ ap (image s) (b.after m l.1 ∙ l.2) in
+      sym (c.after m' l') ∙ ap (λ x. after x m') h.images.is ∙ after-turned s (without_idle_passed_square p) t m lb ∙ ap (image s) (b.after m l.1 ∙ l.2) in
       let v : IsValid p' = subst IsValid l.2 (valid_after p m h.left l.1) in
       let w : IsValid (after q m') = valid_after q m' h.right l' in
       let a : admits p' s ≡ true = subst (λ (x : Position). admits x s ≡ true) l.2 (admits_after s p m l.1 (sym (admits_bare s p) ∙ h.images.admitted)) in (
@@ -100,6 +100,6 @@ module _ (valid_after : (p : Position) (m : Move) → IsValid p → is_legal p m
         record {
           left = v;
           right = w;
-          images = record { by = s; admitted = admits_bare s p' ∙ a; is = ap bare same ∙ bare_image s p' (IsTurnable-from_valid s p' v a) };
+          images = record { by = s; admitted = admits_bare s p' ∙ a; is = ap without_idle_passed_square same ∙ bare_image s p' (IsTurnable-from_valid s p' v a) };
         },
       )

@@ -17,10 +17,10 @@ use Rattle.study_board.proofs.Faults.{list_any_same, reaches_same, is_occupied_s
 use Rattle.study_moves.specs.declared.moves.Move.{Move}
 use Rattle.study_moves.specs.Rules.{has_side, pawn_steps, pawn_double_steps, pawn_takes, reaches_target, is_promotion_choice, reaches_last_rank}
 use Rattle.study_moves.specs.Rules.{is_pseudo_legal, is_legal_for, is_legal, men_after}
-use Rattle.study_moves.specs.EnPassant.{has_legal_en_passant, bare, without_passed}
-use Rattle.study_moves.specs.KingSafety.{is_other_man, attacked_past, threatens, threatened_past, king_threatened, others_threatened, is_unsafe}
-use Rattle.study_moves.specs.Unmoves.{CanHaveLed, pawn_comes, comes, king_was_attacked, was_check, came_from, move_from, position_before}
-use Rattle.study_moves.specs.AnyOrder.{is_safe_target, HasSafeTargets, HasOrigins, MenTellMoves, AreSameInOrder, OrderIsIdle}
+use Rattle.study_moves.specs.EnPassant.{has_legal_en_passant, without_idle_passed_square, without_passed}
+use Rattle.study_moves.specs.KingSafety.{is_other_man, attacked_past, threatens, threatened_past, king_threatened, threatened_by_others, is_unsafe}
+use Rattle.study_moves.specs.Unmoves.{CanHaveLed, pawn_comes, comes, king_was_attacked, was_check, is_unmove_origin, move_from, position_before}
+use Rattle.study_moves.specs.AnyOrder.{is_safe_target, HasSafeTargets, HasOrigins, MenTellMoves, AreSameInOrder, OrderIsIrrelevant}
 use Rattle.study_moves.proofs.MenFound.{IsFound-from_man_at}
 use Rattle.study_moves.proofs.MenOfList.{IsAmong}
 use Rattle.study_moves.proofs.KingSafety.{in_check_is_unsafe}
@@ -51,8 +51,8 @@ module _ (xs ys : List Man) (same : IsPermutation xs ys) where
       list_any_same (threatens xs by lifted k x) (threatens ys by lifted k x) (λ m. rw (is_blocked_past_same lifted m.at k)) xs
       ∙ list_any-IsPermutation (threatens ys by lifted k x) xs ys same
 
-  others_threatened_same : (side : Side) (lifted x : ℕ) → others_threatened xs side lifted x ≡ others_threatened ys side lifted x
-  unfolding others_threatened
+  others_threatened_same : (side : Side) (lifted x : ℕ) → threatened_by_others xs side lifted x ≡ threatened_by_others ys side lifted x
+  unfolding threatened_by_others
   others_threatened_same side lifted x =
       list_any_same (king_threatened xs side lifted x) (king_threatened ys side lifted x)
       (λ k. rw (threatened_past_same (other_side side) lifted k.at x)) xs
@@ -82,7 +82,7 @@ module _ (xs ys : List Man) (same : IsPermutation xs ys) where
   unfolding comes pawn_comes
   comes_same man a = simp (is_occupied_same xs ys same, reaches_same xs ys same)
 
-  came_from_same : (side : Side) (man : Man) (a : ℕ) → came_from xs side man a ≡ came_from ys side man a
+  came_from_same : (side : Side) (man : Man) (a : ℕ) → is_unmove_origin xs side man a ≡ is_unmove_origin ys side man a
   came_from_same side man a = rw (comes_same man a, was_check_same side man a)
 
   pub AreSameInOrder-permuted : AreSameInOrder xs ys
@@ -94,7 +94,7 @@ module _ (xs ys : List Man) (same : IsPermutation xs ys) where
     came = came_from_same;
   }
 
-pub order-is-idle : OrderIsIdle
+pub order-is-idle : OrderIsIrrelevant
 order-is-idle xs ys same = AreSameInOrder-permuted xs ys same
 
 -- ---- the moves of men in any order
@@ -169,7 +169,7 @@ module _ (q : Position) (men : List Man) (valid : IsValid q) (same : IsPermutati
   among_men : (man : Man) → IsAmong man q.men → Contains men man
   among_men man i = Contains-permutation q.men men man back (Contains-among q.men man i)
 
-  bare_is : has_legal_en_passant q ≡ false → bare q ≡ without_passed q
+  bare_is : has_legal_en_passant q ≡ false → without_idle_passed_square q ≡ without_passed q
   bare_is dead = rw dead refl
 
   HasSafeTargets-men : has_legal_en_passant q ≡ false → HasSafeTargets q men
@@ -206,21 +206,21 @@ module _ (q : Position) (men : List Man) (valid : IsValid q) (same : IsPermutati
       both : (a b : Bool) → a ≡ true → b ≡ true → (a && b) ≡ true
       both a b e f = rw (e, f)
 
-      came_is : (man : Man) (a : ℕ) → came_from men q.to_move man a ≡ came_from q.men q.to_move man a
+      came_is : (man : Man) (a : ℕ) → is_unmove_origin men q.to_move man a ≡ is_unmove_origin q.men q.to_move man a
       came_is man a = (AreSameInOrder-permuted men q.men same).came q.to_move man a
 
       led_by : (man : Man) (a : ℕ) → Contains men man → a < 64 → CanHaveLed q (move_from man a)
-          → (same_side man.side (other_side q.to_move) && came_from men q.to_move man a) ≡ true
+          → (same_side man.side (other_side q.to_move) && is_unmove_origin men q.to_move man a) ≡ true
       led_by man a c on h =
           let t = taken_from q (move_from man a) h.from man valid (man_at-among q.men man valid.ordered (among_position man c)) h.leads in
-          both (same_side man.side (other_side q.to_move)) (came_from men q.to_move man a)
+          both (same_side man.side (other_side q.to_move)) (is_unmove_origin men q.to_move man a)
           (ap (λ (s : Side). same_side s (other_side q.to_move)) t.came.his ∙ same_side-self (other_side q.to_move))
           (came_is man a ∙ t.came.came)
 
       leads : (man : Man) (a : ℕ) → Contains men man → a < 64
-          → (same_side man.side (other_side q.to_move) && came_from men q.to_move man a) ≡ true → CanHaveLed q (move_from man a)
+          → (same_side man.side (other_side q.to_move) && is_unmove_origin men q.to_move man a) ≡ true → CanHaveLed q (move_from man a)
       leads man a c on e =
-          let b = and_parts (same_side man.side (other_side q.to_move)) (came_from men q.to_move man a) e in
+          let b = and_parts (same_side man.side (other_side q.to_move)) (is_unmove_origin men q.to_move man a) e in
           let came : CameFrom q man a = record {
             among = among_position man c;
             his = sides_equal man.side (other_side q.to_move) b.0;

@@ -12,7 +12,7 @@ use Rattle.study_board.specs.declared.men.Side.{Side}
 use Rattle.study_board.specs.declared.men.Side.TheVariants.{White, Black}
 use Rattle.study_board.specs.declared.men.Kind.{Kind}
 use Rattle.study_board.specs.Geometry.{file_of, rank_of, files_apart}
-use Rattle.study_board.specs.Men.{same_side, other_side, pawn_captures, is_rank_ahead, bears_on, is_pawn}
+use Rattle.study_board.specs.Men.{same_side, other_side, pawn_captures, is_rank_ahead, attacks_square, is_pawn}
 use Rattle.study_board.specs.Position.{Position, IsValid, is_occupied, is_empty, in_check, man_at, placed, could_be_passed, passed_possible}
 use Rattle.study_board.proofs.Lists.{not_true, list_any_weaker}
 use Rattle.study_board.proofs.Valid.{IsFaultless-from_first, first_fault-from_IsFaultless}
@@ -23,7 +23,7 @@ use Rattle.study_moves.specs.Rules.{pawn_steps, pawn_double_steps, pawn_takes, r
 use Rattle.study_moves.specs.Rules.{is_promotion_choice, reaches_last_rank, is_en_passant, survives, moved, men_after}
 use Rattle.study_moves.specs.Rules.{is_pseudo_legal, is_legal_for, is_legal, after_by, after}
 use Rattle.study_moves.specs.Game.{HasNoMove, IsMate, IsStalemate, MatesWithin, IsMatedWithin}
-use Rattle.study_moves.specs.EnPassant.{is_taken, has_legal_en_passant, without_passed, bare}
+use Rattle.study_moves.specs.EnPassant.{is_capturable_en_passant, has_legal_en_passant, without_passed, without_idle_passed_square}
 use Rattle.study_moves.specs.Laws.{HasSameGame, AgreesWithBare}
 use Rattle.study_moves.proofs.OneValue.{HasSameValue-from_game}
 use Rattle.study_moves.proofs.NoMoveBetween.{HasMover-from_is_legal}
@@ -70,7 +70,7 @@ module _ (q : Option ℕ) (man : Man) (x : ℕ) (no : is_en_passant q man x ≡ 
   goes_bare men =
       cond_under (is_pawn man) (pawn_steps men man.side man.at x || pawn_double_steps men man.side man.at x || pawn_takes men q man.side man.at x)
       (pawn_steps men man.side man.at x || pawn_double_steps men man.side man.at x || pawn_takes men None man.side
-      man.at x) (bears_on men man x) (bears_on men man x)
+      man.at x) (attacks_square men man x) (attacks_square men man x)
       (λ e.
       let same : pawn_takes men None man.side man.at x ≡ pawn_takes men q man.side man.at x =
       and_under (pawn_captures man.side man.at x) (pawn_captures man.side man.at x)
@@ -208,10 +208,10 @@ module _ (p : Position) (possible : passed_possible p.men p.to_move p.passed ≡
       let try : ℕ → Option Kind → Move = λ a k. record { origin = a; target = m.target; promoted = k } in
       let legal' : is_legal p (try man.at None) ≡ true = ap (λ k. is_legal p (try man.at k)) (sym o) ∙ ap (λ a. is_legal p (try a m.promoted)) from ∙ legal in
       let one : (is_en_passant p.passed man m.target && is_legal p (try man.at None)) ≡ true = rw (e, legal') in
-      let any : is_taken p (Some m.target) ≡ true =
+      let any : is_capturable_en_passant p (Some m.target) ≡ true =
       found_any (λ y. is_en_passant p.passed y m.target && is_legal p (try y.at None)) p.men m.origin man here
       one in
-      false≢true (sym dead ∙ ap (is_taken p) at.0 ∙ any)
+      false≢true (sym dead ∙ ap (is_capturable_en_passant p) at.0 ∙ any)
 
   legal_without : (m : Move) → is_legal (without_passed p) m ≡ is_legal p m
   unfolding is_legal
@@ -328,7 +328,7 @@ Agrees-without p v dead =
 Agrees-itself : (p : Position) → IsValid p → Agrees p p
 Agrees-itself p v = record { valid = v; legal = λ m. refl; after = λ m l. refl; game = HasSameGame-from p p refl (λ m. refl) (λ m l. refl) }
 
-Agrees-bare : (p : Position) → IsValid p → Agrees p (bare p)
+Agrees-bare : (p : Position) → IsValid p → Agrees p (without_idle_passed_square p)
 Agrees-bare p v = by_live (has_legal_en_passant p) refl
   where
     by_live : (b : Bool) → has_legal_en_passant p ≡ b → Agrees p (cond b p (without_passed p))
@@ -344,5 +344,5 @@ AgreesWithBare-from_valid p v =
       after = h.after;
       game = h.game;
       value = HasSameValue-from_game p
-          (bare p) h.game;
+          (without_idle_passed_square p) h.game;
     }

@@ -4,7 +4,7 @@ use Rattle.study_board.specs.declared.men.Side.{Side}
 use Rattle.study_board.specs.declared.men.Kind.{Kind}
 use Rattle.study_board.specs.declared.men.Kind.TheVariants.{King, Queen, Rook, Bishop, Knight, Pawn}
 use Rattle.study_board.specs.declared.men.Man.{Man}
-use Rattle.study_board.specs.Men.{bears_on, is_blocked, reaches}
+use Rattle.study_board.specs.Men.{attacks_square, is_blocked, reaches}
 use Rattle.study_board.specs.Sets.{bears_past, is_blocked_past, reaches_if}
 
 open_line : (p x b : Bool) → (p && (x && true)) ≡ false → (p && (x && not b)) ≡ false
@@ -25,5 +25,5 @@ neither : (o b : Bool) → b ≡ false → (o && b) ≡ false
 neither false b e = refl
 neither true b e = e
 
-pub alone_not : (o : Bool) (men : List Man) (lifted : ℕ) (m : Man) (k : ℕ) → bears_on [] m k ≡ false → (o && bears_past men lifted m k) ≡ false
+pub alone_not : (o : Bool) (men : List Man) (lifted : ℕ) (m : Man) (k : ℕ) → attacks_square [] m k ≡ false → (o && bears_past men lifted m k) ≡ false
 alone_not o men lifted m k e = neither o _ (by_kind (not (m.at == k)) (is_blocked_past men lifted m.at k) m.side m.kind m.at k e)

@@ -9,7 +9,7 @@ use Rattle.study_board.specs.Men.{same_side, other_side, same_kind}
 use Rattle.study_board.specs.Sets.{has, bears_past}
 use Rattle.study_moves.specs.Rules.{has_side, reaches_target}
 use Rattle.study_moves.specs.AnyOrder.{is_safe_target}
-use Rattle.study_moves.specs.KingSafety.{is_other_man, attacked_past, king_threatened, others_threatened, is_unsafe, closes}
+use Rattle.study_moves.specs.KingSafety.{is_other_man, attacked_past, king_threatened, threatened_by_others, is_unsafe, closes}
 
 other_of : (a b : Side) → same_side a (other_side b) ≡ not (same_side a b)
 other_of White White = refl
@@ -59,7 +59,7 @@ any_of_three k p q r (m ∷ xs) =
     rw (any_of_three k p q r xs) (regroup k (p m) (q m) (r m) (list_any p xs) (list_any q xs) (list_any r xs))
 
 pub closed_is : (men : List Man) (side : Side) (man : Man) (x : ℕ) → list_any (closes men side man x) men ≡ (has_side men side x || is_unsafe men side man x)
-unfolding closes has_side is_unsafe attacked_past others_threatened
+unfolding closes has_side is_unsafe attacked_past threatened_by_others
 closed_is men side man x =
     any_of_three (same_kind man.kind King) (λ m. same_side m.side side && (m.at == x)) (king_threatened men side man.at x)
     (λ m. is_other_man (other_side side) man.at m && bears_past men man.at m x) men

@@ -14,7 +14,7 @@ use Rattle.study_board.specs.Men.{same_side}
 use Rattle.study_board.specs.Position.{Position, IsValid}
 use Rattle.study_moves.specs.declared.moves.Move.{Move}
 use Rattle.study_moves.specs.Rules.{is_legal, is_promotion_choice, reaches_last_rank}
-use Rattle.study_moves.specs.EnPassant.{has_legal_en_passant, is_taken}
+use Rattle.study_moves.specs.EnPassant.{has_legal_en_passant, is_capturable_en_passant}
 use Rattle.study_moves.specs.AnyOrder.{is_safe_target, HasSafeTargets}
 use Rattle.study_moves.specs.Game.{HasNoMove}
 use Rattle.study_moves.proofs.AnyOrder.{men-tell-moves}
@@ -46,7 +46,7 @@ no_passed passed told b same is e = sym same ∙ by_cases told (sym is ∙ e)
 module _ (q : Position) (men : List Man) (side : Side) (valid : IsValid q) (none : q.passed ≡ None) (em : men ≡ q.men) (es : side ≡ q.to_move) where
   safe_targets_told : HasSafeTargets q men
   safe_targets_told =
-      let dead : has_legal_en_passant q ≡ false = ap (λ (o : Option ℕ). is_taken q o) none in
+      let dead : has_legal_en_passant q ≡ false = ap (λ (o : Option ℕ). is_capturable_en_passant q o) none in
       (men-tell-moves q men valid (subst (λ (zs : List Man). IsPermutation zs q.men) (sym em) (IsPermutation-refl q.men))).0 dead
 
   -- a man with a safe target has a legal move

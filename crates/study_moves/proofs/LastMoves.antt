@@ -22,7 +22,7 @@ use Rattle.study_board.specs.EqualLaws.{sides_equal}
 use Rattle.study_board.specs.Sets.{has}
 use Rattle.study_board.proofs.SetBits.{has-zero}
 use Rattle.study_moves.specs.declared.moves.Move.{Move}
-use Rattle.study_moves.specs.Unmoves.{LeadsQuietly, IsEarlier, CanHaveLed, IsMoveFrom, IsLastMove, move_from, position_before, came_from}
+use Rattle.study_moves.specs.Unmoves.{LeadsQuietly, IsEarlier, CanHaveLed, IsMoveFrom, IsLastMove, move_from, position_before, is_unmove_origin}
 use Rattle.study_moves.proofs.MenOfList.{IsAmong, above_among}
 use Rattle.study_moves.proofs.QuietChecks.{same_side-self}
 use Rattle.study_moves.proofs.QuietBack.{CameFrom, LeadsQuietly-before, IsTakenBack-from, same_move}
@@ -112,7 +112,7 @@ module _ (man : Man) (all : ℕ) where
       (gathering_goes_on rest next (length now) old t one rest' (length (now ++ move_from man t ∷ [])) first now g
       lt there least single less (length-append now (move_from man t ∷ [])))
 
-  pub gathering_ends : (q : Position) → ((a : ℕ) → a < 64 → has all a ≡ came_from q.men q.to_move man a)
+  pub gathering_ends : (q : Position) → ((a : ℕ) → a < 64 → has all a ≡ is_unmove_origin q.men q.to_move man a)
       → (rest next len old : ℕ) (first now : List Move) → IsGathering man all rest next len old first now → rest ≡ 0
       → (m : Move) → Contains now m ↔ (Contains first m ⊎ IsLastMove q man m)
   gathering_ends q these rest next len old first now g e m = (λ c. here ((g.kept m).0 (inl c)), λ h. left ((g.kept m).1 (there h)))

@@ -20,7 +20,7 @@ use Rattle.study_board.proofs.Valid.{IsFaultless, IsFaultless-from_first, first_
 use Rattle.study_moves.specs.declared.moves.Move.{Move}
 use Rattle.study_moves.specs.Rules.{is_legal, reaches_target, survives, men_after, after, is_promotion_choice, reaches_last_rank}
 use Rattle.study_moves.specs.EnPassant.{without_passed}
-use Rattle.study_moves.specs.Unmoves.{LeadsQuietly, move_from, set_back, men_before, position_before, pawn_comes, comes, was_check, came_from}
+use Rattle.study_moves.specs.Unmoves.{LeadsQuietly, move_from, set_back, men_before, position_before, pawn_comes, comes, was_check, is_unmove_origin}
 use Rattle.study_moves.proofs.MenFound.{fewer_stay}
 use Rattle.study_moves.proofs.MenOfList.{IsAmong, above_among, list_any-from, list_any-none, none_among, IsAmong-filter}
 use Rattle.study_moves.proofs.MenOfList.{found_among, All-among, same_square, has_square_twice-ascending}
@@ -45,7 +45,7 @@ pub record CameFrom (q : Position) (man : Man) (a : ℕ) : Type 0 where
   pub among : IsAmong man q.men
   pub his : man.side ≡ other_side q.to_move
   pub on : a < 64
-  pub came : came_from q.men q.to_move man a ≡ true
+  pub came : is_unmove_origin q.men q.to_move man a ≡ true
 
 comes_free : (men : List Man) (man : Man) (a : ℕ) → comes men man a ≡ true → is_occupied men a ≡ false
 unfolding comes pawn_comes
@@ -256,7 +256,7 @@ module _ (q : Position) (by : Move) (p : Position) (valid : IsValid q) (e : Lead
       let P : Option ℕ → Type 0 = λ o. reaches_target p.men o man by.target ≡ true in
       rw men_then (subst P e.unpassed mover.moves.going)
 
-  came_now : came_from q.men q.to_move then man.at ≡ true
+  came_now : is_unmove_origin q.men q.to_move then man.at ≡ true
   came_now =
       let pseudo_targets : comes q.men then man.at ≡ true = coming q.men then man.at movable_back goes_on (inside_among p.men man (faultless p e.valid).pawns found.0) in
       let safe : was_check q.men q.to_move then man.at ≡ false =

@@ -7,7 +7,7 @@ use Rattle.study_board.specs.declared.men.Side.{Side}
 use Rattle.study_board.specs.declared.men.Side.TheVariants.{White, Black}
 use Rattle.study_board.specs.declared.men.Kind.TheVariants.{King}
 use Rattle.study_board.specs.Geometry.{strictly_between}
-use Rattle.study_board.specs.Men.{same_side, other_side, is_man, is_attacked, bears_on}
+use Rattle.study_board.specs.Men.{same_side, other_side, is_man, is_attacked, attacks_square}
 use Rattle.study_board.specs.Position.{is_occupied, in_check}
 use Rattle.study_board.specs.Sets.{is_slider, bears_past}
 use Rattle.study_board.proofs.Lists.{list_any_weaker}
@@ -64,18 +64,18 @@ module _ (men : List Man) (man : Man) (a : ℕ) (free : is_occupied men a ≡ fa
   abbrev pub ys : List Man
   ys = filter (survives None man a) men
 
-  bears_then : (m : Man) (k : ℕ) → bears_on (z ∷ ys) m k ≡ (bears_past men man.at m k && not (is_slider m.kind && strictly_between m.at a k))
+  bears_then : (m : Man) (k : ℕ) → attacks_square (z ∷ ys) m k ≡ (bears_past men man.at m k && not (is_slider m.kind && strictly_between m.at a k))
   bears_then m k = bears_after men None man a man.side z refl (same_side-self man.side) (none_passed None man a refl) (no_side_there men man.side a free) m k
 
-  own_attack : (k : ℕ) → bears_on (z ∷ ys) z k ≡ bears_past men man.at z k
+  own_attack : (k : ℕ) → attacks_square (z ∷ ys) z k ≡ bears_past men man.at z k
   own_attack k =
       let end : strictly_between a a k ≡ false = between-both a a k ∙ not_at_end k a in
       bears_then z k ∙ rw (end, no_line (is_slider man.kind)) (and_true (bears_past men man.at z k))
 
-  others_attack : (k : ℕ) → list_any (λ m. same_side m.side (other_side side) && bears_on (z ∷ ys) m k) ys ≡ threatened_past men (other_side side) man.at k a
+  others_attack : (k : ℕ) → list_any (λ m. same_side m.side (other_side side) && attacks_square (z ∷ ys) m k) ys ≡ threatened_past men (other_side side) man.at k a
   others_attack k =
-      filter_any (λ m. same_side m.side (other_side side) && bears_on (z ∷ ys) m k) (survives None man a) men
-      ∙ list_any_same (λ m. survives None man a m && (same_side m.side (other_side side) && bears_on (z ∷ ys) m k)) (threatens men (other_side side) man.at k a)
+      filter_any (λ m. same_side m.side (other_side side) && attacks_square (z ∷ ys) m k) (survives None man a) men
+      ∙ list_any_same (λ m. survives None man a m && (same_side m.side (other_side side) && attacks_square (z ∷ ys) m k)) (threatens men (other_side side) man.at k a)
       (λ m. rw (stays_plain man a m, bears_then m k)
       (shuffle (not (m.at == man.at)) (not (m.at == a)) (same_side m.side (other_side side))
       (bears_past men man.at m k) (not (is_slider m.kind && strictly_between m.at a k)))) men

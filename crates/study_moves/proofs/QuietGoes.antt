@@ -8,7 +8,7 @@ use Rattle.study_board.specs.declared.men.Side.TheVariants.{White, Black}
 use Rattle.study_board.specs.declared.men.Kind.{Kind}
 use Rattle.study_board.specs.declared.men.Kind.TheVariants.{King, Queen, Rook, Bishop, Knight, Pawn}
 use Rattle.study_board.specs.Geometry.{strictly_between, rank_of, file_of}
-use Rattle.study_board.specs.Men.{same_side, same_kind, other_side, is_blocked, bears_on, pawn_captures, is_pawn}
+use Rattle.study_board.specs.Men.{same_side, same_kind, other_side, is_blocked, attacks_square, pawn_captures, is_pawn}
 use Rattle.study_board.specs.Position.{is_empty, is_end_pawn}
 use Rattle.study_board.specs.Sets.{reaches_if, is_blocked_past}
 use Rattle.study_board.proofs.MenInOrder.{IsPermutation-placed}
@@ -133,7 +133,7 @@ module _ (men : List Man) (man : Man) (a : ℕ) (h : CanBeMoved men man a) where
         | inr e ↦ rw e refl
       ]
 
-  bears_before : same_kind man.kind Pawn ≡ false → bears_on (men_before men man a) z man.at ≡ bears_on men man a
+  bears_before : same_kind man.kind Pawn ≡ false → attacks_square (men_before men man a) z man.at ≡ attacks_square men man a
   bears_before e =
       rw (reaches_is (men_before men man a) man.side man.kind a man.at, blocked_before, reaches_is men man.side man.kind man.at a, eqb-both a man.at)
       (ap (λ (b : Bool). not (man.at == a) && b)
@@ -166,7 +166,7 @@ module _ (men : List Man) (man : Man) (a : ℕ) (h : CanBeMoved men man a) where
         | inr f ↦ rw (f, and_false (rank_of a == starting_rank man.side)) refl
       ]
 
-  goes_bears : is_pawn man ≡ false → reaches_target (men_before men man a) None z man.at ≡ bears_on (men_before men man a) z man.at
+  goes_bears : is_pawn man ≡ false → reaches_target (men_before men man a) None z man.at ≡ attacks_square (men_before men man a) z man.at
   unfolding reaches_target
   goes_bears p = rw p refl
 
@@ -183,8 +183,8 @@ module _ (men : List Man) (man : Man) (a : ℕ) (h : CanBeMoved men man a) where
         ((rank_of a == starting_rank man.side) && is_ahead man.side 2 a man.at && is_empty men
         (half_way a man.at)) (and_parts _ (is_empty men a) c).0
     | inr p ↦
-        let c : (bears_on men man a && is_empty men a) ≡ true = rw p at e in
-        goes_bears p ∙ bears_before p ∙ (and_parts (bears_on men man a) (is_empty men a) c).0
+        let c : (attacks_square men man a && is_empty men a) ≡ true = rw p at e in
+        goes_bears p ∙ bears_before p ∙ (and_parts (attacks_square men man a) (is_empty men a) c).0
   ]
     where
       weaker : (b n c : Bool) → ((b && n) || c) ≡ true → (b || c) ≡ true

@@ -13,7 +13,7 @@ use Rattle.study_board.proofs.ImagesOfImages.{IsTurnable, IsTurnable-from_valid}
 use Rattle.study_moves.specs.declared.moves.Move.{Move}
 use Rattle.study_moves.specs.Rules.{is_legal, after}
 use Rattle.study_moves.specs.Symmetry.{image_move}
-use Rattle.study_moves.specs.EnPassant.{has_legal_en_passant, without_passed, bare}
+use Rattle.study_moves.specs.EnPassant.{has_legal_en_passant, without_passed, without_idle_passed_square}
 use Rattle.study_moves.specs.Alike.{AreAlike}
 use Rattle.study_moves.specs.Unmoves.{IsQuiet, LeadsQuietly}
 use Rattle.study_moves.specs.Laws.{AgreesQuietly}
@@ -27,7 +27,7 @@ use Rattle.study_moves.proofs.QuietBack.{IsTakenBack-from, tested_alike, counted
 pub known : (p : Position) (m : Move) → IsValid p → p.passed ≡ None → is_legal p m ≡ true → IsQuiet p m → LeadsQuietly p m (after p m)
 known p m valid unpassed legal quiet = record { valid = valid; unpassed = unpassed; legal = legal; quiet = quiet; leads = refl }
 
-without_bare : (p : Position) → without_passed (bare p) ≡ without_passed p
+without_bare : (p : Position) → without_passed (without_idle_passed_square p) ≡ without_passed p
 without_bare p = by_live (has_legal_en_passant p)
   where
     by_live : (b : Bool) → without_passed (cond b p (without_passed p)) ≡ without_passed p

@@ -13,7 +13,7 @@ use Rattle.study_board.specs.declared.men.Kind.{Kind}
 use Rattle.study_board.specs.declared.men.Kind.TheVariants.{King, Queen, Rook, Bishop, Knight, Pawn}
 use Rattle.study_board.specs.declared.symmetry.Symmetry.{Symmetry}
 use Rattle.study_board.specs.Geometry.{file_of, rank_of, ranks_apart, files_apart}
-use Rattle.study_board.specs.Men.{same_side, other_side, same_kind, pawn_captures, is_rank_ahead, bears_on, is_pawn}
+use Rattle.study_board.specs.Men.{same_side, other_side, same_kind, pawn_captures, is_rank_ahead, attacks_square, is_pawn}
 use Rattle.study_board.specs.Position.{Position, is_empty, in_check, man_at}
 use Rattle.study_board.specs.Symmetry.{mirrored, turned_square, turned_side, turned_man, turned_men, turned_passed, image}
 use Rattle.study_board.proofs.Coordinates.{and_under, eqb_then, KeepsPawns, eqb-mirrored, file_small}
@@ -223,7 +223,7 @@ module _ (s : Symmetry) where
         → reaches_target (turned_men s xs) (turned_passed s q) (turned_man s m) (turned_square s x) ≡ reaches_target xs q m x
     unfolding reaches_target
     goes-turned q hq m k x lx =
-        cond_under (is_pawn m) (pawn_steps xs m.side m.at x || pawn_double_steps xs m.side m.at x || pawn_takes xs q m.side m.at x) _ (bears_on xs m x) _
+        cond_under (is_pawn m) (pawn_steps xs m.side m.at x || pawn_double_steps xs m.side m.at x || pawn_takes xs q m.side m.at x) _ (attacks_square xs m x) _
         (λ e. rw (
           pawn_steps-turned (k.pawn e) m.side m.at x k.on lx,
           pawn_double_steps-turned (k.pawn e) m.side

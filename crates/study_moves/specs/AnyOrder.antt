@@ -10,7 +10,7 @@ use Rattle.study_moves.specs.declared.moves.Move.{Move}
 use Rattle.study_moves.specs.Rules.{has_side, reaches_target, is_promotion_choice, reaches_last_rank, is_legal}
 use Rattle.study_moves.specs.EnPassant.{has_legal_en_passant}
 use Rattle.study_moves.specs.KingSafety.{is_unsafe}
-use Rattle.study_moves.specs.Unmoves.{CanHaveLed, came_from, move_from}
+use Rattle.study_moves.specs.Unmoves.{CanHaveLed, is_unmove_origin, move_from}
 
 -- if no square is passed, the man can go to x: no man of its side stands there, and no king of the side is attacked after that
 unfoldable pub is_safe_target : List Man → Side → Man → ℕ → Bool
@@ -26,7 +26,7 @@ pub record HasSafeTargets (q : Position) (men : List Man) : Type 0 where
 -- the quiet moves that can have led to q are the moves of these men from their possible origins
 pub record HasOrigins (q : Position) (men : List Man) : Type 0 where
   pub led : (man : Man) (a : ℕ) → Contains men man → a < 64
-      → CanHaveLed q (move_from man a) ↔ ((same_side man.side (other_side q.to_move) && came_from men q.to_move man a) ≡ true)
+      → CanHaveLed q (move_from man a) ↔ ((same_side man.side (other_side q.to_move) && is_unmove_origin men q.to_move man a) ≡ true)
   pub mover : (m : Move) → CanHaveLed q m → (man : Man) × Contains men man × (m.origin < 64) × (m ≡ move_from man m.origin)
 
 -- the men of a valid position, in any order, determine both; the legal moves if no capture in passing is legal
@@ -40,7 +40,7 @@ pub record AreSameInOrder (xs ys : List Man) : Type 0 where
   pub reaches : (passed : Option ℕ) (m : Man) (x : ℕ) → reaches_target xs passed m x ≡ reaches_target ys passed m x
   pub unsafe : (s : Side) (m : Man) (x : ℕ) → is_unsafe xs s m x ≡ is_unsafe ys s m x
   pub safe : (s : Side) (m : Man) (x : ℕ) → is_safe_target xs s m x ≡ is_safe_target ys s m x
-  pub came : (s : Side) (m : Man) (a : ℕ) → came_from xs s m a ≡ came_from ys s m a
+  pub came : (s : Side) (m : Man) (a : ℕ) → is_unmove_origin xs s m a ≡ is_unmove_origin ys s m a
 
-abbrev pub OrderIsIdle : Type 0
-OrderIsIdle = (xs ys : List Man) → IsPermutation xs ys → AreSameInOrder xs ys
+abbrev pub OrderIsIrrelevant : Type 0
+OrderIsIrrelevant = (xs ys : List Man) → IsPermutation xs ys → AreSameInOrder xs ys

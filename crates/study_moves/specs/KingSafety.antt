@@ -31,11 +31,11 @@ threatened_past men by lifted k x = list_any (threatens men by lifted k x) men
 abbrev pub king_threatened : List Man → Side → ℕ → ℕ → Man → Bool
 king_threatened men side lifted x k = (is_man side King k && not (k.at == lifted)) && threatened_past men (other_side side) lifted k.at x
 
-unfoldable pub others_threatened : List Man → Side → ℕ → ℕ → Bool
-others_threatened men side lifted x = list_any (king_threatened men side lifted x) men
+unfoldable pub threatened_by_others : List Man → Side → ℕ → ℕ → Bool
+threatened_by_others men side lifted x = list_any (king_threatened men side lifted x) men
 
 unfoldable pub is_unsafe : List Man → Side → Man → ℕ → Bool
-is_unsafe men side man x = (same_kind man.kind King && attacked_past men (other_side side) man.at x) || others_threatened men side man.at x
+is_unsafe men side man x = (same_kind man.kind King && attacked_past men (other_side side) man.at x) || threatened_by_others men side man.at x
 
 -- the man m excludes x as a target of the man: by its own square, by the threats to it as a king of the side, or by its reach if the man is a king
 unfoldable pub closes : List Man → Side → Man → ℕ → Man → Bool

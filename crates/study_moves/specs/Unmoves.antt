@@ -6,7 +6,7 @@ use Rattle.study_board.specs.declared.men.Side.TheVariants.{White, Black}
 use Rattle.study_board.specs.declared.men.Kind.TheVariants.{King}
 use Rattle.study_board.specs.declared.men.Man.{Man}
 use Rattle.study_board.specs.Geometry.{rank_of}
-use Rattle.study_board.specs.Men.{other_side, is_man, bears_on, is_pawn}
+use Rattle.study_board.specs.Men.{other_side, is_man, attacks_square, is_pawn}
 use Rattle.study_board.specs.Position.{Position, IsValid, is_occupied, is_empty, placed}
 use Rattle.study_board.specs.Sets.{bears_past}
 use Rattle.study_moves.specs.declared.moves.Move.{Move}
@@ -65,7 +65,7 @@ pawn_came men inside starts one two a =
 
 -- the man comes to its square from an empty square, by the moves of its kind
 unfoldable pub comes : List Man → Man → ℕ → Bool
-comes men man a = if is_pawn man then pawn_comes men man.side man.at a else bears_on men man a && is_empty men a
+comes men man a = if is_pawn man then pawn_comes men man.side man.at a else attacks_square men man a && is_empty men a
 
 -- with the man back on a, the king k of the side is attacked, by that man or by another
 abbrev pub king_was_attacked : List Man → Side → Man → ℕ → Man → Bool
@@ -77,8 +77,8 @@ unfoldable pub was_check : List Man → Side → Man → ℕ → Bool
 was_check men side man a = list_any (king_was_attacked men side man a) men
 
 -- the man can have come from a by a quiet move: before it, the king of the side now to move was safe
-abbrev pub came_from : List Man → Side → Man → ℕ → Bool
-came_from men side man a = comes men man a && not (was_check men side man a)
+abbrev pub is_unmove_origin : List Man → Side → Man → ℕ → Bool
+is_unmove_origin men side man a = comes men man a && not (was_check men side man a)
 
 -- the quiet move of a man from a square to its own square
 abbrev pub move_from : Man → ℕ → Move
@@ -89,4 +89,4 @@ abbrev pub IsMoveFrom : Man → (ℕ → Bool) → Move → Type 0
 IsMoveFrom man came m = (a : ℕ) × (a < 64) × (came a ≡ true) × (m ≡ move_from man a)
 
 abbrev pub IsLastMove : Position → Man → Move → Type 0
-IsLastMove q man m = IsMoveFrom man (λ a. came_from q.men q.to_move man a) m
+IsLastMove q man m = IsMoveFrom man (λ a. is_unmove_origin q.men q.to_move man a) m

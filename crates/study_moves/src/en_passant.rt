@@ -1,7 +1,7 @@
 //! Whether a capture in passing is legal.
 ghost use Rattle.std.specs.Prelude.{◌≡◌, ◌&&◌, Some};
 ghost use Rattle.study_moves.specs.Rules.{is_en_passant, is_legal};
-ghost use Rattle.study_moves.specs.EnPassant.{has_legal_en_passant, is_taken};
+ghost use Rattle.study_moves.specs.EnPassant.{has_legal_en_passant, is_capturable_en_passant};
 
 use crate::legal::{is_en_passant, is_legal};
 use crate::moves::Move;
@@ -24,8 +24,8 @@ fn captures(p: &Position, man: &Man, x: Square) -> bool
 }
 
 /// Whether some man captures on this passed square.
-fn is_taken(p: &Position, x: Square) -> bool
-    ensures { result ≡ is_taken p.now (Some x) }
+fn is_capturable_en_passant(p: &Position, x: Square) -> bool
+    ensures { result ≡ is_capturable_en_passant p.now (Some x) }
 {
     p.men().iter().any(|man| captures(p, man, x))
 }
@@ -37,6 +37,6 @@ pub fn has_legal_en_passant(p: &Position) -> bool
 {
     match p.passed() {
         None => false,
-        Some(x) => is_taken(p, x),
+        Some(x) => is_capturable_en_passant(p, x),
     }
 }

@@ -6,7 +6,7 @@ ghost use Rattle.study_board.specs.Sets.{has, bears_past, is_slider};
 ghost use Rattle.study_board.specs.Geometry.{strictly_between};
 ghost use Rattle.std.specs.Prelude.{◌==◌};
 ghost use Rattle.study_moves.specs.KingSafety.{is_other_man, attacked_past, is_no_shield, threatens};
-ghost use Rattle.study_moves.specs.KingSafety.{threatened_past, king_threatened, others_threatened, is_unsafe};
+ghost use Rattle.study_moves.specs.KingSafety.{threatened_past, king_threatened, threatened_by_others, is_unsafe};
 
 use study_board::{Kind, Man, Side, Square, SquareSet, attacks, attacks_without, between};
 
@@ -114,8 +114,8 @@ pub fn threats_to(men: &[Man], side: Side, lifted: Square, k: &Man) -> SquareSet
 }
 
 #[inline]
-fn others_threatened(men: &[Man], side: Side, lifted: Square) -> SquareSet
-    ensures { (x : ℕ) → x < 64 → has result x ≡ others_threatened men.now side lifted x }
+fn threatened_by_others(men: &[Man], side: Side, lifted: Square) -> SquareSet
+    ensures { (x : ℕ) → x < 64 → has result x ≡ threatened_by_others men.now side lifted x }
 {
     let mut set = SquareSet::empty();
     for k in men {
@@ -141,5 +141,5 @@ fn attacked_for_king(men: &[Man], side: Side, man: &Man) -> SquareSet
 pub fn unsafe_targets(men: &[Man], side: Side, man: &Man) -> SquareSet
     ensures { (x : ℕ) → x < 64 → has result x ≡ is_unsafe men.now side man.now x }
 {
-    attacked_for_king(men, side, man).union(others_threatened(men, side, man.at))
+    attacked_for_king(men, side, man).union(threatened_by_others(men, side, man.at))
 }

@@ -6,7 +6,7 @@ ghost use Rattle.study_moves.specs.declared.moves.Move.{Move as AMove};
 ghost use Rattle.study_board.specs.Position.{Position as Seen, is_occupied, is_empty};
 ghost use Rattle.study_board.specs.Sets.{has, bears_past};
 ghost use Rattle.study_moves.specs.Unmoves.{LeadsQuietly, IsEarlier, CanHaveLed, IsLastMove, set_back, pawn_comes};
-ghost use Rattle.study_moves.specs.Unmoves.{pawn_came, comes, king_was_attacked, was_check, came_from};
+ghost use Rattle.study_moves.specs.Unmoves.{pawn_came, comes, king_was_attacked, was_check, is_unmove_origin};
 
 use crate::Move;
 use crate::king_safety::{is_king_elsewhere, threatened_past};
@@ -26,7 +26,7 @@ pub fn earlier(q: &Position) -> ArrayVec<Position, 192>
     let moves = unmoves(q);
     let mut list = ArrayVec::new();
     for m in moves.as_slice() {
-        list.push(unplayed(q, *m));
+        list.push(unmoved(q, *m));
     }
     list
 }
@@ -58,7 +58,7 @@ fn add_unmoves_of(q: &Position, man: &Man, list: &mut ArrayVec<Move, 192>)
     ensures few { array_vec_len list.new ≤ array_vec_len list.old + 64 }
 {
     let target = man.at;
-    let mut rest = origins(q.men(), q.to_move(), man);
+    let mut rest = unmove_origins(q.men(), q.to_move(), man);
     let mut next = 0u8;
     while !rest.is_empty() {
         let origin = rest.first();
@@ -73,7 +73,7 @@ fn add_unmoves_of(q: &Position, man: &Man, list: &mut ArrayVec<Move, 192>)
 }
 
 /// The position before a quiet move that can have led to this one.
-pub fn unplayed(q: &Position, m: Move) -> Position
+pub fn unmoved(q: &Position, m: Move) -> Position
     requires { CanHaveLed q.now m }
     ensures before { LeadsQuietly result m q.now }
     ensures only { (p : Seen) → LeadsQuietly p m q.now → result ≡ p }
@@ -101,8 +101,8 @@ fn man_on_origin(man: &Man, a: Square) -> Man
 
 /// The squares from which the man can have come by a quiet move, with these men on the board after it, in any order, and this side to move.
 #[inline(always)]
-pub fn origins(men: &[Man], to_move: Side, man: &Man) -> SquareSet
-    ensures { (a : ℕ) → a < 64 → has result a ≡ came_from men.now to_move man.now a }
+pub fn unmove_origins(men: &[Man], to_move: Side, man: &Man) -> SquareSet
+    ensures { (a : ℕ) → a < 64 → has result a ≡ is_unmove_origin men.now to_move man.now a }
 {
     origins_of_kind(men, man).without(origins_in_check(men, to_move, man))
 }
@@ -165,14 +165,14 @@ pub fn empty_steps(men: &[Man], inside: bool, starts: bool, one: Square, two: Sq
     if !inside {
         SquareSet::empty()
     } else if starts {
-        two_empty_steps(men, one, two)
+        is_double_step_clear(men, one, two)
     } else {
         set_if_empty(men, one)
     }
 }
 
 #[inline]
-fn two_empty_steps(men: &[Man], one: Square, two: Square) -> SquareSet
+fn is_double_step_clear(men: &[Man], one: Square, two: Square) -> SquareSet
     ensures { (a : ℕ) → a < 64 → has result a ≡ pawn_came men.now true true one two a }
 {
     if is_occupied(men, one.number()) {

@@ -15,7 +15,7 @@ use Rattle.study_notation.specs.San.{Fits, Says, san_text, is_ending}
 use Rattle.study_notation.specs.SanParts.{san_of}
 use Rattle.study_moves.specs.LegalList.{is_mate}
 use Rattle.study_notation.specs.Matching.{picked, meant, move_of}
-use Rattle.study_notation.specs.Written.{gives_file, gives_rank, san_for, check_text, move_text}
+use Rattle.study_notation.specs.SanSpelling.{gives_file, gives_rank, san_for, check_text, move_text}
 use Rattle.study_notation.proofs.SanAgain.{san_again}
 use Rattle.study_notation.proofs.ReadIsSpelled.{says}
 use Rattle.study_notation.proofs.OneMoveAgrees.{alone_matches}

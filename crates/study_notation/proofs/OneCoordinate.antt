@@ -4,7 +4,7 @@ use Rattle.std.proofs.Common.{◌≡◌, ℕ, true, false, not, ◌&&◌, sym, �
 use Rattle.std.proofs.lemmas.Bool.{false≢true, and_parts, not-true}
 use Rattle.study_board.specs.declared.men.Man.{Man}
 use Rattle.study_board.specs.Position.{Position}
-use Rattle.study_notation.specs.Written.{has_rival, has_file_rival, gives_file, gives_rank}
+use Rattle.study_notation.specs.SanSpelling.{has_rival, has_file_rival, gives_file, gives_rank}
 
 pub not_both : (p : Position) (man : Man) (x : ℕ) → gives_file p man x ≡ true → gives_rank p man x ≡ true → ⊥
 unfolding gives_file gives_rank

@@ -19,7 +19,7 @@ use Rattle.study_moves.proofs.NoMoveBetween.{IsMoveOf, HasMover-from_is_legal}
 use Rattle.study_notation.specs.declared.san.San.{San}
 use Rattle.study_moves.specs.LegalList.{legal_list, is_capture}
 use Rattle.study_notation.specs.Matching.{same_promotion, fits_given, fits_takes, agrees, matches}
-use Rattle.study_notation.specs.Written.{is_rival, has_rival, has_file_rival, gives_file, gives_rank, san_for}
+use Rattle.study_notation.specs.SanSpelling.{is_rival, has_rival, has_file_rival, gives_file, gives_rank, san_for}
 use Rattle.study_moves.proofs.AscendingKeys.{alone}
 use Rattle.study_moves.proofs.LegalLists.{in_legal, is_legal-in, AscendsFrom-legal_list}
 use Rattle.study_notation.proofs.ThreeAlike.{not_three}

@@ -6,7 +6,7 @@ use Rattle.std.proofs.lemmas.Bool.{ne_eqb, eqb-true, le-leb, lt-leb, and_parts, 
 use Rattle.study_board.specs.declared.men.Kind.{Kind}
 use Rattle.study_board.specs.declared.men.Kind.TheVariants.{King, Queen, Rook, Bishop, Knight, Pawn}
 use Rattle.study_notation.specs.declared.san.San.{San}
-use Rattle.study_notation.specs.San.{Fits, kind_text, file_text, rank_text, takes_text, promotion_text, san_text, is_glyph, is_glyphs, is_ending}
+use Rattle.study_notation.specs.San.{Fits, kind_text, file_text, rank_text, takes_text, promotion_text, san_text, is_suffix_annotation, is_glyphs, is_ending}
 use Rattle.study_moves.specs.Rules.{is_promotion_piece}
 use Rattle.study_notation.specs.FenSpelling.{square_text}
 use Rattle.study_notation.specs.SanParts.{SanSquares, kind_at, file_at, rank_at, takes_at, promotion_piece, promotion_piece_at, promotion_at, squares_at, san_of}
@@ -196,12 +196,12 @@ kind_again Pawn (b ∷ t) h =
 abbrev pub EndingByte : ℕ → Type 0
 EndingByte b = (b ≡ 33) ⊎ ((b ≡ 63) ⊎ ((b ≡ 43) ⊎ (b ≡ 35)))
 
-glyph_byte : (b : ℕ) → is_glyph b ≡ true → EndingByte b
+glyph_byte : (b : ℕ) → is_suffix_annotation b ≡ true → EndingByte b
 glyph_byte b h = elim (or_cases (eqb b 33) (eqb b 63) h) [ inl e ↦ inl (eqb-true b 33 e) | inr e ↦ inr (inl (eqb-true b 63 e)) ]
 
 glyphs_byte : (b : ℕ) (bs : List ℕ) → is_glyphs (b ∷ bs) ≡ true → EndingByte b
 glyphs_byte b [] h = glyph_byte b h
-glyphs_byte b (c ∷ []) h = glyph_byte b ((and_parts (is_glyph b) (is_glyph c) h).0)
+glyphs_byte b (c ∷ []) h = glyph_byte b ((and_parts (is_suffix_annotation b) (is_suffix_annotation c) h).0)
 glyphs_byte b (c ∷ d ∷ bs) h = absurd cc
 
 ending_byte : (b : ℕ) (bs : List ℕ) → is_ending (b ∷ bs) ≡ true → EndingByte b

@@ -6,5 +6,5 @@ pub mod SanParts
 pub mod SquaresView
 pub mod Matching
 pub mod Meaning
-pub mod Written
-pub mod Played
+pub mod SanSpelling
+pub mod StartAfter

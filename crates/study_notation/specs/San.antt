@@ -38,14 +38,14 @@ san_text s equals =
     kind_text s.kind ++ (file_text s.file ++ (rank_text s.rank ++ (takes_text s.is_capture ++ (square_text s.target ++ promotion_text equals s.promoted))))
 
 -- `!` or `?`
-abbrev pub is_glyph : ℕ → Bool
-is_glyph b = b == 33 || b == 63
+abbrev pub is_suffix_annotation : ℕ → Bool
+is_suffix_annotation b = b == 33 || b == 63
 
 -- at most two of them
 abbrev pub is_glyphs : List ℕ → Bool
 is_glyphs [] = true
-is_glyphs (a ∷ []) = is_glyph a
-is_glyphs (a ∷ b ∷ []) = is_glyph a && is_glyph b
+is_glyphs (a ∷ []) = is_suffix_annotation a
+is_glyphs (a ∷ b ∷ []) = is_suffix_annotation a && is_suffix_annotation b
 is_glyphs _ = false
 
 -- `+`, `#` or neither, then the glyphs

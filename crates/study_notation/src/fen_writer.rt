@@ -5,7 +5,7 @@ ghost use Rattle.study_notation.specs.FenSpelling.{man_letter, piece_on, run, ra
 
 use crate::Start;
 use crate::placement::Piece;
-use crate::pushing::{push_byte, push_square};
+use crate::push_text::{push_byte, push_square};
 use arrayvec::ArrayString;
 use itoa::Buffer;
 use study_board::{Kind, Man, Side, Square};

@@ -11,7 +11,7 @@ ghost use Rattle.study_notation.specs.San.{Says};
 ghost use Rattle.study_notation.specs.SanParts.{san_of, is_castling};
 ghost use Rattle.study_notation.specs.Matching.{move_of};
 ghost use Rattle.study_notation.specs.Meaning.{IsSan, MatchesAlone, MatchesNone, MatchesTwo};
-ghost use Rattle.study_notation.specs.Written.{move_text};
+ghost use Rattle.study_notation.specs.SanSpelling.{move_text};
 ghost use Rattle.study_notation.specs.declared.fault.SanFault.TheVariants.{NotSan, CastlingLeftOut, NoSuchMove, Ambiguous};
 
 /// `read_fen` reads the output of `write_fen` for a start as that start, if the clock and the number have at most four digits and the number is not 0.

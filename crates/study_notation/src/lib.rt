@@ -5,7 +5,7 @@
 //! and `san_is_read_again` in `laws` are these theorems. No call takes memory.
 #![tactic(auto)]
 
-mod captures;
+mod capture_rule;
 mod digits;
 mod fault;
 mod fen_reader;
@@ -13,7 +13,7 @@ mod fen_writer;
 mod fields;
 mod laws;
 mod placement;
-mod pushing;
+mod push_text;
 mod san;
 mod san_parser;
 mod san_parts;

@@ -5,7 +5,7 @@ ghost use Rattle.study_notation.specs.SanParts.{is_castling, is_castling_with};
 ghost use Rattle.study_notation.specs.Matching.{fits_given, fits_takes, agrees, matches, picked, move_of};
 
 use crate::SanFault;
-use crate::captures::is_capture;
+use crate::capture_rule::is_capture;
 use crate::san::San;
 use crate::san_parser::parse_san;
 use crate::san_parts::is_ending;

@@ -5,10 +5,10 @@ ghost use Rattle.study_board.specs.Position.{man_at};
 ghost use Rattle.study_moves.specs.Rules.{is_legal};
 ghost use Rattle.study_notation.specs.San.{kind_text, file_text, rank_text, takes_text, promotion_text, san_text};
 ghost use Rattle.study_moves.specs.LegalList.{is_mate};
-ghost use Rattle.study_notation.specs.Written.{is_rival, has_rival, has_file_rival, gives_file, gives_rank, GivesOne, san_for, check_text, move_text};
+ghost use Rattle.study_notation.specs.SanSpelling.{is_rival, has_rival, has_file_rival, gives_file, gives_rank, GivesOne, san_for, check_text, move_text};
 
-use crate::captures::is_capture;
-use crate::pushing::{push_byte, push_square};
+use crate::capture_rule::is_capture;
+use crate::push_text::{push_byte, push_square};
 use crate::san::San;
 use arrayvec::ArrayString;
 use study_board::{Kind, Man, Position, Square};
@@ -18,7 +18,7 @@ use study_moves::{Move, in_check, is_legal, played};
 ///
 /// It has only as much of the origin as distinguishes the man from others that can legally go to the square, and the file of a pawn that captures. It
 /// ends in `#` for checkmate or `+` for check.
-#[tactic(auto, unfolding(crate::specs::Written::move_text))]
+#[tactic(auto, unfolding(crate::specs::SanSpelling::move_text))]
 pub fn write_san(p: &Position, m: Move) -> ArrayString<8>
     requires { is_legal p.now m ≡ true }
     ensures { result.bytes ≡ move_text p.now m }
@@ -100,7 +100,7 @@ fn push_promotion(out: &mut ArrayString<8>, promoted: Option<Kind>)
 }
 
 /// `#` or `+` for the position after the move.
-#[tactic(auto, unfolding(crate::specs::Written::check_text))]
+#[tactic(auto, unfolding(crate::specs::SanSpelling::check_text))]
 fn push_check(out: &mut ArrayString<8>, next: &Position)
     requires { array_string_len out.old < 8 }
     ensures { out.new.bytes ≡ out.old.bytes ++ check_text next.now }
@@ -120,7 +120,7 @@ fn is_mate(p: &Position) -> bool
 }
 
 /// The parts that are written for a legal move of this man.
-#[tactic(auto, unfolding(crate::specs::Written::san_for))]
+#[tactic(auto, unfolding(crate::specs::SanSpelling::san_for))]
 fn describe(p: &Position, man: &Man, m: &Move) -> San
     ensures value { result ≡ san_for p.now man.now m.now }
     ensures file { IfSome result.file (λ f. f < 8) }
@@ -147,7 +147,7 @@ fn describe(p: &Position, man: &Man, m: &Move) -> San
 }
 
 /// Whether the origin's file is written.
-#[tactic(auto, unfolding(crate::specs::Written::gives_file))]
+#[tactic(auto, unfolding(crate::specs::SanSpelling::gives_file))]
 fn gives_file(p: &Position, man: &Man, x: Square) -> bool
     ensures { result ≡ gives_file p.now man.now x }
 {
@@ -159,21 +159,21 @@ fn gives_file(p: &Position, man: &Man, x: Square) -> bool
 }
 
 /// Whether the origin's rank is written.
-#[tactic(auto, unfolding(crate::specs::Written::gives_rank))]
+#[tactic(auto, unfolding(crate::specs::SanSpelling::gives_rank))]
 fn gives_rank(p: &Position, man: &Man, x: Square) -> bool
     ensures { result ≡ gives_rank p.now man.now x }
 {
     man.kind != Kind::Pawn && has_file_rival(p, man, x)
 }
 
-#[tactic(auto, unfolding(crate::specs::Written::has_rival))]
+#[tactic(auto, unfolding(crate::specs::SanSpelling::has_rival))]
 fn has_rival(p: &Position, man: &Man, x: Square) -> bool
     ensures { result ≡ has_rival p.now man.now x }
 {
     p.men().iter().any(|o| is_rival(p, man, x, o))
 }
 
-#[tactic(auto, unfolding(crate::specs::Written::has_file_rival))]
+#[tactic(auto, unfolding(crate::specs::SanSpelling::has_file_rival))]
 fn has_file_rival(p: &Position, man: &Man, x: Square) -> bool
     ensures { result ≡ has_file_rival p.now man.now x }
 {
@@ -183,7 +183,7 @@ fn has_file_rival(p: &Position, man: &Man, x: Square) -> bool
 }
 
 /// Whether `o` is another man of the same kind and side that can legally go to the square.
-#[tactic(auto, unfolding(crate::specs::Written::is_rival))]
+#[tactic(auto, unfolding(crate::specs::SanSpelling::is_rival))]
 fn is_rival(p: &Position, man: &Man, x: Square, o: &Man) -> bool
     ensures { result ≡ is_rival p.now man.now x o.now }
 {

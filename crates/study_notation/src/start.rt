@@ -2,9 +2,9 @@
 ghost use Rattle.std.specs.Prelude.{◌≡◌, true};
 ghost use Rattle.study_board.specs.Position.{IsValid};
 ghost use Rattle.study_moves.specs.Rules.{is_legal};
-ghost use Rattle.study_notation.specs.Played.{one_more, resets_clock, number_after, start_after};
+ghost use Rattle.study_notation.specs.StartAfter.{one_more, resets_clock, number_after, start_after};
 
-use crate::captures::is_capture;
+use crate::capture_rule::is_capture;
 use study_board::{Kind, Position, Side};
 use study_moves::{Move, played};
 
@@ -31,7 +31,7 @@ impl Start {
     /// The start after a legal move.
     ///
     /// The clock is 0 after a capture or a pawn's move, otherwise one more; the number is one more after Black's move. Both stay at 65,535.
-    #[tactic(auto, unfolding(crate::specs::Played::start_after))]
+    #[tactic(auto, unfolding(crate::specs::StartAfter::start_after))]
     pub fn played(&self, m: Move) -> Start
         requires { is_legal self.now.position m ≡ true }
         ensures value { result ≡ start_after self.now m }
@@ -67,7 +67,7 @@ fn number_after(side: Side, number: u16) -> u16
 }
 
 /// Whether a legal move is a capture or a pawn's move.
-#[tactic(auto, unfolding(crate::specs::Played::resets_clock))]
+#[tactic(auto, unfolding(crate::specs::StartAfter::resets_clock))]
 fn resets_clock(p: &Position, m: &Move) -> bool
     ensures { result ≡ resets_clock p.now m.now }
 {

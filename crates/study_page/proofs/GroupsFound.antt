@@ -1,7 +1,7 @@
 -- The groups of defences, one after the other.
 use Rattle.std.proofs.Common.{◌≡◌, ℕ, zero, suc, ◌+◌, List, [], ◌∷◌, ◌++◌, take, drop, sym, ap, ◌∙◌, arith}
 use Rattle.study_board.specs.Position.{Position}
-use Rattle.study_facts.specs.declared.missing.Defence.{Defence}
+use Rattle.study_facts.specs.declared.missing_defences.Defence.{Defence}
 use Rattle.study_page.specs.Rows.{group_at, groups_from}
 
 -- the first that is left is the next that is taken

@@ -15,16 +15,16 @@ use Rattle.study_marks.specs.Bench.{played_by}
 use Rattle.study_marks.specs.FaultSums.{below_at}
 use Rattle.study_marks.specs.Study.{Study, position_at}
 use Rattle.study_marks.specs.Goals.{aim_of}
-use Rattle.study_facts.specs.declared.continuation.Continuation.{Continuation}
-use Rattle.study_facts.specs.declared.line.Made.{Made}
-use Rattle.study_facts.specs.declared.line.Place.{Place}
-use Rattle.study_facts.specs.declared.missing.Defence.{Defence}
-use Rattle.study_facts.specs.declared.time.Alternative.{Alternative}
+use Rattle.study_facts.specs.declared.continuation.EvaluatedMove.{EvaluatedMove}
+use Rattle.study_facts.specs.declared.line.MoveContext.{MoveContext}
+use Rattle.study_facts.specs.declared.line.NodePosition.{NodePosition}
+use Rattle.study_facts.specs.declared.missing_defences.Defence.{Defence}
+use Rattle.study_facts.specs.declared.time_loss.Alternative.{Alternative}
 use Rattle.study_facts.specs.Time.{AreTimedAlternatives}
 use Rattle.study_facts.specs.Continuations.{AreRefutations}
 use Rattle.study_facts.specs.Defences.{AreDefences}
 use Rattle.study_facts.specs.Line.{line_to, moves_of, IsPlaceOf, IsMadeIn}
-use Rattle.study_facts.specs.Nodes.{OnlyWhere, front_of, is_try, is_defended, is_open_end, is_solution_move, mark_at, value_at}
+use Rattle.study_facts.specs.Nodes.{EmptyUnless, parent_path, is_try, is_defended, is_open_end, is_solution_move, mark_at, value_at}
 use Rattle.study_facts.specs.Made.{Grew, Rose}
 use Rattle.study_facts.specs.TimeFaults.{CountWhere, IsTimeDual, IsTimeFaultOf, IsTimeFault, all_lose_time}
 use Rattle.study_facts.proofs.NodesShown.{front-is, are-there, not-there}
@@ -57,7 +57,7 @@ rose-to Count old mid new e h = subst (λ n. Rose Count old n) (sym e) h
 module _ (a : Aim) (d : ℕ) (line : List Position) (p : Position) (m : Move) (list : List Alternative) (are : AreTimedAlternatives a d line p m list) where
   pub dual-listed : (start : Start) (v : Value) (k : ℕ) (listed : Bool) (old new : List ℕ)
       → new ≡ old ++ (if listed then dual_item start d p m v list else [])
-      → Grew (OnlyWhere listed (IsFaultOf start a d line p m v (Some (Dual k)))) old new
+      → Grew (EmptyUnless listed (IsFaultOf start a d line p m v (Some (Dual k)))) old new
   dual-listed start v k true old new e = (dual_item start d p m v list, (list, are, refl), e)
   dual-listed start v k false old new e = ([], refl, e)
 
@@ -72,14 +72,14 @@ module _ (a : Aim) (d : ℕ) (line : List Position) (p : Position) (m : Move) (l
   dual-carded start v k old new e = (card start d p m k v list, (list, are, refl), e)
 
 module _ (s : Study Mark) (path : List ℕ) where
-  module _ (x : Made) (h : IsMadeIn s path x) where
-    front : h.front ≡ front_of path
+  module _ (x : MoveContext) (h : IsMadeIn s path x) where
+    front : h.front ≡ parent_path path
     front = front-is path h.front h.place h.path
 
     -- what holds where the move was made holds at the start of the path
     pub as-made : (P : Aim → ℕ → List Position → Position → Type 0)
         → P x.before.aim x.before.depth x.before.line.items x.before.position
-        → P (aim_of s) (length (front_of path)) (line_to s (front_of path)) (position_at s (front_of path))
+        → P (aim_of s) (length (parent_path path)) (line_to s (parent_path path)) (position_at s (parent_path path))
     as-made P k =
         let one = subst (λ (a : Aim). P a x.before.depth x.before.line.items x.before.position) h.before.aim k in
         let two = subst (λ d. P (aim_of s) d x.before.line.items x.before.position) h.before.depth one in
@@ -99,27 +99,27 @@ module _ (s : Study Mark) (path : List ℕ) where
         → Grew (FaultItems s path) old new
     fault-made v mark old new so e same grew =
         let there = as-made (λ a d l p. IsFaultOf s.start a d l p x.played v mark grew.0) grew.1 in
-        let marked = subst (λ (o : Option MoveMark). IsFaultOf s.start (aim_of s) (length (front_of path)) (line_to s (front_of path))
-        (position_at s (front_of path)) x.played v o grew.0) e there in
-        let valued = subst (λ w. IsFaultOf s.start (aim_of s) (length (front_of path)) (line_to s (front_of path))
-        (position_at s (front_of path)) x.played w (mark_at s path) grew.0) same marked in
+        let marked = subst (λ (o : Option MoveMark). IsFaultOf s.start (aim_of s) (length (parent_path path)) (line_to s (parent_path path))
+        (position_at s (parent_path path)) x.played v o grew.0) e there in
+        let valued = subst (λ w. IsFaultOf s.start (aim_of s) (length (parent_path path)) (line_to s (parent_path path))
+        (position_at s (parent_path path)) x.played w (mark_at s path) grew.0) same marked in
         are-there (is_solution_move s path) _ old new so (
           grew.0,
-          subst (λ (o : Option Move). MatchOption o (grew.0 ≡ []) (λ m. IsFaultOf s.start (aim_of s) (length (front_of path))
-              (line_to s (front_of path)) (position_at s (front_of path)) m (value_at s path) (mark_at s path) grew.0)) (sym h.played) valued,
+          subst (λ (o : Option Move). MatchOption o (grew.0 ≡ []) (λ m. IsFaultOf s.start (aim_of s) (length (parent_path path))
+              (line_to s (parent_path path)) (position_at s (parent_path path)) m (value_at s path) (mark_at s path) grew.0)) (sym h.played) valued,
           grew.2,
         )
 
     -- the same, where it is listed
     pub fault-listed : (v : Value) (mark : Option MoveMark) (listed : Bool) (old new : List ℕ) → listed ≡ is_solution_move s path
         → mark ≡ mark_at s path → v ≡ value_at s path
-        → Grew (OnlyWhere listed (IsFaultOf s.start x.before.aim x.before.depth x.before.line.items x.before.position x.played v mark)) old new
+        → Grew (EmptyUnless listed (IsFaultOf s.start x.before.aim x.before.depth x.before.line.items x.before.position x.played v mark)) old new
         → Grew (FaultItems s path) old new
     fault-listed v mark true old new so e same grew = fault-made v mark old new (sym so) e same grew
     fault-listed v mark false old new so e same grew = (
       grew.0,
-      subst (λ b. OnlyWhere b (λ (t : List ℕ). MatchOption (played_by (spot_at s.tree path)) (t ≡ []) (λ m. IsFaultOf s.start (aim_of s)
-          (length (front_of path)) (line_to s (front_of path)) (position_at s (front_of path)) m (value_at s path) (mark_at s path) t)) grew.0) so grew.1,
+      subst (λ b. EmptyUnless b (λ (t : List ℕ). MatchOption (played_by (spot_at s.tree path)) (t ≡ []) (λ m. IsFaultOf s.start (aim_of s)
+          (length (parent_path path)) (line_to s (parent_path path)) (position_at s (parent_path path)) m (value_at s path) (mark_at s path) t)) grew.0) so grew.1,
       grew.2,
     )
 
@@ -172,7 +172,7 @@ module _ (s : Study Mark) (path : List ℕ) where
     plain-fault v (Some Reply) i = refl
 
     no-item : (v : Value) (mark : Option MoveMark) (listed : Bool) → IsPlain mark
-        → OnlyWhere listed (IsFaultOf s.start x.before.aim x.before.depth x.before.line.items x.before.position x.played v mark) []
+        → EmptyUnless listed (IsFaultOf s.start x.before.aim x.before.depth x.before.line.items x.before.position x.played v mark) []
     no-item v mark true i = plain-fault v mark i
     no-item v mark false i = refl
 
@@ -187,13 +187,13 @@ module _ (s : Study Mark) (path : List ℕ) where
         → Grew (Cards s path) old new
     card-made v mark old new e same grew =
         let there = as-made (λ a d l p. IsCardOf s.start a d l p x.played v mark grew.0) grew.1 in
-        let marked = subst (λ (o : Option MoveMark). IsCardOf s.start (aim_of s) (length (front_of path)) (line_to s (front_of path))
-        (position_at s (front_of path)) x.played v o grew.0) e there in
-        let valued = subst (λ w. IsCardOf s.start (aim_of s) (length (front_of path)) (line_to s (front_of path))
-        (position_at s (front_of path)) x.played w (mark_at s path) grew.0) same marked in (
+        let marked = subst (λ (o : Option MoveMark). IsCardOf s.start (aim_of s) (length (parent_path path)) (line_to s (parent_path path))
+        (position_at s (parent_path path)) x.played v o grew.0) e there in
+        let valued = subst (λ w. IsCardOf s.start (aim_of s) (length (parent_path path)) (line_to s (parent_path path))
+        (position_at s (parent_path path)) x.played w (mark_at s path) grew.0) same marked in (
           grew.0,
-          subst (λ (o : Option Move). MatchOption o (grew.0 ≡ []) (λ m. IsCardOf s.start (aim_of s) (length (front_of path))
-              (line_to s (front_of path)) (position_at s (front_of path)) m (value_at s path) (mark_at s path) grew.0)) (sym h.played) valued,
+          subst (λ (o : Option Move). MatchOption o (grew.0 ≡ []) (λ m. IsCardOf s.start (aim_of s) (length (parent_path path))
+              (line_to s (parent_path path)) (position_at s (parent_path path)) m (value_at s path) (mark_at s path) grew.0)) (sym h.played) valued,
           grew.2,
         )
 
@@ -203,8 +203,8 @@ module _ (s : Study Mark) (path : List ℕ) where
       let nothing : List ℕ = [] in
       are-there (is_solution_move s path) _ text text so (
         nothing,
-        subst (λ (o : Option Move). MatchOption o (nothing ≡ nothing) (λ m. IsFaultOf s.start (aim_of s) (length (front_of path))
-            (line_to s (front_of path)) (position_at s (front_of path)) m (value_at s path) (mark_at s path) nothing)) (sym e) refl,
+        subst (λ (o : Option Move). MatchOption o (nothing ≡ nothing) (λ m. IsFaultOf s.start (aim_of s) (length (parent_path path))
+            (line_to s (parent_path path)) (position_at s (parent_path path)) m (value_at s path) (mark_at s path) nothing)) (sym e) refl,
         sym (append-nil text),
       )
 
@@ -219,12 +219,12 @@ module _ (s : Study Mark) (path : List ℕ) where
   no-card text e =
       let nothing : List ℕ = [] in (
         nothing,
-        subst (λ (o : Option Move). MatchOption o (nothing ≡ nothing) (λ m. IsCardOf s.start (aim_of s) (length (front_of path))
-            (line_to s (front_of path)) (position_at s (front_of path)) m (value_at s path) (mark_at s path) nothing)) (sym e) refl,
+        subst (λ (o : Option Move). MatchOption o (nothing ≡ nothing) (λ m. IsCardOf s.start (aim_of s) (length (parent_path path))
+            (line_to s (parent_path path)) (position_at s (parent_path path)) m (value_at s path) (mark_at s path) nothing)) (sym e) refl,
         sym (append-nil text),
       )
 
-  module _ (x : Place) (h : IsPlaceOf s path x) where
+  module _ (x : NodePosition) (h : IsPlaceOf s path x) where
     -- what holds at the place holds at the path
     pub as-placed : (P : Aim → ℕ → Position → Type 0) → P x.aim x.depth x.position → P (aim_of s) (length path) (position_at s path)
     as-placed P k =
@@ -237,7 +237,7 @@ module _ (s : Study Mark) (path : List ℕ) where
     zugzwang-told z old new k grew =
         (zugzwang_rows (where_words s path) z, (z, as-placed (λ a d p. IsZugzwangOf p z) k, refl), grew)
 
-    pub try-told : (list : List Continuation) (old new : List ℕ) → is_try s path ≡ true → AreRefutations x.aim x.depth x.position list
+    pub try-told : (list : List EvaluatedMove) (old new : List ℕ) → is_try s path ≡ true → AreRefutations x.aim x.depth x.position list
         → new ≡ old ++ try_row (where_words s path) x.position (value_at s path) list → Grew (TryRows s path) old new
     try-told list old new is k grew =
         are-there (is_try s path) _ old new is (

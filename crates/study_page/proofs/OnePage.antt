@@ -17,7 +17,7 @@ use Rattle.study_marks.specs.FaultSums.{below_at}
 use Rattle.study_marks.specs.Study.{Study, position_at}
 use Rattle.study_marks.specs.Goals.{aim_of, holds}
 use Rattle.study_facts.specs.Line.{line_to, moves_of}
-use Rattle.study_facts.specs.Nodes.{front_of, mark_at, value_at, is_try, is_defended, is_open_end, is_solution_move}
+use Rattle.study_facts.specs.Nodes.{parent_path, mark_at, value_at, is_try, is_defended, is_open_end, is_solution_move}
 use Rattle.study_facts.proofs.OneFacts.{One, one-chosen, one-alternatives, one-defences, one-play, one-where, one-match, one-each, one-time-count}
 use Rattle.study_page.specs.Words.{where_words}
 use Rattle.study_page.specs.Rows.{IsFaultOf, FaultItems, IsCardOf, Cards, TryRows, DefenceRows, IsPlay, IsEnd, EndRows}
@@ -56,12 +56,12 @@ module _ (law : EachHasAtMostOneValue) (start : Start) (d : ℕ) (node : List �
 module _ (law : EachHasAtMostOneValue) (s : Study Mark) (path : List ℕ) where
   faults-once : One (FaultItems s path)
   faults-once = one-where (is_solution_move s path) _ (one-match (played_by (spot_at s.tree path)) _
-      (λ m. one-fault law s.start (aim_of s) (length (front_of path)) (line_to s (front_of path)) (position_at s (front_of path)) m
+      (λ m. one-fault law s.start (aim_of s) (length (parent_path path)) (line_to s (parent_path path)) (position_at s (parent_path path)) m
       (value_at s path) (mark_at s path)))
 
   cards-once : One (Cards s path)
   cards-once = one-match (played_by (spot_at s.tree path)) _
-      (λ m. one-card law s.start (aim_of s) (length (front_of path)) (line_to s (front_of path)) (position_at s (front_of path)) m
+      (λ m. one-card law s.start (aim_of s) (length (parent_path path)) (line_to s (parent_path path)) (position_at s (parent_path path)) m
       (value_at s path) (mark_at s path))
 
   tries-once : One (TryRows s path)

@@ -6,12 +6,12 @@ use Rattle.std.proofs.lemmas.List.{append-nil}
 use Rattle.std.proofs.lemmas.Result.{on_ok_weaker}
 use Rattle.study_board.specs.declared.men.Side.{Side}
 use Rattle.study_notation.specs.declared.start.Start.{Start}
-use Rattle.study_notation.specs.Played.{start_after}
+use Rattle.study_notation.specs.StartAfter.{start_after}
 use Rattle.study_tree.specs.Forest.{Forest, none, more, Twig}
 use Rattle.study_tree.specs.Edits.{node_in, width}
 use Rattle.study_marks.specs.declared.mark.Mark.{Mark}
 use Rattle.study_marks.proofs.PathWalks.{skip}
-use Rattle.study_facts.specs.Nodes.{has_none}
+use Rattle.study_facts.specs.Nodes.{is_leaf}
 use Rattle.study_html.specs.declared.element.Element.TheVariants.{Item}
 use Rattle.study_html.specs.Elements.{inside}
 use Rattle.study_page.specs.Tree.{made_words, list_where, others_of, tree_words, item_words}
@@ -39,7 +39,7 @@ others_skip none = refl
 others_skip (more m l b r) = skip_zero r
 
 -- there are other moves beside the first
-others_there : (f : Forest Mark) → nat_lt 1 (width f) ≡ not (has_none (skip 1 f))
+others_there : (f : Forest Mark) → nat_lt 1 (width f) ≡ not (is_leaf (skip 1 f))
 others_there none = refl
 others_there (more m l b none) = refl
 others_there (more m l b (more n j c r)) = lt-ltb 1 (1 + (1 + width r)) (omega arith)
@@ -51,17 +51,17 @@ module _ (hero : Side) (s : Start) where
   first_text first f None = []
   first_text first f (Some t) =
       made_words hero first s t.played t.label
-      ++ (list_where (item_words hero s (skip 1 f)) ++ tree_words hero (not (has_none (skip 1 f))) (start_after s t.played) t.below)
+      ++ (list_where (item_words hero s (skip 1 f)) ++ tree_words hero (not (is_leaf (skip 1 f))) (start_after s t.played) t.below)
 
   tree_is : (first : Bool) (f : Forest Mark) → tree_words hero first s f ≡ first_text first f (node_in f 0 [])
   tree_is first none = refl
   tree_is first (more m l b r) =
-      ap (λ g. made_words hero first s m l ++ (list_where (item_words hero s g) ++ tree_words hero (not (has_none g)) (start_after s m) b))
+      ap (λ g. made_words hero first s m l ++ (list_where (item_words hero s g) ++ tree_words hero (not (is_leaf g)) (start_after s m) b))
       (sym (skip_zero r))
 
   tree_first : (first : Bool) (f : Forest Mark) (t : Twig Mark) → node_in f 0 [] ≡ Some t →
       tree_words hero first s f ≡ made_words hero first s t.played t.label
-      ++ (list_where (item_words hero s (skip 1 f)) ++ tree_words hero (not (has_none (skip 1 f))) (start_after s t.played) t.below)
+      ++ (list_where (item_words hero s (skip 1 f)) ++ tree_words hero (not (is_leaf (skip 1 f))) (start_after s t.played) t.below)
   tree_first first f t e = tree_is first f ∙ ap (first_text first f) e
 
   -- nothing follows
@@ -131,7 +131,7 @@ module _ (hero : Side) (s : Start) where
     ply_written old made listed whole wide e em el ew h =
         let w = made_words hero first s t.played t.label in
         let l = list_where (item_words hero s (skip 1 f)) in
-        let b = tree_words hero (not (has_none (skip 1 f))) (start_after s t.played) t.below in
+        let b = tree_words hero (not (is_leaf (skip 1 f))) (start_after s t.played) t.below in
         let after : tree_words hero wide next t.below ≡ b =
         ap (λ x. tree_words hero wide x t.below) en ∙ ap (λ x. tree_words hero x (start_after s t.played) t.below) (ew ∙ others_there f) in
         let both : listed ≡ (old ++ w) ++ l =

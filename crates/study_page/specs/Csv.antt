@@ -9,7 +9,7 @@ use Rattle.study_marks.specs.Annotated.{IsAnnotated}
 use Rattle.study_pgn.specs.Pgn.{stipulation_text}
 use Rattle.study_facts.specs.Order.{AreTimeFaults}
 use Rattle.study_head.specs.Known.{known}
-use Rattle.study_head.specs.Verdict.{stamp_words, judged}
+use Rattle.study_head.specs.Verdict.{stamp_words, judgement_of}
 
 -- a comma, a quotation mark or an end of line: a field with one of them stands in quotation marks
 abbrev pub is_special : ℕ → Bool
@@ -40,7 +40,7 @@ names s = column (known (tag_of s.tags Event)) ++ column (known (tag_of s.tags W
 unfoldable pub record_text : Study Mark → ℕ → ℕ → List ℕ
 record_text s time number =
     column (decimal number) ++ (names s ++ (column (fen_text s.start) ++ (column (stipulation_text s.stipulation)
-    ++ (field (stamp_words (judged s time).stamp) ++ codes "\r\n"))))
+    ++ (field (stamp_words (judgement_of s time).stamp) ++ codes "\r\n"))))
 
 -- a refused line: its number and its text in place of a title, and the name of the refusal in place of a verdict
 unfoldable pub refused_record : ℕ → List ℕ → List ℕ → List ℕ

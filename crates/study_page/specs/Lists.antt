@@ -9,7 +9,7 @@ use Rattle.study_html.specs.Escape.{said}
 use Rattle.study_html.specs.Elements.{inside}
 use Rattle.study_head.specs.Known.{known}
 use Rattle.study_head.specs.Head.{title_words}
-use Rattle.study_head.specs.Verdict.{stamp_words, judged}
+use Rattle.study_head.specs.Verdict.{stamp_words, judgement_of}
 
 -- a refused line: its number, its text, the name of the refusal, and the reason in words
 unfoldable pub refusal_part : ℕ → List ℕ → List ℕ → List ℕ → List ℕ
@@ -23,7 +23,7 @@ unfoldable pub summary_row : Study Mark → ℕ → ℕ → List ℕ
 summary_row s time number =
     inside Row (inside Cell (said (decimal number)) ++ (inside Cell (inside (Link number) (said (title_words (known (tag_of s.tags Event)))))
     ++ (inside Cell (said (known (tag_of s.tags White)))
-    ++ (inside Cell (said (stipulation_text s.stipulation)) ++ inside Cell (said (stamp_words (judged s time).stamp))))))
+    ++ (inside Cell (said (stipulation_text s.stipulation)) ++ inside Cell (said (stamp_words (judgement_of s time).stamp))))))
 
 unfoldable pub two_heads : List ℕ → List ℕ → List ℕ
 two_heads a b = inside Head (said a) ++ inside Head (said b)

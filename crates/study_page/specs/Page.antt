@@ -9,7 +9,7 @@ use Rattle.study_html.specs.Escape.{said}
 use Rattle.study_html.specs.Elements.{inside}
 use Rattle.study_html.specs.Markup.{IsWellNested}
 use Rattle.study_head.specs.Head.{head, figure}
-use Rattle.study_head.specs.Verdict.{judged}
+use Rattle.study_head.specs.Verdict.{judgement_of}
 use Rattle.study_page.specs.Verdict.{verdict_part}
 use Rattle.study_page.specs.Tree.{solution_words}
 use Rattle.study_page.specs.Lists.{summary_row}
@@ -82,7 +82,7 @@ tables tries zugzwangs defences ends =
 
 -- the diagram and the verdict, side by side
 unfoldable pub top : Study Mark → ℕ → List ℕ → List ℕ
-top s time faults = inside element.Top (figure s.stipulation s.start ++ verdict_part (judged s time) faults)
+top s time faults = inside element.Top (figure s.stipulation s.start ++ verdict_part (judgement_of s time) faults)
 
 unfoldable pub content : Study Mark → ℕ → List ℕ → List ℕ → List ℕ → List ℕ → List ℕ → List ℕ → List ℕ
 content s time faults duals tries zugzwangs defences ends =

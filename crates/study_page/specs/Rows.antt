@@ -11,7 +11,7 @@ use Rattle.study_moves.specs.declared.moves.Move.{Move}
 use Rattle.study_moves.specs.Rules.{after}
 use Rattle.study_moves.specs.LegalList.{legal_list}
 use Rattle.study_notation.specs.declared.start.Start.{Start}
-use Rattle.study_notation.specs.Written.{move_text}
+use Rattle.study_notation.specs.SanSpelling.{move_text}
 use Rattle.study_values.specs.declared.value.Value.{Value}
 use Rattle.study_values.specs.declared.value.Value.TheVariants.{Win, Loss, Draw}
 use Rattle.study_tree.specs.Tree.{spot_at}
@@ -24,9 +24,9 @@ use Rattle.study_marks.specs.FaultSums.{below_at}
 use Rattle.study_marks.specs.Study.{Study, position_at}
 use Rattle.study_marks.specs.Goals.{aim_of}
 use Rattle.study_pgn.specs.Values.{value_text}
-use Rattle.study_facts.specs.declared.continuation.Continuation.{Continuation}
-use Rattle.study_facts.specs.declared.time.Alternative.{Alternative}
-use Rattle.study_facts.specs.declared.missing.Defence.{Defence}
+use Rattle.study_facts.specs.declared.continuation.EvaluatedMove.{EvaluatedMove}
+use Rattle.study_facts.specs.declared.time_loss.Alternative.{Alternative}
+use Rattle.study_facts.specs.declared.missing_defences.Defence.{Defence}
 use Rattle.study_facts.specs.Continuations.{AreRefutations, AreDrawingMoves}
 use Rattle.study_facts.specs.Time.{AreTimedAlternatives}
 use Rattle.study_facts.specs.Defences.{AreDefences}
@@ -36,7 +36,7 @@ use Rattle.study_facts.specs.Words.{move_words}
 use Rattle.study_facts.specs.declared.zugzwang.Zugzwang.{Zugzwang}
 use Rattle.study_facts.specs.declared.zugzwang.Zugzwang.TheVariants.{Full, Half}
 use Rattle.study_facts.specs.Zugzwang.{IsZugzwangOf}
-use Rattle.study_facts.specs.Nodes.{front_of, OnlyWhere, mark_at, value_at, is_stalemate, is_try, is_defended, is_open_end, is_solution_move}
+use Rattle.study_facts.specs.Nodes.{parent_path, EmptyUnless, mark_at, value_at, is_stalemate, is_try, is_defended, is_open_end, is_solution_move}
 use Rattle.study_html.specs.declared.element.Element.TheVariants.{Strong, Small, Below, Item, Card, Beside, CardTitle, Label, Also}
 use Rattle.study_html.specs.declared.element.Element.TheVariants.{Paragraph, Row, Cell, Whole, Group, Answer}
 use Rattle.study_html.specs.declared.drawing.Drawing.TheVariants.{Break}
@@ -104,12 +104,12 @@ others_words p v list = codes ": also " ++ (list_words p v (take 6 list) ++ more
 unfoldable pub dual_item : Start → ℕ → Position → Move → Value → List Alternative → List ℕ
 dual_item start d p m v list = inside Item (said (label start d p m ++ others_words p v list))
 
-unfoldable pub lets_go : List ℕ
-lets_go = codes " lets the aim go: "
+unfoldable pub gives_up_goal : List ℕ
+gives_up_goal = codes " lets the aim go: "
 
 -- `3. Kb4 lets the aim go: draw`
 unfoldable pub mistake_item : Start → ℕ → Position → Move → Value → List ℕ
-mistake_item start d p m v = inside Item (said (label start d p m ++ (lets_go ++ value_text (other_side p.to_move) v)))
+mistake_item start d p m v = inside Item (said (label start d p m ++ (gives_up_goal ++ value_text (other_side p.to_move) v)))
 
 -- of a move from p, the last of a line
 abbrev pub IsFaultOf : Start → Aim → ℕ → List Position → Position → Move → Value → Option MoveMark → List ℕ → Type 0
@@ -124,9 +124,9 @@ IsFaultOf start a d line p m v (Some Reply) text = text ≡ []
 -- a fault of the solution
 abbrev pub FaultItems : Study Mark → List ℕ → List ℕ → Type 0
 FaultItems s path text =
-    OnlyWhere (is_solution_move s path)
-    (λ t. MatchOption (played_by (spot_at s.tree path)) (t ≡ []) (λ m. IsFaultOf s.start (aim_of s) (length (front_of path))
-    (line_to s (front_of path)) (position_at s (front_of path)) m (value_at s path) (mark_at s path) t)) text
+    EmptyUnless (is_solution_move s path)
+    (λ t. MatchOption (played_by (spot_at s.tree path)) (t ≡ []) (λ m. IsFaultOf s.start (aim_of s) (length (parent_path path))
+    (line_to s (parent_path path)) (position_at s (parent_path path)) m (value_at s path) (mark_at s path) t)) text
 
 -- ---- duals
 
@@ -171,8 +171,8 @@ IsCardOf start a d line p m v (Some Reply) text = text ≡ []
 -- a card for each dual
 abbrev pub Cards : Study Mark → List ℕ → List ℕ → Type 0
 Cards s path text =
-    MatchOption (played_by (spot_at s.tree path)) (text ≡ []) (λ m. IsCardOf s.start (aim_of s) (length (front_of path))
-    (line_to s (front_of path)) (position_at s (front_of path)) m (value_at s path) (mark_at s path) text)
+    MatchOption (played_by (spot_at s.tree path)) (text ≡ []) (λ m. IsCardOf s.start (aim_of s) (length (parent_path path))
+    (line_to s (parent_path path)) (position_at s (parent_path path)) m (value_at s path) (mark_at s path) text)
 
 -- ---- tries
 
@@ -184,10 +184,10 @@ front_cells node side v = inside Cell (said node) ++ inside Cell (said (value_te
 unfoldable pub told_move : Position → Move → Value → List ℕ
 told_move p m v = inside Strong (said (move_text p m)) ++ inside Below (said (short_words true v))
 
-unfoldable pub refuted_item : Position → Continuation → List ℕ
+unfoldable pub refuted_item : Position → EvaluatedMove → List ℕ
 refuted_item p x = inside Whole (told_move p x.played x.value) ++ said (codes " ")
 
-abbrev pub refuted_items : Position → List Continuation → List ℕ
+abbrev pub refuted_items : Position → List EvaluatedMove → List ℕ
 refuted_items p list = if is_stalemate p then said (codes "stalemate") else flat_map (refuted_item p) list
 
 -- `(3 of 17)`
@@ -199,13 +199,13 @@ abbrev pub refuted_count : Position → ℕ → List ℕ
 refuted_count p n =
     if is_stalemate p then [] else (if n == 1 then inside Strong (said (codes "only")) else inside Small (said (of_all n (length (legal_list p)))))
 
-unfoldable pub try_row : List ℕ → Position → Value → List Continuation → List ℕ
+unfoldable pub try_row : List ℕ → Position → Value → List EvaluatedMove → List ℕ
 try_row node p v list = inside Row (front_cells node p.to_move v ++ inside Cell (refuted_items p list ++ refuted_count p (length list)))
 
 -- a row for each try
 abbrev pub TryRows : Study Mark → List ℕ → List ℕ → Type 0
 TryRows s path text =
-    OnlyWhere (is_try s path) (λ t. (list : List Continuation)
+    EmptyUnless (is_try s path) (λ t. (list : List EvaluatedMove)
     × AreRefutations (aim_of s) (length path) (position_at s path) list
     × (t ≡ try_row (where_words s path) (position_at s path) (value_at s path) list)) text
 
@@ -308,7 +308,7 @@ defence_row node p (y ∷ ys) =
 -- a row for each position of the solution in which a defence is missing
 abbrev pub DefenceRows : Study Mark → List ℕ → List ℕ → Type 0
 DefenceRows s path text =
-    OnlyWhere (is_defended s path) (λ t. (list : List Defence)
+    EmptyUnless (is_defended s path) (λ t. (list : List Defence)
     × AreDefences (aim_of s) (length path) (position_at s path) (moves_of (below_at s.tree.below path)) list
     × (t ≡ defence_row (where_words s path) (position_at s path) list)) text
 
@@ -323,32 +323,32 @@ abbrev pub number_words : Bool → Start → ℕ → Side → List ℕ
 number_words first start d side = if first || is_white side then front_words start d side else []
 
 -- moves that are played one after the other, from depth d on, with their numbers
-abbrev pub play_words : Bool → Start → ℕ → Position → List Continuation → List ℕ
+abbrev pub play_words : Bool → Start → ℕ → Position → List EvaluatedMove → List ℕ
 play_words first start d p [] = []
 play_words first start d p (x ∷ xs) =
     number_words first start d p.to_move ++ (move_text p x.played ++ (codes " " ++ play_words false start (d + 1) (after p x.played) xs))
 
-unfoldable pub keep_it : List ℕ
-keep_it = codes " moves keep it:"
+unfoldable pub keeps_draw_words : List ℕ
+keeps_draw_words = codes " moves keep it:"
 
 -- `3 of 9 moves keep it: Kb5 Kb6 Kc6`
-unfoldable pub keep_words : Position → List Continuation → List ℕ
+unfoldable pub keep_words : Position → List EvaluatedMove → List ℕ
 keep_words p list =
-    decimal (length list) ++ (codes " of " ++ (decimal (length (legal_list p)) ++ (keep_it ++ flat_map (move_words p) list)))
+    decimal (length list) ++ (codes " of " ++ (decimal (length (legal_list p)) ++ (keeps_draw_words ++ flat_map (move_words p) list)))
 
 unfoldable pub end_row : List ℕ → Side → Value → List ℕ → List ℕ
 end_row node side v goes_on = inside Row (front_cells node side v ++ inside Cell (said goes_on))
 
 abbrev pub IsPlay : Start → ℕ → List ℕ → Position → Value → List ℕ → Type 0
-IsPlay start d node p v text = (list : List Continuation) × IsBestPlay 20 p list × (text ≡ end_row node p.to_move v (play_words true start d p list))
+IsPlay start d node p v text = (list : List EvaluatedMove) × IsBestPlay 20 p list × (text ≡ end_row node p.to_move v (play_words true start d p list))
 
 -- best play where a side wins, and the moves that keep a draw
 abbrev pub IsEnd : Start → ℕ → List ℕ → Position → Value → List ℕ → Type 0
 IsEnd start d node p (Win n) text = IsPlay start d node p (Win n) text
 IsEnd start d node p (Loss n) text = IsPlay start d node p (Loss n) text
-IsEnd start d node p Draw text = (list : List Continuation) × AreDrawingMoves p list × (text ≡ end_row node p.to_move Draw (keep_words p list))
+IsEnd start d node p Draw text = (list : List EvaluatedMove) × AreDrawingMoves p list × (text ≡ end_row node p.to_move Draw (keep_words p list))
 
 -- a row for each open end
 abbrev pub EndRows : Study Mark → List ℕ → List ℕ → Type 0
 EndRows s path text =
-    OnlyWhere (is_open_end s path) (IsEnd s.start (length path) (where_words s path) (position_at s path) (value_at s path)) text
+    EmptyUnless (is_open_end s path) (IsEnd s.start (length path) (where_words s path) (position_at s path) (value_at s path)) text

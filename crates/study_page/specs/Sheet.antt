@@ -3,7 +3,7 @@ use Rattle.std.specs.Prelude.{◌≡◌, ℕ, ◌==◌, List, [], ◌++◌, leng
 use Rattle.study_moves.specs.declared.moves.Move.{Move}
 use Rattle.study_notation.specs.declared.start.Start.{Start}
 use Rattle.study_tree.specs.Forest.{Forest, none, more}
-use Rattle.study_marks.specs.Edits.{Plainly}
+use Rattle.study_marks.specs.Edits.{PlainStudy}
 use Rattle.study_marks.specs.Study.{Study, tag_of}
 use Rattle.study_marks.specs.declared.stipulation.Stipulation.{Stipulation}
 use Rattle.study_marks.specs.declared.tag.TagName.TheVariants.{White}
@@ -49,8 +49,8 @@ module _ {L : Type 0} where
       inside Figure (board s.start.position ++ place_caption number s.stipulation s.start (known (tag_of s.tags White)) (key_of s.tree.below))
 
 -- the place of this study, with this number; and of some study
-abbrev pub IsPlaceOf : Plainly → ℕ → List ℕ → Type 0
+abbrev pub IsPlaceOf : PlainStudy → ℕ → List ℕ → Type 0
 IsPlaceOf plain number text = text ≡ place plain number
 
 abbrev pub IsPlace : ℕ → List ℕ → Type 0
-IsPlace number text = (plain : Plainly) × IsPlaceOf plain number text
+IsPlace number text = (plain : PlainStudy) × IsPlaceOf plain number text

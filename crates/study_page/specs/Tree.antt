@@ -4,8 +4,8 @@ use Rattle.study_board.specs.declared.men.Side.{Side}
 use Rattle.study_board.specs.Men.{other_side, same_side}
 use Rattle.study_moves.specs.declared.moves.Move.{Move}
 use Rattle.study_notation.specs.declared.start.Start.{Start}
-use Rattle.study_notation.specs.Played.{start_after}
-use Rattle.study_notation.specs.Written.{move_text}
+use Rattle.study_notation.specs.StartAfter.{start_after}
+use Rattle.study_notation.specs.SanSpelling.{move_text}
 use Rattle.study_values.specs.declared.value.Value.{Value}
 use Rattle.study_tree.specs.Forest.{Forest, none, more}
 use Rattle.study_marks.specs.declared.mark.Mark.{Mark}
@@ -13,7 +13,7 @@ use Rattle.study_marks.specs.declared.mark.MoveMark.{MoveMark}
 use Rattle.study_marks.specs.declared.mark.MoveMark.TheVariants.{Only, Dual, Mistake, Idle}
 use Rattle.study_marks.specs.Study.{Study}
 use Rattle.study_pgn.specs.Moves.{number_text}
-use Rattle.study_facts.specs.Nodes.{has_none}
+use Rattle.study_facts.specs.Nodes.{is_leaf}
 use Rattle.study_html.specs.declared.element.Element.{Element}
 use Rattle.study_html.specs.declared.element.Element.TheVariants as element
 use Rattle.study_html.specs.Escape.{said}
@@ -72,7 +72,7 @@ abbrev mutual
   tree_words hero first s none = []
   tree_words hero first s (more m mark below others) =
       made_words hero first s m mark
-      ++ (list_where (item_words hero s others) ++ tree_words hero (not (has_none others)) (start_after s m) below)
+      ++ (list_where (item_words hero s others) ++ tree_words hero (not (is_leaf others)) (start_after s m) below)
 
   -- for each of these an item, with its move and what follows it
   pub item_words : Side → Start → Forest Mark → List ℕ

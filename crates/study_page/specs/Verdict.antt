@@ -2,7 +2,7 @@
 use Rattle.std.specs.Prelude.{ℕ, ◌==◌, List, [], ◌++◌, length, if◌then◌else◌}
 use Rattle.study_head.specs.declared.verdict.Stamp.{Stamp}
 use Rattle.study_head.specs.declared.verdict.Stamp.TheVariants.{Wrong, Sound, Holds, Unsound}
-use Rattle.study_head.specs.declared.verdict.Judged.{Judged}
+use Rattle.study_head.specs.declared.verdict.Judgement.{Judgement}
 use Rattle.study_head.specs.Verdict.{stamp_words, sentence, start_words}
 use Rattle.study_html.specs.declared.element.Element.{Element}
 use Rattle.study_html.specs.declared.element.Element.TheVariants as element
@@ -23,7 +23,7 @@ abbrev pub fault_list : List ℕ → List ℕ
 fault_list items = if length items == 0 then [] else inside element.Faults items
 
 -- the stamp, what it says, the value of the start, and these faults
-unfoldable pub verdict_part : Judged → List ℕ → List ℕ
+unfoldable pub verdict_part : Judgement → List ℕ → List ℕ
 verdict_part j faults =
     inside element.Verdict (stamp_part j.stamp ++ (inside element.Paragraph (said (sentence j.empty j.stamp))
     ++ (inside element.Paragraph (said (start_words j.first j.value)) ++ fault_list faults)))

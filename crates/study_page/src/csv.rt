@@ -11,7 +11,7 @@ ghost use Rattle.study_pgn.specs.Pgn.{stipulation_text};
 ghost use Rattle.study_facts.specs.Asked.{within};
 ghost use Rattle.study_facts.specs.Order.{HasReviewed};
 ghost use Rattle.study_facts.specs.Made.{HasAsked};
-ghost use Rattle.study_head.specs.Verdict.{stamp_words, judged};
+ghost use Rattle.study_head.specs.Verdict.{stamp_words, judgement_of};
 ghost use Rattle.study_page.specs.Csv.{is_special, doubled, quoted, field, column, head_record, names, record_text, refused_record};
 ghost use Rattle.study_page.specs.Csv.{IsRecord, IsSomeRecord, IsRecordOf};
 
@@ -19,8 +19,8 @@ use crate::fault::PageFault;
 use crate::page::parts_of;
 use std::alloc::{AllocError, Allocator};
 use std::io::Write;
-use study_facts::{NotMade, ReviewFault};
-use study_head::{add_stamp_words, judge, known_tag};
+use study_facts::{ReviewFault, TextFault};
+use study_head::{add_stamp_words, judgement_of, known_tag};
 use study_marks::{Bench, TagName};
 use study_notation::write_fen;
 use study_pgn::add_stipulation;
@@ -140,10 +140,10 @@ fn add_verdict<'a, 'b, A: Allocator, B: Allocator>(
     bench: &Bench<'b, B>,
     time: u32,
 ) -> Result<(), AllocError>
-    ensures { OnOk result (text.new ≡ text.old ++ field (stamp_words (judged (marked bench.now) time).stamp)) }
+    ensures { OnOk result (text.new ≡ text.old ++ field (stamp_words (judgement_of (marked bench.now) time).stamp)) }
 {
     let mut words = Text::new(alloc);
-    add_stamp_words(&mut words, judge(bench, time).stamp)?;
+    add_stamp_words(&mut words, judgement_of(bench, time).stamp)?;
     add_field(text, words.as_slice())
 }
 
@@ -172,7 +172,7 @@ fn record_of<'a, 'b, A: Allocator, B: Allocator, V: Values>(
     bench: &Bench<'b, B>,
     values: &mut V,
     number: u32,
-) -> Result<Text<'a, A>, NotMade>
+) -> Result<Text<'a, A>, TextFault>
     ensures text { V.is_honest values.old → IfOk result (λ text. IsRecord (marked bench.now) number text) }
     ensures form { IfOk result (λ text. IsSomeRecord number text) }
     ensures asked { HasAsked V.held (within (marked bench.now).start.position V.gives)

@@ -6,7 +6,7 @@ use study_html::Html;
 
 /// What is made of the nodes, part by part, and how many faults of the solution lose time alone.
 #[derive(Drop)]
-pub struct Parts<'a, A: Allocator> {
+pub struct Sections<'a, A: Allocator> {
     pub faults: Html<'a, A>,
     pub time_faults: u32,
     pub duals: Html<'a, A>,
@@ -16,7 +16,7 @@ pub struct Parts<'a, A: Allocator> {
     pub ends: Html<'a, A>,
 }
 
-impl<'a, A: Allocator> Parts<'a, A> {
+impl<'a, A: Allocator> Sections<'a, A> {
     /// Nothing of any node.
     pub fn new(alloc: &'a A) -> Self
         ensures faults { result.faults ≡ [] }
@@ -27,7 +27,7 @@ impl<'a, A: Allocator> Parts<'a, A> {
         ensures defences { result.defences ≡ [] }
         ensures ends { result.ends ≡ [] }
     {
-        Parts {
+        Sections {
             faults: Html::new(alloc),
             time_faults: 0,
             duals: Html::new(alloc),

@@ -4,19 +4,19 @@
 //! and the words of a study are never read as markup.
 #![tactic(auto)]
 
+mod cards_and_tries;
 mod csv;
+mod defence_groups;
 mod draft;
 mod fault;
-mod faults;
-mod groups;
-mod items;
+mod fault_list;
 mod laws;
-mod lists;
+mod mark_tests;
 mod page;
 mod parts;
-mod rows;
+mod play_rows;
 mod sheet;
-mod signs;
+mod summary;
 mod tree;
 mod verdict;
 mod walk;
@@ -25,6 +25,6 @@ mod words;
 pub use csv::{write_head_record, write_record, write_refused_record};
 pub use fault::PageFault;
 pub use laws::{pages_are_unique, plain_studies_have_one_page};
-pub use lists::{write_refusal, write_summary};
 pub use page::{Listed, write_page};
 pub use sheet::write_place;
+pub use summary::{write_refusal, write_summary};

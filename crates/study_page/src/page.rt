@@ -16,15 +16,15 @@ ghost use Rattle.study_page.specs.Rows.{FaultItems, Cards, TryRows, ZugzwangRows
 ghost use Rattle.study_page.specs.Tree.{solution_words};
 ghost use Rattle.study_page.specs.Page.{solution_part, duals_title, duals_note, foot_words, tables, top, content, IsPage, IsPageOf, IsEntry, IsRow};
 
-use crate::draft::Parts;
-use crate::lists::add_entry;
+use crate::draft::Sections;
+use crate::summary::add_entry;
 use crate::tree::put_following;
 use crate::verdict::put_verdict;
-use crate::walk::add_each;
+use crate::walk::add_section_below;
 use std::alloc::{AllocError, Allocator};
 use std::io::Write;
-use study_facts::{Made, NotMade, ReviewFault};
-use study_head::{judge, put_figure, put_head};
+use study_facts::{MoveContext, ReviewFault, TextFault};
+use study_head::{judgement_of, put_figure, put_head};
 use study_html::{Element, Html, put_words};
 use study_marks::Bench;
 use study_text::write_text;
@@ -35,7 +35,7 @@ pub fn parts_of<'a, 'b, A: Allocator, B: Allocator, V: Values>(
     alloc: &'a A,
     bench: &Bench<'b, B>,
     values: &mut V,
-) -> Result<Parts<'a, A>, NotMade>
+) -> Result<Sections<'a, A>, TextFault>
     ensures text { V.is_honest values.old → IfOk result (λ p. AreRows FaultItems (marked bench.now) p.faults
         × AreTimeFaults (marked bench.now) p.time_faults × AreRows Cards (marked bench.now) p.duals
         × AreRows TryRows (marked bench.now) p.tries × AreRows ZugzwangRows (marked bench.now) p.zugzwangs
@@ -45,10 +45,10 @@ pub fn parts_of<'a, 'b, A: Allocator, B: Allocator, V: Values>(
 {
     // (the study has at most 4,096 nodes)
     let _size = bench.size();
-    let mut parts = Parts::new(alloc);
+    let mut parts = Sections::new(alloc);
     let mut steps = Vec::new(alloc);
-    let mut room = Made::new();
-    add_each(alloc, &mut parts, bench, &mut steps, &mut room, values)?;
+    let mut room = MoveContext::new();
+    add_section_below(alloc, &mut parts, bench, &mut steps, &mut room, values)?;
     Ok(parts)
 }
 
@@ -222,7 +222,7 @@ fn ends_title() -> &'static [u8]
 fn put_last_tables<'a, A: Allocator>(
     alloc: &'a A,
     html: &mut Html<'_, A>,
-    parts: &Parts<'_, A>,
+    parts: &Sections<'_, A>,
 ) -> Result<(), AllocError>
     ensures { OnOk result (html.new ≡ html.old ++ last_tables parts.now.defences parts.now.ends) }
 {
@@ -239,7 +239,7 @@ fn put_last_tables<'a, A: Allocator>(
 fn put_tables<'a, A: Allocator>(
     alloc: &'a A,
     html: &mut Html<'_, A>,
-    parts: &Parts<'_, A>,
+    parts: &Sections<'_, A>,
 ) -> Result<(), AllocError>
     ensures { OnOk result (html.new ≡ html.old ++ tables parts.now.tries parts.now.zugzwangs parts.now.defences parts.now.ends) }
 {
@@ -264,7 +264,7 @@ fn put_top<'a, 'b, A: Allocator, B: Allocator>(
     alloc: &'a A,
     html: &mut Html<'_, A>,
     bench: &Bench<'b, B>,
-    parts: &Parts<'_, A>,
+    parts: &Sections<'_, A>,
 ) -> Result<(), AllocError>
     ensures { OnOk result (html.new ≡ html.old ++ top (marked bench.now) parts.now.time_faults parts.now.faults) }
 {
@@ -273,7 +273,7 @@ fn put_top<'a, 'b, A: Allocator, B: Allocator>(
     put_verdict(
         alloc,
         &mut within,
-        &judge(bench, parts.time_faults),
+        &judgement_of(bench, parts.time_faults),
         &parts.faults,
     )?;
     html.put(Element::Top, &within)
@@ -285,7 +285,7 @@ fn put_content<'a, 'b, A: Allocator, B: Allocator>(
     alloc: &'a A,
     html: &mut Html<'_, A>,
     bench: &Bench<'b, B>,
-    parts: &Parts<'_, A>,
+    parts: &Sections<'_, A>,
 ) -> Result<(), AllocError>
     ensures { OnOk result (html.new ≡ html.old ++ content (marked bench.now) parts.now.time_faults
         parts.now.faults parts.now.duals parts.now.tries parts.now.zugzwangs parts.now.defences parts.now.ends) }
@@ -334,7 +334,7 @@ fn entry_of<'a, 's, 'b, A: Allocator, S: Allocator, B: Allocator, V: Values>(
     values: &mut V,
     number: u32,
     list: &Listed<'_, 's, S>,
-) -> Result<Entry<'a, 's, A, S>, NotMade>
+) -> Result<Entry<'a, 's, A, S>, TextFault>
     ensures text { V.is_honest values.old → IfOk result (λ entry. IsPage (marked bench.now) number entry.page) }
     ensures rows { V.is_honest values.old → IfOk result (λ entry. (row : List ℕ) × IsRow (marked bench.now) number row
         × (entry.rows ≡ list.now.rows.now ++ row)) }

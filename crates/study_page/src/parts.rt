@@ -12,21 +12,21 @@ ghost use Rattle.study_page.specs.Rows.{IsFaultOf, FaultItems, IsCardOf, Cards, 
 ghost use Rattle.study_page.specs.Rows.{dual_item, mistake_item, card, zugzwang_rows, ZugzwangRows, play_words, keep_words, end_row, IsEnd, EndRows};
 ghost use Rattle.study_page.specs.Words.{where_words};
 ghost use Rattle.study_facts.specs.Play.{IsPlayed, ArePlayed};
-ghost use Rattle.study_facts.specs.Nodes.{OnlyWhere, value_at};
+ghost use Rattle.study_facts.specs.Nodes.{EmptyUnless, value_at};
 
-use crate::draft::Parts;
-use crate::faults::{put_dual, put_mistake};
-use crate::groups::put_defences;
-use crate::items::{put_card, put_try, put_zugzwang};
-use crate::rows::{add_keep, add_moves, put_end};
-use crate::signs::{is_defended, is_open_end, is_solution_move, is_try, mark_at};
-use crate::words::add_where;
+use crate::cards_and_tries::{put_card, put_try, put_zugzwang};
+use crate::defence_groups::put_defences;
+use crate::draft::Sections;
+use crate::fault_list::{put_dual, put_mistake};
+use crate::mark_tests::{is_defended, is_open_end, is_solution_move, is_try, mark_at};
+use crate::play_rows::{add_keep, add_moves, put_end};
+use crate::words::add_node_name;
 use std::alloc::{AllocError, Allocator};
 use study_board::Position;
 use study_facts::{
-    Alternative, Continuation, Defence, Made, Node, NotMade, Place, Zugzwang, all_lose_time,
-    best_play, children_in, count_where, defences, drawing_moves, fill_made, refutations,
-    timed_alternatives, value_at, zugzwang_at,
+    Alternative, Defence, EvaluatedMove, MoveContext, NodeContext, NodePosition, TextFault,
+    Zugzwang, all_lose_time, best_play, children_in, count_where, defences, drawing_moves,
+    fill_made, refutations, timed_alternatives, value_at, zugzwang_at,
 };
 use study_head::Ply;
 use study_html::Html;
@@ -41,7 +41,7 @@ fn put_listed_dual<'a, A: Allocator>(
     alloc: &'a A,
     html: &mut Html<'_, A>,
     ply: &Ply<'_>,
-    x: &Continuation,
+    x: &EvaluatedMove,
     list: &[Alternative],
     listed: bool,
 ) -> Result<(), AllocError>
@@ -75,7 +75,7 @@ fn loses_alone(listed: bool, list: &[Alternative]) -> bool
 /// The item and the card of a dual of which these are the others, and one more that loses time alone, where it does.
 fn put_dual_parts<'a, A: Allocator>(
     alloc: &'a A,
-    parts: &mut Parts<'_, A>,
+    parts: &mut Sections<'_, A>,
     ply: &Ply<'_>,
     played: Move,
     dual: DualFacts,
@@ -95,7 +95,7 @@ fn put_dual_parts<'a, A: Allocator>(
     ensures defences { parts.new.defences ≡ parts.old.defences }
     ensures ends { parts.new.ends ≡ parts.old.ends }
 {
-    let x = Continuation {
+    let x = EvaluatedMove {
         played,
         value: dual.value,
     };
@@ -110,15 +110,15 @@ fn put_dual_parts<'a, A: Allocator>(
 #[inline(never)]
 fn add_dual<'a, A: Allocator, V: Values>(
     alloc: &'a A,
-    parts: &mut Parts<'_, A>,
+    parts: &mut Sections<'_, A>,
     start: &Start,
-    made: &Made,
+    made: &MoveContext,
     dual: DualFacts,
     values: &mut V,
-) -> Result<(), NotMade>
+) -> Result<(), TextFault>
     requires depth { made.now.before.depth + 1 < 2 ^ 64 }
     requires legal { is_legal made.now.before.position made.now.played ≡ true }
-    ensures faults { V.is_honest values.old → OnOk result (Grew (OnlyWhere dual.listed (IsFaultOf start.now made.now.before.aim
+    ensures faults { V.is_honest values.old → OnOk result (Grew (EmptyUnless dual.listed (IsFaultOf start.now made.now.before.aim
         made.now.before.depth made.now.before.line.items made.now.before.position made.now.played dual.value (Some (MoveMark.Dual dual.others))))
         parts.old.faults parts.new.faults) }
     ensures time { V.is_honest values.old → OnOk result (Rose (CountWhere dual.listed (IsTimeDual made.now.before.aim made.now.before.depth
@@ -133,7 +133,7 @@ fn add_dual<'a, A: Allocator, V: Values>(
     ensures asked { HasAsked V.held (within made.now.before.position V.gives) V.may_fail V.asked_of V.failed_of V.is_honest values.old result values.new }
 {
     match timed_alternatives(&made.before, made.played, values) {
-        Err(fault) => Err(NotMade::Untold(fault)),
+        Err(fault) => Err(TextFault::Untold(fault)),
         Ok(list) => {
             let before = &made.before;
             let ply = Ply {
@@ -152,7 +152,7 @@ fn put_listed_mistake<'a, A: Allocator>(
     alloc: &'a A,
     html: &mut Html<'_, A>,
     start: &Start,
-    made: &Made,
+    made: &MoveContext,
     value: Value,
     listed: bool,
 ) -> Result<(), AllocError>
@@ -176,12 +176,12 @@ fn put_listed_mistake<'a, A: Allocator>(
 #[inline(never)]
 pub fn add_move<'a, 'b, A: Allocator, B: Allocator, V: Values>(
     alloc: &'a A,
-    parts: &mut Parts<'_, A>,
+    parts: &mut Sections<'_, A>,
     bench: &Bench<'b, B>,
     steps: &[u16],
-    made: &mut Made,
+    made: &mut MoveContext,
     values: &mut V,
-) -> Result<(), NotMade>
+) -> Result<(), TextFault>
     ensures faults { V.is_honest values.old → OnOk result (Grew (FaultItems (marked bench.now) steps.now) parts.old.faults parts.new.faults) }
     ensures time { V.is_honest values.old → OnOk result (Rose (IsTimeFault (marked bench.now) steps.now) parts.old.time_faults parts.new.time_faults) }
     ensures duals { V.is_honest values.old → OnOk result (Grew (Cards (marked bench.now) steps.now) parts.old.duals parts.new.duals) }
@@ -225,7 +225,7 @@ fn put_try_at<'a, 'b, A: Allocator, B: Allocator>(
     bench: &Bench<'b, B>,
     steps: &[u16],
     p: &Position,
-    list: &[Continuation],
+    list: &[EvaluatedMove],
 ) -> Result<(), AllocError>
     requires few { length list.now < 2 ^ 32 }
     requires legal { All (λ x. is_legal p.now x.played ≡ true) list.now }
@@ -233,7 +233,7 @@ fn put_try_at<'a, 'b, A: Allocator, B: Allocator>(
         ++ try_row (where_words (marked bench.now) steps.now) p.now (value_at (marked bench.now) steps.now) list.now) }
 {
     let mut node = Text::new(alloc);
-    add_where(&mut node, bench, steps)?;
+    add_node_name(&mut node, bench, steps)?;
     put_try(
         alloc,
         html,
@@ -251,9 +251,9 @@ fn add_try<'a, 'b, A: Allocator, B: Allocator, V: Values>(
     html: &mut Html<'_, A>,
     bench: &Bench<'b, B>,
     steps: &[u16],
-    place: &Place,
+    place: &NodePosition,
     values: &mut V,
-) -> Result<(), NotMade>
+) -> Result<(), TextFault>
     requires { IsPlaceOf (marked bench.now) steps.now place.now }
     ensures text { V.is_honest values.old → OnOk result (Grew (TryRows (marked bench.now) steps.now) html.old html.new) }
     ensures asked { HasAsked V.held (within place.now.position V.gives) V.may_fail V.asked_of V.failed_of V.is_honest values.old result values.new }
@@ -261,13 +261,13 @@ fn add_try<'a, 'b, A: Allocator, B: Allocator, V: Values>(
     if !is_try(bench, steps) {
         return Ok(());
     }
-    let node = Node {
+    let node = NodeContext {
         aim: &place.aim,
         depth: place.depth,
         position: &place.position,
     };
     match refutations(&node, values) {
-        Err(fault) => Err(NotMade::Untold(fault)),
+        Err(fault) => Err(TextFault::Untold(fault)),
         Ok(list) => {
             put_try_at(alloc, html, bench, steps, &place.position, list.as_slice())?;
             Ok(())
@@ -288,7 +288,7 @@ fn put_defences_at<'a, 'b, A: Allocator, B: Allocator>(
     ensures { OnOk result (html.new ≡ html.old ++ defence_row (where_words (marked bench.now) steps.now) p.now list.now) }
 {
     let mut node = Text::new(alloc);
-    add_where(&mut node, bench, steps)?;
+    add_node_name(&mut node, bench, steps)?;
     put_defences(alloc, html, node.as_slice(), p, list)
 }
 
@@ -299,9 +299,9 @@ fn add_defences<'a, 'b, A: Allocator, B: Allocator, V: Values>(
     html: &mut Html<'_, A>,
     bench: &Bench<'b, B>,
     steps: &[u16],
-    place: &Place,
+    place: &NodePosition,
     values: &mut V,
-) -> Result<(), NotMade>
+) -> Result<(), TextFault>
     requires found { IsTrue (has_spot (marked bench.now).tree steps.now) }
     requires place { IsPlaceOf (marked bench.now) steps.now place.now }
     ensures text { V.is_honest values.old → OnOk result (Grew (DefenceRows (marked bench.now) steps.now) html.old html.new) }
@@ -310,7 +310,7 @@ fn add_defences<'a, 'b, A: Allocator, B: Allocator, V: Values>(
     if !is_defended(bench, steps) {
         return Ok(());
     }
-    let node = Node {
+    let node = NodeContext {
         aim: &place.aim,
         depth: place.depth,
         position: &place.position,
@@ -318,7 +318,7 @@ fn add_defences<'a, 'b, A: Allocator, B: Allocator, V: Values>(
     match children_in(alloc, bench, steps)? {
         None => Ok(()),
         Some(there) => match defences(&node, there.as_slice(), values) {
-            Err(fault) => Err(NotMade::Untold(fault)),
+            Err(fault) => Err(TextFault::Untold(fault)),
             Ok(list) => {
                 put_defences_at(alloc, html, bench, steps, &place.position, list.as_slice())?;
                 Ok(())
@@ -332,7 +332,7 @@ fn put_keep_at<'a, A: Allocator>(
     html: &mut Html<'_, A>,
     node: &[u8],
     p: &Position,
-    list: &[Continuation],
+    list: &[EvaluatedMove],
 ) -> Result<(), AllocError>
     requires few { length list.now < 2 ^ 32 }
     requires legal { All (λ x. is_legal p.now x.played ≡ true) list.now }
@@ -348,9 +348,9 @@ fn put_play_at<'a, A: Allocator>(
     html: &mut Html<'_, A>,
     start: &Start,
     node: &[u8],
-    place: &Place,
+    place: &NodePosition,
     value: Value,
-    list: &[Continuation],
+    list: &[EvaluatedMove],
 ) -> Result<(), AllocError>
     requires depth { place.now.depth + length list.now < 2 ^ 64 }
     requires legal { ArePlayed place.now.position list.now }
@@ -369,24 +369,24 @@ fn add_continued<'a, A: Allocator, V: Values>(
     alloc: &'a A,
     html: &mut Html<'_, A>,
     start: &Start,
-    place: &Place,
+    place: &NodePosition,
     node: &[u8],
     value: Value,
     values: &mut V,
-) -> Result<(), NotMade>
+) -> Result<(), TextFault>
     requires { place.now.depth + 20 < 2 ^ 64 }
     ensures text { V.is_honest values.old → OnOk result (Grew (IsEnd start.now place.now.depth node.now place.now.position value)
         html.old html.new) }
     ensures asked { HasAsked V.held (within place.now.position V.gives) V.may_fail V.asked_of V.failed_of V.is_honest values.old result values.new }
 {
     if value == Value::Draw {
-        let before = Node {
+        let before = NodeContext {
             aim: &place.aim,
             depth: 0,
             position: &place.position,
         };
         match drawing_moves(&before, values) {
-            Err(fault) => Err(NotMade::Untold(fault)),
+            Err(fault) => Err(TextFault::Untold(fault)),
             Ok(list) => {
                 put_keep_at(alloc, html, node, &place.position, list.as_slice())?;
                 Ok(())
@@ -394,7 +394,7 @@ fn add_continued<'a, A: Allocator, V: Values>(
         }
     } else {
         match best_play(&place.position, values) {
-            Err(fault) => Err(NotMade::Untold(fault)),
+            Err(fault) => Err(TextFault::Untold(fault)),
             Ok(list) => {
                 put_play_at(alloc, html, start, node, place, value, list.as_slice())?;
                 Ok(())
@@ -410,9 +410,9 @@ fn add_end<'a, 'b, A: Allocator, B: Allocator, V: Values>(
     html: &mut Html<'_, A>,
     bench: &Bench<'b, B>,
     steps: &[u16],
-    place: &Place,
+    place: &NodePosition,
     values: &mut V,
-) -> Result<(), NotMade>
+) -> Result<(), TextFault>
     requires { IsPlaceOf (marked bench.now) steps.now place.now }
     ensures text { V.is_honest values.old → OnOk result (Grew (EndRows (marked bench.now) steps.now) html.old html.new) }
     ensures asked { HasAsked V.held (within place.now.position V.gives) V.may_fail V.asked_of V.failed_of V.is_honest values.old result values.new }
@@ -421,7 +421,7 @@ fn add_end<'a, 'b, A: Allocator, B: Allocator, V: Values>(
         return Ok(());
     }
     let mut node = Text::new(alloc);
-    add_where(&mut node, bench, steps)?;
+    add_node_name(&mut node, bench, steps)?;
     let value = value_at(bench, steps);
     add_continued(
         alloc,
@@ -447,7 +447,7 @@ fn put_zugzwang_at<'a, 'b, A: Allocator, B: Allocator>(
         None => Ok(()),
         Some(zugzwang) => {
             let mut node = Text::new(alloc);
-            add_where(&mut node, bench, steps)?;
+            add_node_name(&mut node, bench, steps)?;
             put_zugzwang(alloc, html, node.as_slice(), zugzwang)
         }
     }
@@ -460,15 +460,15 @@ fn add_zugzwang<'a, 'b, A: Allocator, B: Allocator, V: Values>(
     html: &mut Html<'_, A>,
     bench: &Bench<'b, B>,
     steps: &[u16],
-    place: &Place,
+    place: &NodePosition,
     values: &mut V,
-) -> Result<(), NotMade>
+) -> Result<(), TextFault>
     requires { IsPlaceOf (marked bench.now) steps.now place.now }
     ensures text { V.is_honest values.old → OnOk result (Grew (ZugzwangRows (marked bench.now) steps.now) html.old html.new) }
     ensures asked { HasAsked V.held (within place.now.position V.gives) V.may_fail V.asked_of V.failed_of V.is_honest values.old result values.new }
 {
     match zugzwang_at(&place.position, values) {
-        Err(fault) => Err(NotMade::Untold(fault)),
+        Err(fault) => Err(TextFault::Untold(fault)),
         Ok(zugzwang) => {
             put_zugzwang_at(alloc, html, bench, steps, zugzwang)?;
             Ok(())
@@ -480,12 +480,12 @@ fn add_zugzwang<'a, 'b, A: Allocator, B: Allocator, V: Values>(
 #[inline(never)]
 pub fn add_position<'a, 'b, A: Allocator, B: Allocator, V: Values>(
     alloc: &'a A,
-    parts: &mut Parts<'_, A>,
+    parts: &mut Sections<'_, A>,
     bench: &Bench<'b, B>,
     steps: &[u16],
-    place: &Place,
+    place: &NodePosition,
     values: &mut V,
-) -> Result<(), NotMade>
+) -> Result<(), TextFault>
     requires found { IsTrue (has_spot (marked bench.now).tree steps.now) }
     requires place { IsPlaceOf (marked bench.now) steps.now place.now }
     ensures faults { parts.new.faults ≡ parts.old.faults }

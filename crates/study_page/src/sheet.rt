@@ -12,7 +12,7 @@ ghost use Rattle.study_page.specs.Sheet.{number_words, author_line, key_words, k
 use crate::fault::PageFault;
 use std::alloc::{AllocError, Allocator};
 use std::io::Write;
-use study_facts::made_in;
+use study_facts::move_context_at;
 use study_head::{add_label, draw_board, known_tag, moves_first};
 use study_html::{Drawing, Element, Html, put_words};
 use study_marks::{Bench, TagName};
@@ -51,7 +51,7 @@ fn add_key<'b, A: Allocator, B: Allocator>(
 ) -> Result<(), AllocError>
     ensures { OnOk result (text.new ≡ text.old ++ key_words (marked bench.now).start (key_of (marked bench.now).tree.below)) }
 {
-    match made_in(bench, &[0]) {
+    match move_context_at(bench, &[0]) {
         None => Ok(()),
         Some(made) => add_label(
             text,

@@ -5,15 +5,15 @@ ghost use Rattle.study_marks.specs.declared.mark.Mark.{Mark as AMark};
 ghost use Rattle.study_marks.specs.Study.{IsPlayable};
 ghost use Rattle.study_moves.specs.declared.moves.Move.{Move as AMove};
 ghost use Rattle.study_moves.specs.Rules.{is_legal};
-ghost use Rattle.study_notation.specs.Played.{start_after};
+ghost use Rattle.study_notation.specs.StartAfter.{start_after};
 ghost use Rattle.study_tree.specs.Edits.{node_in, width};
 ghost use Rattle.study_tree.specs.Forest.{Twig};
 ghost use Rattle.study_page.specs.Tree.{move_element, sign_words, dual_words, number_where, played_words, below_words, made_words, list_where, others_of, item_words, tree_words};
 
-use crate::rows::is_white;
+use crate::play_rows::is_white;
 use std::alloc::{AllocError, Allocator};
 use study_board::Side;
-use study_head::add_short;
+use study_head::add_mate_distance;
 use study_html::{Element, Html, put_words};
 use study_marks::{MarkedChild, MarkedNode, MoveMark};
 use study_moves::Move;
@@ -120,7 +120,7 @@ fn put_below<'a, A: Allocator>(
     ensures { OnOk result (html.new ≡ html.old ++ below_words hero mover value) }
 {
     let mut text = Text::new(alloc);
-    add_short(&mut text, mover.other() == hero, value)?;
+    add_mate_distance(&mut text, mover.other() == hero, value)?;
     put_words(alloc, html, Element::Below, text.as_slice())
 }
 

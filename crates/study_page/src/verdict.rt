@@ -3,7 +3,7 @@ ghost use Rattle.std.specs.Prelude.{◌≡◌, ◌++◌, OnOk};
 ghost use Rattle.study_page.specs.Verdict.{stamp_element, stamp_part, fault_list, verdict_part};
 
 use std::alloc::{AllocError, Allocator};
-use study_head::{Judged, Stamp, add_sentence, add_stamp_words, add_start_value};
+use study_head::{Judgement, Stamp, add_sentence, add_stamp_words, add_start_value};
 use study_html::{Element, Html, put_words};
 use study_text::Text;
 
@@ -52,7 +52,7 @@ fn put_faults<A: Allocator>(html: &mut Html<'_, A>, faults: &Html<'_, A>) -> Res
 pub fn put_verdict<'a, A: Allocator>(
     alloc: &'a A,
     html: &mut Html<'_, A>,
-    judged: &Judged,
+    judged: &Judgement,
     faults: &Html<'_, A>,
 ) -> Result<(), AllocError>
     ensures { OnOk result (html.new ≡ html.old ++ verdict_part judged.now faults.now) }

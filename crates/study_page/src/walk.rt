@@ -10,10 +10,10 @@ ghost use Rattle.study_facts.specs.TimeFaults.{IsTimeFault};
 ghost use Rattle.study_facts.specs.Made.{HasAsked};
 ghost use Rattle.study_page.specs.Rows.{FaultItems, Cards, TryRows, ZugzwangRows, DefenceRows, EndRows};
 
-use crate::draft::Parts;
+use crate::draft::Sections;
 use crate::parts::{add_move, add_position};
 use std::alloc::Allocator;
-use study_facts::{Made, NotMade, Place, count_at, fill_place};
+use study_facts::{MoveContext, NodePosition, TextFault, child_count, fill_place};
 use study_marks::Bench;
 use study_values::Values;
 
@@ -22,12 +22,12 @@ use study_values::Values;
 #[inline(never)]
 fn add_there<'a, 'b, A: Allocator, B: Allocator, V: Values>(
     alloc: &'a A,
-    parts: &mut Parts<'_, A>,
+    parts: &mut Sections<'_, A>,
     bench: &Bench<'b, B>,
     steps: &[u16],
-    room: &mut Place,
+    room: &mut NodePosition,
     values: &mut V,
-) -> Result<(), NotMade>
+) -> Result<(), TextFault>
     requires { IsTrue (has_spot (marked bench.now).tree steps.now) }
     ensures faults { parts.new.faults ≡ parts.old.faults }
     ensures time { parts.new.time_faults ≡ parts.old.time_faults }
@@ -48,16 +48,16 @@ fn add_there<'a, 'b, A: Allocator, B: Allocator, V: Values>(
     add_position(alloc, parts, bench, steps, room, values)
 }
 
-/// What the parts have of the node at the path. It is a call of its own, so that a ply of `add_each` takes little of the stack.
+/// What the parts have of the node at the path. It is a call of its own, so that a ply of `add_section_below` takes little of the stack.
 #[inline(never)]
-fn add_own<'a, 'b, A: Allocator, B: Allocator, V: Values>(
+fn add_node_section<'a, 'b, A: Allocator, B: Allocator, V: Values>(
     alloc: &'a A,
-    parts: &mut Parts<'_, A>,
+    parts: &mut Sections<'_, A>,
     bench: &Bench<'b, B>,
     steps: &[u16],
-    room: &mut Made,
+    room: &mut MoveContext,
     values: &mut V,
-) -> Result<(), NotMade>
+) -> Result<(), TextFault>
     requires { IsTrue (has_spot (marked bench.now).tree steps.now) }
     ensures faults { V.is_honest values.old → OnOk result (Grew (FaultItems (marked bench.now) steps.now) parts.old.faults parts.new.faults) }
     ensures time { V.is_honest values.old → OnOk result (Rose (IsTimeFault (marked bench.now) steps.now) parts.old.time_faults parts.new.time_faults) }
@@ -75,14 +75,14 @@ fn add_own<'a, 'b, A: Allocator, B: Allocator, V: Values>(
 }
 
 /// What the parts have of the node at the path and of all below it. `room` is for the line of one node after the other.
-pub fn add_each<'a, 'b, A: Allocator, B: Allocator, V: Values>(
+pub fn add_section_below<'a, 'b, A: Allocator, B: Allocator, V: Values>(
     alloc: &'a A,
-    parts: &mut Parts<'_, A>,
+    parts: &mut Sections<'_, A>,
     bench: &Bench<'b, B>,
     steps: &mut Vec<u16, &A>,
-    room: &mut Made,
+    room: &mut MoveContext,
     values: &mut V,
-) -> Result<(), NotMade>
+) -> Result<(), TextFault>
     requires { IsTrue (has_spot (marked bench.now).tree steps.old.items) }
     ensures faults { V.is_honest values.old → OnOk result (Grew (LinesOfEach (FaultItems (marked bench.now))
         (steps.old.items ∷ paths_from steps.old.items 0 (below_at (marked bench.now).tree.below steps.old.items))) parts.old.faults parts.new.faults) }
@@ -105,11 +105,11 @@ pub fn add_each<'a, 'b, A: Allocator, B: Allocator, V: Values>(
     ensures asked { HasAsked V.held (within (marked bench.now).start.position V.gives)
         V.may_fail V.asked_of V.failed_of V.is_honest values.old result values.new }
 {
-    add_own(alloc, parts, bench, steps.as_slice(), room, values)?;
-    let count = count_at(bench, steps.as_slice());
+    add_node_section(alloc, parts, bench, steps.as_slice(), room, values)?;
+    let count = child_count(bench, steps.as_slice());
     for place in 0..count {
         steps.push(place)?;
-        add_each(alloc, parts, bench, steps, room, values)?;
+        add_section_below(alloc, parts, bench, steps, room, values)?;
         steps.pop();
     }
     Ok(())

@@ -10,7 +10,7 @@ use study_marks::Bench;
 use study_text::Text;
 
 /// The move to the node at the path, or that it is the start.
-pub fn add_where<'b, A: Allocator, B: Allocator>(
+pub fn add_node_name<'b, A: Allocator, B: Allocator>(
     text: &mut Text<'_, A>,
     bench: &Bench<'b, B>,
     steps: &[u16],

@@ -7,7 +7,7 @@ use Rattle.std.proofs.Math.Seq.{take-append_seam}
 use Rattle.study_moves.specs.declared.moves.Move.{Move}
 use Rattle.study_moves.specs.Rules.{after}
 use Rattle.study_notation.specs.declared.start.Start.{Start}
-use Rattle.study_notation.specs.Played.{start_after}
+use Rattle.study_notation.specs.StartAfter.{start_after}
 use Rattle.study_tree.specs.Forest.{Forest, Twig}
 use Rattle.study_tree.specs.Edits.{node_in, width}
 use Rattle.study_marks.specs.declared.mark.Mark.{Mark}

@@ -3,7 +3,7 @@ use Rattle.std.proofs.Common.{◌≡◌, ℕ, zero, suc, ◌≤◌, List, [], �
 use Rattle.std.specs.Prelude.{codes}
 use Rattle.study_moves.specs.Rules.{after}
 use Rattle.study_notation.specs.declared.start.Start.{Start}
-use Rattle.study_notation.specs.Played.{start_after}
+use Rattle.study_notation.specs.StartAfter.{start_after}
 use Rattle.study_tree.specs.Forest.{Forest, none, more, Twig}
 use Rattle.study_tree.specs.Edits.{node_in, width}
 use Rattle.study_marks.specs.declared.mark.Mark.{Mark}

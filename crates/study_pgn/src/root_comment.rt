@@ -1,6 +1,6 @@
 //! The opening comment.
 ghost use Rattle.std.specs.Prelude.{◌≡◌, ◌++◌, OnOk};
-ghost use Rattle.study_marks.specs.Goals.{is_right};
+ghost use Rattle.study_marks.specs.Goals.{meets_stipulation};
 ghost use Rattle.study_marks.specs.Study.{Study};
 ghost use Rattle.study_marks.specs.declared.mark.Mark.{Mark as AMark};
 ghost use Rattle.study_marks.specs.Verdict.{verdict};
@@ -38,8 +38,8 @@ pub fn add_stipulation<A: Allocator>(
 }
 
 /// Whether the root's value meets the stipulation; `to_move`: the hero is to move there.
-pub fn is_right(goal: Goal, to_move: bool, value: Value) -> bool
-    ensures { result ≡ is_right (record { goal = goal; hero_first = to_move }) value }
+pub fn meets_stipulation(goal: Goal, to_move: bool, value: Value) -> bool
+    ensures { result ≡ meets_stipulation (record { goal = goal; hero_first = to_move }) value }
 {
     match goal {
         Goal::Win => hero_mates(to_move, value).is_some(),
@@ -64,7 +64,7 @@ fn add_verdict<A: Allocator>(
     ensures { (s : Study AMark) → s.stipulation ≡ stipulation → s.start.position.to_move ≡ first → s.tree.label ≡ root
         → OnOk result (text.new ≡ text.old ++ verdict_text (verdict s)) }
 {
-    if !is_right(stipulation.goal, stipulation.hero == first, root.value) {
+    if !meets_stipulation(stipulation.goal, stipulation.hero == first, root.value) {
         text.add(b"wrong")
     } else if root.faults == 0 {
         text.add(b"sound")

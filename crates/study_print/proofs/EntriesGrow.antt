@@ -3,8 +3,8 @@ use Rattle.std.proofs.Common.{◌≡◌, ℕ, Bool, true, false, Result, Ok, Err
 use Rattle.std.specs.Prelude.{OnOk, if◌then◌else◌}
 use Rattle.study_report.specs.Remarks.{is_left_out}
 use Rattle.study_report.specs.Told.{Entry, game_entry, games_in}
-use Rattle.study_print.specs.declared.pages.Count.{Count}
-use Rattle.study_print.specs.declared.pages.Count.TheVariants.{Nothing, One, Several}
+use Rattle.study_print.specs.declared.pages.EntryCount.{EntryCount}
+use Rattle.study_print.specs.declared.pages.EntryCount.TheVariants.{Nothing, One, Several}
 use Rattle.study_print.specs.Entries.{count_of, left_out_row, IsRowOf, AreRows, AreEntries}
 
 rows_after : (entries : List Entry) (rows : List ℕ) (x : Entry) (row : List ℕ) → IsRowOf x row → AreRows entries rows
@@ -18,14 +18,14 @@ rows_after (y ∷ more) rows x row is (one, rest, its, tail, e) = (
   ap (λ (u : List ℕ). u ++ row) e ∙ append_assoc one rest row,
 )
 
-count_after : (entries : List Entry) (x : Entry) (count next : Count) → count ≡ count_of entries
+count_after : (entries : List Entry) (x : Entry) (count next : EntryCount) → count ≡ count_of entries
     → (count ≡ Nothing → next ≡ One) → (count ≡ One → next ≡ Several) → (count ≡ Several → next ≡ Several)
     → next ≡ count_of (entries ++ x ∷ [])
 count_after [] x count next same f g h = f same
 count_after (a ∷ []) x count next same f g h = g same
 count_after (a ∷ b ∷ more) x count next same f g h = h same
 
-pub entries_after : (entries : List Entry) (count next : Count) (rows new : List ℕ) (x : Entry) → AreEntries count rows entries
+pub entries_after : (entries : List Entry) (count next : EntryCount) (rows new : List ℕ) (x : Entry) → AreEntries count rows entries
     → (row : List ℕ) × IsRowOf x row × (new ≡ rows ++ row)
     → (count ≡ Nothing → next ≡ One) → (count ≡ One → next ≡ Several) → (count ≡ Several → next ≡ Several)
     → AreEntries next new (entries ++ x ∷ [])
@@ -35,7 +35,7 @@ entries_after entries count next rows new x (same, are) (row, is, e) f g h = (
 )
 
 -- with the game that was left out
-pub game_after : (entries : List Entry) (count next : Count) (rows new line : List ℕ) → is_left_out line ≡ true → AreEntries count rows entries
+pub game_after : (entries : List Entry) (count next : EntryCount) (rows new line : List ℕ) → is_left_out line ≡ true → AreEntries count rows entries
     → new ≡ rows ++ left_out_row line
     → (count ≡ Nothing → next ≡ One) → (count ≡ One → next ≡ Several) → (count ≡ Several → next ≡ Several)
     → AreEntries next new (entries ++ games_in line)
@@ -48,7 +48,7 @@ on-ok (Ok x) P h = h
 on-ok (Err e) P h = tt
 
 -- another remark is no entry
-pub no_game_after : (entries : List Entry) (count : Count) (rows line : List ℕ) → is_left_out line ≡ false → AreEntries count rows entries
+pub no_game_after : (entries : List Entry) (count : EntryCount) (rows line : List ℕ) → is_left_out line ≡ false → AreEntries count rows entries
     → AreEntries count rows (entries ++ games_in line)
 no_game_after entries count rows line out are =
     subst (λ (b : Bool). AreEntries count rows (entries ++ (if b then game_entry line ∷ [] else []))) (sym out)

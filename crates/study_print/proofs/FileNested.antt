@@ -12,8 +12,8 @@ use Rattle.study_script.specs.declared.running.Summary.{Summary}
 use Rattle.study_script.specs.declared.running.RunFault.{RunFault}
 use Rattle.study_script.specs.declared.running.RunFault.TheVariants.{ReadDevice, WriteDevice, LineTooLong, TooManyLines, OutOfMemory}
 use Rattle.study_script.specs.Written.{Piece, error_of}
-use Rattle.study_report.specs.declared.kind.Kind.{Kind}
-use Rattle.study_report.specs.declared.kind.Kind.TheVariants.{Remark, PassedOver, NoClass, Study, Checked}
+use Rattle.study_report.specs.declared.line_kind.LineKind.{LineKind}
+use Rattle.study_report.specs.declared.line_kind.LineKind.TheVariants.{Remark, PassedOver, NoClass, Study, Checked}
 use Rattle.study_report.specs.Told.{line_kind, study_count}
 use Rattle.study_report.specs.Remarks.{is_left_out}
 use Rattle.study_report.specs.Parts.{Part, nothing_part, refused_part, remark_part, checked_part, parts_text, IsPartAs, AreParts, AreWritten, Fits}
@@ -27,10 +27,10 @@ use Rattle.study_html.specs.Markup.{IsWellNested}
 use Rattle.study_html.proofs.MarkupGrows.{none_nested, both_nested, said_nested, inside_nested}
 use Rattle.study_page.specs.Page.{IsEntry}
 use Rattle.study_page.specs.Lists.{refusal_part, summary_part, summary_heads, two_heads, three_heads}
-use Rattle.study_print.specs.declared.pages.Count.{Count}
-use Rattle.study_print.specs.declared.pages.Count.TheVariants.{Nothing, One, Several}
+use Rattle.study_print.specs.declared.pages.EntryCount.{EntryCount}
+use Rattle.study_print.specs.declared.pages.EntryCount.TheVariants.{Nothing, One, Several}
 use Rattle.study_print.specs.Remarks.{left_out_part, original_part, remark_text}
-use Rattle.study_print.specs.Pages.{refusal_text, summary_text, end_text, is_broken, IsClosed, IsEndedIf, IsEnded, IsBody, IsWholeFile, IsWholeUnlessCut}
+use Rattle.study_print.specs.Pages.{refusal_text, summary_text, end_text, writer_failed, IsClosed, IsEndedIf, IsEnded, IsBody, IsWholeFile, IsWholeUnlessCut}
 use Rattle.study_print.proofs.BodyGrows.{none_body, both_bodies, nested_body, original_body}
 
 -- ---- what a line writes
@@ -69,7 +69,7 @@ checked_nested : (number : ℕ) (line : List ℕ) (piece : Piece) (refused : Boo
 checked_nested number line piece true = refusal_nested number line _ _
 checked_nested number line piece false = none_nested
 
-part_nested : (kind : Kind) (number next : ℕ) (line : List ℕ) (part : Part) → IsPartAs IsEntry refusal_text remark_text kind number next line part
+part_nested : (kind : LineKind) (number next : ℕ) (line : List ℕ) (part : Part) → IsPartAs IsEntry refusal_text remark_text kind number next line part
     → IsBody part.text
 part_nested Remark number next line part h =
     body_of part (remark_part IsEntry refusal_text remark_text line) h (remark_body line (is_left_out line))
@@ -102,14 +102,14 @@ list_nested rows h =
     within element.Summary _ (both_nested _ _ (within Header _ (within Title _ (word _)))
     (within Table _ (both_nested _ _ (heads_nested _ _ _ _ _) (within Rows rows h))))
 
-summary_nested : (count : Count) (rows : List ℕ) → IsWellNested rows → IsWellNested (summary_text count rows)
+summary_nested : (count : EntryCount) (rows : List ℕ) → IsWellNested rows → IsWellNested (summary_text count rows)
 summary_nested Nothing rows h = none_nested
 summary_nested One rows h = none_nested
 summary_nested Several rows h = list_nested rows h
 
 -- ---- the file
 
-module _ (old begun ended new : Option (List ℕ)) (count : Count) (rows : List ℕ) (nested : IsWellNested rows) where
+module _ (old begun ended new : Option (List ℕ)) (count : EntryCount) (rows : List ℕ) (nested : IsWellNested rows) where
   whole : (lines : List (List ℕ)) (refusals : ℕ) → Appends old begun opening → AreWritten IsEntry refusal_text remark_text lines begun ended refusals
       → Appends ended new (end_text count rows) → IsWholeFile old new
   whole lines refusals opened written closed =
@@ -130,7 +130,7 @@ module _ (old begun ended new : Option (List ℕ)) (count : Count) (rows : List 
   whole_by script left (Err WriteDevice) opened fits closed = tt
   whole_by script left (Err OutOfMemory) opened fits closed = tt
 
-  cut : (ran answer : Result Summary RunFault) → is_broken ran ≡ true → answer ≡ ran → IsWholeUnlessCut old new answer
+  cut : (ran answer : Result Summary RunFault) → writer_failed ran ≡ true → answer ≡ ran → IsWholeUnlessCut old new answer
   cut (Err WriteDevice) answer broken same = subst (IsWholeUnlessCut old new) (sym same) tt
   cut (Ok summary) answer broken same = absurd (false≢true broken)
   cut (Err ReadDevice) answer broken same = absurd (false≢true broken)
@@ -138,7 +138,7 @@ module _ (old begun ended new : Option (List ℕ)) (count : Count) (rows : List 
   cut (Err TooManyLines) answer broken same = absurd (false≢true broken)
   cut (Err OutOfMemory) answer broken same = absurd (false≢true broken)
 
-  ended_if : (broken : Bool) (script : List ℕ) (left : Option (List ℕ)) (ran answer : Result Summary RunFault) → is_broken ran ≡ broken
+  ended_if : (broken : Bool) (script : List ℕ) (left : Option (List ℕ)) (ran answer : Result Summary RunFault) → writer_failed ran ≡ broken
       → Appends old begun opening → Fits IsEntry refusal_text remark_text script left begun ended ran
       → IsEndedIf broken (end_text count rows) ended new ran answer → IsWholeUnlessCut old new answer
   ended_if true script left ran answer broken opened fits end = cut ran answer broken end.0
@@ -151,4 +151,4 @@ module _ (old begun ended new : Option (List ℕ)) (count : Count) (rows : List 
       → IfSome given (λ bytes. Fits IsEntry refusal_text remark_text bytes left begun ended ran) → IsEnded (end_text count rows) ended new ran answer
       → IfSome given (λ bytes. IsWholeUnlessCut old new answer)
   whole_file left None ran answer opened fits end = tt
-  whole_file left (Some script) ran answer opened fits end = ended_if (is_broken ran) script left ran answer refl opened fits end
+  whole_file left (Some script) ran answer opened fits end = ended_if (writer_failed ran) script left ran answer refl opened fits end

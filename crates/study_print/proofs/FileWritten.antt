@@ -11,9 +11,9 @@ use Rattle.study_report.specs.Outcome.{Outcome, AreListed, AreListedBefore, Shap
 use Rattle.study_report.specs.Parts.{Fits}
 use Rattle.study_html.specs.Frame.{opening}
 use Rattle.study_page.specs.Page.{IsPageOf, IsEntry}
-use Rattle.study_print.specs.declared.pages.Count.{Count}
+use Rattle.study_print.specs.declared.pages.EntryCount.{EntryCount}
 use Rattle.study_print.specs.Entries.{AreEntries}
-use Rattle.study_print.specs.Pages.{refusal_text, end_text, is_broken, IsClosed, IsEndedIf, IsEnded, AreItsEntries, IsFile, FileShape, IsAnswerTo, FileFits}
+use Rattle.study_print.specs.Pages.{refusal_text, end_text, writer_failed, IsClosed, IsEndedIf, IsEnded, AreItsEntries, IsFile, FileShape, IsAnswerTo, FileFits}
 use Rattle.study_print.specs.Remarks.{remark_text}
 
 pub where_ok : {A E : Type 0} (r : Result A E) (P : Type 0) → is_err r ≡ false → OnOk r P → P
@@ -22,7 +22,7 @@ where_ok (Err x) P e h = absurd cc
 
 -- ---- a run with its end
 
-module _ (first : State) (left old begun ended new : Option (List ℕ)) (answer : Result Summary RunFault) (count : Count) (rows : List ℕ) where
+module _ (first : State) (left old begun ended new : Option (List ℕ)) (answer : Result Summary RunFault) (count : EntryCount) (rows : List ℕ) where
   listed_in : (script : List ℕ) (ran : Result Summary RunFault)
       → OnOk ran (IfSome (Some script) (λ bytes. AreListed IsPageOf refusal_text remark_text first bytes begun ended (AreEntries count rows)))
       → IfErr ran (λ fault. IfSome (Some script)
@@ -60,7 +60,7 @@ answer_if false text old new ran answer (inr (inr (fault, h))) = inr (inr fault)
 pub whole_shape : (left old new : Option (List ℕ)) (given : Option (List ℕ)) (text : List ℕ) (ran answer : Result Summary RunFault)
     → IfSome given (λ bytes. Shape bytes left ran) → IsEnded text old new ran answer → IfSome given (λ bytes. FileShape bytes left answer)
 whole_shape left old new None text ran answer h end = tt
-whole_shape left old new (Some script) text ran answer h end = inr (ran, h, answer_if (is_broken ran) text old new ran answer end)
+whole_shape left old new (Some script) text ran answer h end = inr (ran, h, answer_if (writer_failed ran) text old new ran answer end)
 
 pub no_shape : (given : Option (List ℕ)) → IfSome given (λ bytes. FileShape bytes given (Err WriteDevice))
 no_shape None = tt
@@ -68,7 +68,7 @@ no_shape (Some script) = inl (refl, refl)
 
 -- ---- what is written, whatever the tables say
 
-pub whole_fits : (left old begun ended new : Option (List ℕ)) (answer : Result Summary RunFault) (count : Count) (rows : List ℕ) (given : Option (List ℕ))
+pub whole_fits : (left old begun ended new : Option (List ℕ)) (answer : Result Summary RunFault) (count : EntryCount) (rows : List ℕ) (given : Option (List ℕ))
     (ran : Result Summary RunFault) → Appends old begun opening → IfSome given (λ bytes. Fits IsEntry refusal_text remark_text bytes left begun ended ran)
     → IsEnded (end_text count rows) ended new ran answer → IfSome given (λ bytes. FileFits bytes left old new answer)
 whole_fits left old begun ended new answer count rows None ran opened fits end = tt

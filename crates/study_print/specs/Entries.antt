@@ -9,11 +9,11 @@ use Rattle.study_html.specs.Elements.{inside}
 use Rattle.study_report.specs.Remarks.{subject, statement}
 use Rattle.study_report.specs.Told.{Entry, study_entry, game_entry}
 use Rattle.study_page.specs.Page.{IsRow}
-use Rattle.study_print.specs.declared.pages.Count.{Count}
-use Rattle.study_print.specs.declared.pages.Count.TheVariants.{Nothing, One, Several}
+use Rattle.study_print.specs.declared.pages.EntryCount.{EntryCount}
+use Rattle.study_print.specs.declared.pages.EntryCount.TheVariants.{Nothing, One, Several}
 
 -- none, one, or more entries
-abbrev pub count_of : List Entry → Count
+abbrev pub count_of : List Entry → EntryCount
 count_of [] = Nothing
 count_of (x ∷ []) = One
 count_of (x ∷ y ∷ more) = Several
@@ -34,5 +34,5 @@ AreRows [] rows = rows ≡ []
 AreRows (x ∷ more) rows = (row rest : List ℕ) × IsRowOf x row × AreRows more rest × (rows ≡ row ++ rest)
 
 -- exactly these entries
-abbrev pub AreEntries : Count → List ℕ → List Entry → Type 0
+abbrev pub AreEntries : EntryCount → List ℕ → List Entry → Type 0
 AreEntries count rows entries = (count ≡ count_of entries) × AreRows entries rows

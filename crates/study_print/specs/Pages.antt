@@ -12,30 +12,30 @@ use Rattle.study_html.specs.Frame.{opening, closing}
 use Rattle.study_html.specs.Markup.{Markup, text_of}
 use Rattle.study_page.specs.Page.{IsPageOf, IsEntry}
 use Rattle.study_page.specs.Lists.{refusal_part, summary_part}
-use Rattle.study_print.specs.declared.pages.Count.{Count}
-use Rattle.study_print.specs.declared.pages.Count.TheVariants.{Nothing, One, Several}
+use Rattle.study_print.specs.declared.pages.EntryCount.{EntryCount}
+use Rattle.study_print.specs.declared.pages.EntryCount.TheVariants.{Nothing, One, Several}
 use Rattle.study_print.specs.Entries.{AreEntries}
-use Rattle.study_print.specs.Reasons.{refusal_in, reason_of}
+use Rattle.study_print.specs.Reasons.{refusal_name, reason_of}
 use Rattle.study_print.specs.Remarks.{original_part, remark_text}
 
 -- a refused line: its number, its text, and the script's reply to it, with the reason in words
 abbrev pub refusal_text : ℕ → List ℕ → List ℕ → List ℕ
-refusal_text number line reply = refusal_part number line (refusal_in reply) (reason_of (refusal_in reply))
+refusal_text number line reply = refusal_part number line (refusal_name reply) (reason_of (refusal_name reply))
 
 -- the list of all entries, if there are two or more
-abbrev pub summary_text : Count → List ℕ → List ℕ
+abbrev pub summary_text : EntryCount → List ℕ → List ℕ
 summary_text Nothing rows = []
 summary_text One rows = []
 summary_text Several rows = summary_part rows
 
 -- what comes after the last page
-abbrev pub end_text : Count → List ℕ → List ℕ
+abbrev pub end_text : EntryCount → List ℕ → List ℕ
 end_text count rows = summary_text count rows ++ closing
 
 -- whether the writer failed
-abbrev pub is_broken : Result Summary RunFault → Bool
-is_broken (Err WriteDevice) = true
-is_broken ran = false
+abbrev pub writer_failed : Result Summary RunFault → Bool
+writer_failed (Err WriteDevice) = true
+writer_failed ran = false
 
 -- the part after the last page is written, or the writer fails in it, or there is no memory for it
 abbrev pub IsClosed : List ℕ → Option (List ℕ) → Option (List ℕ) → Result Summary RunFault → Result Summary RunFault → Type 0
@@ -49,10 +49,10 @@ IsEndedIf true text old new ran answer = (answer ≡ ran) × (new ≡ old)
 IsEndedIf false text old new ran answer = IsClosed text old new ran answer
 
 abbrev pub IsEnded : List ℕ → Option (List ℕ) → Option (List ℕ) → Result Summary RunFault → Result Summary RunFault → Type 0
-IsEnded text old new ran answer = IsEndedIf (is_broken ran) text old new ran answer
+IsEnded text old new ran answer = IsEndedIf (writer_failed ran) text old new ran answer
 
 -- The entries of a run are exactly its printed studies and the games that were left out; if it stops at a fault, those before the stop.
-abbrev pub AreItsEntries : State → List ℕ → Option (List ℕ) → Option (List ℕ) → Result Summary RunFault → Count → List ℕ → Type 0
+abbrev pub AreItsEntries : State → List ℕ → Option (List ℕ) → Option (List ℕ) → Result Summary RunFault → EntryCount → List ℕ → Type 0
 AreItsEntries first script old new (Ok summary) count rows = AreListed IsPageOf refusal_text remark_text first script old new (AreEntries count rows)
 AreItsEntries first script old new (Err fault) count rows = AreListedBefore IsPageOf refusal_text remark_text first script old new (AreEntries count rows) fault
 
@@ -61,7 +61,7 @@ AreItsEntries first script old new (Err fault) count rows = AreListedBefore IsPa
 abbrev pub IsFile : State → List ℕ → Option (List ℕ) → Option (List ℕ) → Option (List ℕ) → Result Summary RunFault → Type 0
 IsFile first script left old new answer =
     ((answer ≡ Err WriteDevice) × (left ≡ Some script) × TakesPrefix old new opening)
-    ⊎ ((begun ended : Option (List ℕ)) × (ran : Result Summary RunFault) × (count : Count) × (rows : List ℕ) × Appends old begun opening
+    ⊎ ((begun ended : Option (List ℕ)) × (ran : Result Summary RunFault) × (count : EntryCount) × (rows : List ℕ) × Appends old begun opening
     × Outcome IsPageOf refusal_text remark_text first script left begun ended ran × AreItsEntries first script begun ended ran count rows
     × IsEnded (end_text count rows) ended new ran answer)
 
@@ -79,7 +79,7 @@ FileShape script left answer =
 abbrev pub FileFits : List ℕ → Option (List ℕ) → Option (List ℕ) → Option (List ℕ) → Result Summary RunFault → Type 0
 FileFits script left old new answer =
     ((answer ≡ Err WriteDevice) × TakesPrefix old new opening)
-    ⊎ ((begun ended : Option (List ℕ)) × (ran : Result Summary RunFault) × (count : Count) × (rows : List ℕ) × Appends old begun opening
+    ⊎ ((begun ended : Option (List ℕ)) × (ran : Result Summary RunFault) × (count : EntryCount) × (rows : List ℕ) × Appends old begun opening
     × Fits IsEntry refusal_text remark_text script left begun ended ran × IsEnded (end_text count rows) ended new ran answer)
 
 -- markup, and between it paragraphs of original texts, which may have letters outside ASCII

@@ -3,8 +3,8 @@ use Rattle.std.specs.Prelude.{ℕ, ◌+◌, ◌-◌, ◌==◌, List, [], ◌∷�
 use Rattle.std.specs.Str.{bytes_eq}
 
 -- the reply without `error ` and without its line feed: `NoTable KRK`
-unfoldable pub refusal_in : List ℕ → List ℕ
-refusal_in reply = take (length (drop 6 reply) - 1) (drop 6 reply)
+unfoldable pub refusal_name : List ℕ → List ℕ
+refusal_name reply = take (length (drop 6 reply) - 1) (drop 6 reply)
 
 -- the number of bytes before the first space
 abbrev pub word_length : List ℕ → ℕ

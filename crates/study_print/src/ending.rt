@@ -2,9 +2,9 @@
 ghost use Rattle.std.specs.Prelude.{◌≡◌, Err, OnOk};
 ghost use Rattle.std.specs.Io.KnownBytes.{Appends};
 ghost use Rattle.study_text.specs.Taken.{TakesPrefix};
-ghost use Rattle.study_print.specs.Pages.{summary_text, end_text, is_broken, IsEnded};
+ghost use Rattle.study_print.specs.Pages.{summary_text, end_text, writer_failed, IsEnded};
 
-use crate::pages::Count;
+use crate::pages::EntryCount;
 use std::alloc::Allocator;
 use std::io::Write;
 use study_html::{Html, write_closing};
@@ -14,7 +14,7 @@ use study_script::{RunFault, Summary};
 /// Writes the list of all entries, if there are two or more.
 fn write_entries<'s, S: Allocator, W: Write>(
     alloc: &'s S,
-    count: Count,
+    count: EntryCount,
     rows: &Html<'_, S>,
     out: &mut W,
 ) -> Result<(), PageFault>
@@ -23,15 +23,15 @@ fn write_entries<'s, S: Allocator, W: Write>(
     ensures memory { result ≡ Err PageFault.OutOfMemory → out.new ≡ out.old }
 {
     match count {
-        Count::Nothing | Count::One => Ok(()),
-        Count::Several => write_summary(alloc, rows, out),
+        EntryCount::Nothing | EntryCount::One => Ok(()),
+        EntryCount::Several => write_summary(alloc, rows, out),
     }
 }
 
 /// Writes what comes after the last page.
 fn write_end<'s, S: Allocator, W: Write>(
     alloc: &'s S,
-    count: Count,
+    count: EntryCount,
     rows: &Html<'_, S>,
     out: &mut W,
 ) -> Result<(), PageFault>
@@ -47,8 +47,8 @@ fn write_end<'s, S: Allocator, W: Write>(
 }
 
 /// Whether the writer failed.
-fn is_broken(ran: &Result<Summary, RunFault>) -> bool
-    ensures { result ≡ is_broken ran.now }
+fn writer_failed(ran: &Result<Summary, RunFault>) -> bool
+    ensures { result ≡ writer_failed ran.now }
 {
     match ran {
         Err(RunFault::WriteDevice) => true,
@@ -59,14 +59,14 @@ fn is_broken(ran: &Result<Summary, RunFault>) -> bool
 /// Writes what comes after the last page, unless the writer failed before.
 pub fn write_ending<'s, S: Allocator, W: Write>(
     alloc: &'s S,
-    count: Count,
+    count: EntryCount,
     rows: &Html<'_, S>,
     ran: Result<Summary, RunFault>,
     out: &mut W,
 ) -> Result<Summary, RunFault>
     ensures { IsEnded (end_text count rows.now) (W.contents out.old) (W.contents out.new) ran result }
 {
-    if is_broken(&ran) {
+    if writer_failed(&ran) {
         return ran;
     }
     match write_end(alloc, count, rows, out) {

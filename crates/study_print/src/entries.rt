@@ -4,7 +4,7 @@ ghost use Rattle.study_print.specs.Entries.{left_out_row};
 
 use std::alloc::{AllocError, Allocator};
 use study_html::{Element, Html, put_words};
-use study_report::{NotTold, statement, subject};
+use study_report::{WriteFault, statement, subject};
 
 /// The row of a game that was left out.
 #[tactic(auto, unfolding(crate::specs::Entries::left_out_row))]
@@ -43,12 +43,12 @@ pub fn with_left_out<'s, S: Allocator>(
     alloc: &'s S,
     rows: &Html<'_, S>,
     line: &[u8],
-) -> Result<Html<'s, S>, NotTold>
+) -> Result<Html<'s, S>, WriteFault>
     ensures ok { IfOk result (λ more. more ≡ rows.now ++ left_out_row line.now) }
-    ensures err { IfErr result (λ e. e ≡ NotTold.OutOfMemory) }
+    ensures err { IfErr result (λ e. e ≡ WriteFault.OutOfMemory) }
 {
     match rows_with(alloc, rows, line) {
         Ok(more) => Ok(more),
-        Err(_) => Err(NotTold::OutOfMemory),
+        Err(_) => Err(WriteFault::OutOfMemory),
     }
 }

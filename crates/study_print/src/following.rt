@@ -3,7 +3,7 @@ ghost use Rattle.std.specs.Prelude.{◌≡◌, List, IfSome};
 ghost use Rattle.study_material.specs.declared.class.Class.{Class as AClass};
 ghost use Rattle.study_script.specs.declared.document.Document.TheVariants.{Empty};
 ghost use Rattle.study_script.specs.State.{State, is_among};
-ghost use Rattle.study_script.specs.Held.{tables_honest, tables_held, are_paged};
+ghost use Rattle.study_script.specs.SessionHolds.{tables_honest, tables_held, are_paged};
 ghost use Rattle.study_script.specs.Session.{SessionHolds};
 ghost use Rattle.study_script.specs.Stores.{HonestOn};
 ghost use Rattle.study_report.specs.Outcome.{over_tables};

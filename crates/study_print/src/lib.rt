@@ -13,6 +13,6 @@ mod remarks;
 mod watch;
 
 pub use following::{follow_pages, follow_pages_over};
-pub use pages::{Count, Pages};
-pub use reasons::{reason_of, refusal_in};
+pub use pages::{EntryCount, Pages};
+pub use reasons::{reason_of, refusal_name};
 pub use watch::{Unwatched, Watch};

@@ -2,7 +2,7 @@
 ghost use Rattle.std.specs.Prelude.{◌≡◌, []};
 
 use crate::entries::with_left_out;
-use crate::reasons::{reason_of, refusal_in};
+use crate::reasons::{reason_of, refusal_name};
 use crate::remarks::write_remark;
 use crate::watch::Watch;
 use std::alloc::Allocator;
@@ -10,27 +10,27 @@ use std::io::Write;
 use study_html::Html;
 use study_marks::Bench;
 use study_page::{Listed, PageFault, write_page, write_refusal};
-use study_report::{NotTold, Report, ReviewFault, is_left_out};
+use study_report::{Report, ReviewFault, WriteFault, is_left_out};
 use study_values::Values;
 
 /// The number of entries so far.
 #[derive(Clone, Copy, Debug, PartialEq, Eq)]
-pub enum Count {
+pub enum EntryCount {
     Nothing,
     One,
     Several,
 }
 
-impl Count {
+impl EntryCount {
     /// With one entry more.
-    pub fn next(self) -> Count
-        ensures nothing { self ≡ Count.Nothing → result ≡ Count.One }
-        ensures one { self ≡ Count.One → result ≡ Count.Several }
-        ensures several { self ≡ Count.Several → result ≡ Count.Several }
+    pub fn next(self) -> EntryCount
+        ensures nothing { self ≡ EntryCount.Nothing → result ≡ EntryCount.One }
+        ensures one { self ≡ EntryCount.One → result ≡ EntryCount.Several }
+        ensures several { self ≡ EntryCount.Several → result ≡ EntryCount.Several }
     {
         match self {
-            Count::Nothing => Count::One,
-            Count::One | Count::Several => Count::Several,
+            EntryCount::Nothing => EntryCount::One,
+            EntryCount::One | EntryCount::Several => EntryCount::Several,
         }
     }
 }
@@ -42,7 +42,7 @@ pub struct Pages<'s, S: Allocator, N: Watch> {
     alloc: &'s S,
     /// The rows of the list at the end.
     pub rows: Html<'s, S>,
-    pub count: Count,
+    pub count: EntryCount,
     watch: N,
 }
 
@@ -50,12 +50,12 @@ impl<'s, S: Allocator, N: Watch> Pages<'s, S, N> {
     /// There is no entry.
     pub fn new(alloc: &'s S, watch: N) -> Self
         ensures rows { result.rows ≡ [] }
-        ensures count { result.count ≡ Count.Nothing }
+        ensures count { result.count ≡ EntryCount.Nothing }
     {
         Pages {
             alloc,
             rows: Html::new(alloc),
-            count: Count::Nothing,
+            count: EntryCount::Nothing,
             watch,
         }
     }
@@ -103,12 +103,12 @@ impl<'s, S: Allocator, N: Watch> Report for Pages<'s, S, N> {
         line: &[u8],
         reply: &[u8],
         out: &mut W,
-    ) -> Result<(), NotTold> {
-        let refusal = refusal_in(reply);
+    ) -> Result<(), WriteFault> {
+        let refusal = refusal_name(reply);
         match write_refusal(alloc, number, line, refusal, reason_of(refusal), out) {
             Ok(()) => Ok(()),
-            Err(PageFault::OutOfMemory) => Err(NotTold::OutOfMemory),
-            Err(PageFault::Device) => Err(NotTold::Device),
+            Err(PageFault::OutOfMemory) => Err(WriteFault::OutOfMemory),
+            Err(PageFault::Device) => Err(WriteFault::Device),
         }
     }
 
@@ -117,7 +117,7 @@ impl<'s, S: Allocator, N: Watch> Report for Pages<'s, S, N> {
         alloc: &'a A,
         line: &[u8],
         out: &mut W,
-    ) -> Result<(), NotTold> {
+    ) -> Result<(), WriteFault> {
         if !is_left_out(line) {
             return write_remark(alloc, line, out);
         }

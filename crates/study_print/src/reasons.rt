@@ -1,16 +1,16 @@
 //! Why a line is refused, in words.
 ghost use Rattle.std.specs.Prelude.{◌≡◌, ◌≤◌, length};
-ghost use Rattle.study_print.specs.Reasons.{refusal_in, word_length, first_word, line_reason, tree_reason};
+ghost use Rattle.study_print.specs.Reasons.{refusal_name, word_length, first_word, line_reason, tree_reason};
 ghost use Rattle.study_print.specs.Reasons.{position_reason, table_reason, reason_of};
 
-use study_report::without_error;
+use study_report::refusal_words;
 
 /// The reply to a refused line without `error ` and without its line feed: `NoTable KRK`.
-#[tactic(auto, unfolding(crate::specs::Reasons::refusal_in))]
-pub fn refusal_in(reply: &[u8]) -> &[u8]
-    ensures { result.now ≡ refusal_in reply.now }
+#[tactic(auto, unfolding(crate::specs::Reasons::refusal_name))]
+pub fn refusal_name(reply: &[u8]) -> &[u8]
+    ensures { result.now ≡ refusal_name reply.now }
 {
-    let words = without_error(reply);
+    let words = refusal_words(reply);
     if words.is_empty() {
         return words;
     }

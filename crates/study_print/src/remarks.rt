@@ -11,7 +11,7 @@ use std::io::Write;
 use study_games::is_utf8;
 use study_html::{Element, Html};
 use study_page::PageFault;
-use study_report::{NotTold, behind, is_left_out};
+use study_report::{WriteFault, behind, is_left_out};
 use study_text::{Text, write_text};
 
 /// The paragraph of a game without a page.
@@ -174,14 +174,14 @@ pub fn write_remark<'a, A: Allocator, W: Write>(
     alloc: &'a A,
     line: &[u8],
     out: &mut W,
-) -> Result<(), NotTold>
+) -> Result<(), WriteFault>
     ensures ok { OnOk result (Appends (W.contents out.old) (W.contents out.new) (remark_text line.now)) }
-    ensures device { result ≡ Err NotTold.Device → TakesPrefix (W.contents out.old) (W.contents out.new) (remark_text line.now) }
-    ensures memory { result ≡ Err NotTold.OutOfMemory → out.new ≡ out.old }
+    ensures device { result ≡ Err WriteFault.Device → TakesPrefix (W.contents out.old) (W.contents out.new) (remark_text line.now) }
+    ensures memory { result ≡ Err WriteFault.OutOfMemory → out.new ≡ out.old }
 {
     match write_paragraph(alloc, line, out) {
         Ok(()) => Ok(()),
-        Err(PageFault::OutOfMemory) => Err(NotTold::OutOfMemory),
-        Err(PageFault::Device) => Err(NotTold::Device),
+        Err(PageFault::OutOfMemory) => Err(WriteFault::OutOfMemory),
+        Err(PageFault::Device) => Err(WriteFault::Device),
     }
 }

@@ -9,10 +9,10 @@ use Rattle.study_values.specs.Number.{cells_of}
 use Rattle.study_values.specs.declared.value.Value.{Value}
 use Rattle.study_values.specs.Cells.{value_of}
 use Rattle.study_table.specs.Table.{Table, IsComplete}
-use Rattle.study_tablefile.specs.File.{fields_text, page_cells_of, page_digest, page_text}
+use Rattle.study_tablefile.specs.Format.{fields_text, page_cells_of, page_digest, page_text}
 use Rattle.study_values.specs.Size.{pages_of}
-use Rattle.study_tablefile.specs.declared.source.Header.{Header}
-use Rattle.study_tablefile.specs.Source.{is_whole_page, page_of}
+use Rattle.study_tablefile.specs.declared.page_source.Header.{Header}
+use Rattle.study_tablefile.specs.PageSource.{is_whole_page, page_of}
 use Rattle.study_tablefile.proofs.ReadAgain.{whole_again}
 use Rattle.study_values.specs.declared.values.ProbeFault.{ProbeFault}
 use Rattle.study_prober.specs.Sources.{IsHeaderOf, cells_on_page}

@@ -8,7 +8,7 @@ use Rattle.study_material.specs.Class.{class_number}
 use Rattle.study_values.specs.declared.fault.SourceFault.{SourceFault}
 use Rattle.study_values.specs.declared.fault.SourceFault.TheVariants.{Device}
 use Rattle.study_values.specs.declared.fault.FileFault.{FileFault}
-use Rattle.study_tablefile.specs.declared.source.Header.{Header}
+use Rattle.study_tablefile.specs.declared.page_source.Header.{Header}
 use Rattle.study_tablefile.specs.Reading.{class_read}
 use Rattle.study_prober.specs.declared.fault.PagedFault.{PagedFault}
 use Rattle.study_prober.specs.declared.fault.PagedFault.TheVariants.{AlreadyHeld, Header as BadHeader, OtherClass, OutOfMemory}

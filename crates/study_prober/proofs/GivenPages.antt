@@ -8,8 +8,8 @@ use Rattle.study_values.specs.declared.value.Value.{Value}
 use Rattle.study_material.specs.Class.{class_number}
 use Rattle.study_table.specs.Table.{Table}
 use Rattle.study_values.specs.declared.fault.SourceFault.{SourceFault}
-use Rattle.study_tablefile.specs.declared.source.Header.{Header}
-use Rattle.study_tablefile.specs.Source.{Question, of_page, is_whole_page}
+use Rattle.study_tablefile.specs.declared.page_source.Header.{Header}
+use Rattle.study_tablefile.specs.PageSource.{Question, of_page, is_whole_page}
 use Rattle.study_prober.specs.declared.page_cache.PageKey.{PageKey}
 use Rattle.study_prober.specs.declared.open_table.OpenTable.{OpenTable}
 use Rattle.study_values.specs.declared.values.ProbeFault.{ProbeFault}

@@ -4,10 +4,10 @@ use Rattle.std.specs.Prelude.{Result, Ok, Err, IsErrAnd}
 use Rattle.study_material.specs.declared.class.Class.{Class}
 use Rattle.study_table.specs.Table.{Table}
 use Rattle.study_values.specs.declared.fault.FileFault.{FileFault}
-use Rattle.study_tablefile.specs.File.{IsVersionOf, header_text}
+use Rattle.study_tablefile.specs.Format.{IsVersionOf, header_text}
 use Rattle.study_tablefile.specs.Reading.{version_of, class_read}
 use Rattle.study_values.specs.declared.fault.SourceFault.{SourceFault}
-use Rattle.study_tablefile.specs.declared.source.Header.{Header}
+use Rattle.study_tablefile.specs.declared.page_source.Header.{Header}
 use Rattle.study_prober.specs.declared.fault.PagedFault.{PagedFault}
 use Rattle.study_prober.specs.declared.fault.PagedFault.TheVariants.{TableRead}
 use Rattle.study_prober.specs.HeaderAnswers.{IsHonestHeader}

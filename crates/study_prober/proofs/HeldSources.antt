@@ -9,7 +9,7 @@ use Rattle.study_material.specs.Class.{class_number}
 use Rattle.study_table.specs.Table.{Table}
 use Rattle.study_table.proofs.SetLemmas.{class_number-injective}
 use Rattle.study_prober.specs.declared.page_cache.PageKey.{PageKey}
-use Rattle.study_tablefile.specs.declared.source.Header.{Header}
+use Rattle.study_tablefile.specs.declared.page_source.Header.{Header}
 use Rattle.study_prober.specs.declared.open_table.OpenTable.{OpenTable}
 use Rattle.study_prober.specs.Sources.{IsHeaderOf, GivesRight, AreHonestAlike, cells_on_page}
 use Rattle.study_prober.specs.PagedTables.{held_of, places_for_classes, IsKept, SourcesAreRight, IsSameSource}

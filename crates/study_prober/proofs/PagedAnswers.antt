@@ -7,7 +7,7 @@ use Rattle.study_values.specs.Index.{index_of}
 use Rattle.study_table.specs.Table.{Table, IsComplete}
 use Rattle.study_material.specs.declared.class.Class.{Class}
 use Rattle.study_values.specs.declared.fault.SourceFault.{SourceFault}
-use Rattle.study_tablefile.specs.Source.{Question, of_page}
+use Rattle.study_tablefile.specs.PageSource.{Question, of_page}
 use Rattle.study_prober.specs.declared.open_table.OpenTable.{OpenTable}
 use Rattle.study_values.specs.declared.values.ProbeFault.TheVariants.{NoTable, TableRead, PageDamaged}
 use Rattle.study_values.specs.Values.{ProbeAnswer, IsNotDamage}

@@ -14,7 +14,7 @@ use Rattle.study_table.specs.Sound.{IsRight}
 use Rattle.study_material.specs.Class.{class_number}
 use Rattle.study_table.specs.Table.{Table, IsComplete}
 use Rattle.study_table.proofs.SoundLemmas.{at_value}
-use Rattle.study_tablefile.specs.declared.source.Header.{Header}
+use Rattle.study_tablefile.specs.declared.page_source.Header.{Header}
 use Rattle.study_prober.specs.declared.page_cache.PageKey.{PageKey}
 use Rattle.study_prober.specs.declared.open_table.OpenTable.{OpenTable}
 use Rattle.study_values.specs.declared.values.ProbeFault.{ProbeFault}

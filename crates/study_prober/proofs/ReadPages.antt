@@ -18,8 +18,8 @@ use Rattle.study_values.specs.declared.values.ProbeFault.TheVariants.{NoTable, T
 use Rattle.study_table.specs.Table.{Table, IsComplete, table_of}
 use Rattle.study_table.specs.Sound.{IsRight}
 use Rattle.study_table.proofs.SoundLemmas.{at_right}
-use Rattle.study_tablefile.specs.File.{page_cells_of}
-use Rattle.study_tablefile.specs.Source.{Question, of_page}
+use Rattle.study_tablefile.specs.Format.{page_cells_of}
+use Rattle.study_tablefile.specs.PageSource.{Question, of_page}
 use Rattle.study_tablefile.proofs.Lists.{padded_front, next_page}
 use Rattle.study_prober.specs.declared.page_cache.PageKey.{PageKey}
 use Rattle.study_prober.specs.declared.open_table.OpenTable.{OpenTable}

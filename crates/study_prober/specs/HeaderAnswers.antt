@@ -5,10 +5,10 @@ use Rattle.study_material.specs.Class.{class_number}
 use Rattle.study_table.specs.Table.{Table}
 use Rattle.study_values.specs.declared.fault.SourceFault.{SourceFault}
 use Rattle.study_values.specs.declared.fault.FileFault.{FileFault}
-use Rattle.study_tablefile.specs.declared.source.Header.{Header}
+use Rattle.study_tablefile.specs.declared.page_source.Header.{Header}
 use Rattle.study_text.specs.Counts.{counted}
-use Rattle.study_tablefile.specs.Source.{of_header}
-use Rattle.study_tablefile.specs.File.{header_text}
+use Rattle.study_tablefile.specs.PageSource.{of_header}
+use Rattle.study_tablefile.specs.Format.{header_text}
 use Rattle.study_tablefile.specs.Reading.{version_of, class_read}
 use Rattle.study_prober.specs.Sources.{GivesOf, HonestOf}
 use Rattle.study_prober.specs.declared.fault.PagedFault.{PagedFault}

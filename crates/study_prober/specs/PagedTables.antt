@@ -10,7 +10,7 @@ use Rattle.study_material.specs.Class.{class_number}
 use Rattle.study_table.specs.Table.{Table}
 use Rattle.study_values.specs.declared.fault.SourceFault.{SourceFault}
 use Rattle.study_values.specs.Size.{pages_of}
-use Rattle.study_tablefile.specs.Source.{of_page}
+use Rattle.study_tablefile.specs.PageSource.{of_page}
 use Rattle.study_prober.specs.declared.page_cache.PageKey.{PageKey}
 use Rattle.study_prober.specs.declared.open_table.OpenTable.{OpenTable}
 use Rattle.study_prober.specs.Sources.{GivesOf, HonestOf, IsHeaderOf, IsGivenPage, IsAnswerFrom, AreOf, GivesRight, AreHonestAlike}

@@ -6,11 +6,11 @@ use Rattle.study_table.specs.Table.{Table, IsComplete}
 use Rattle.study_table.specs.Sound.{IsRight}
 use Rattle.study_values.specs.Cells.{value_of}
 use Rattle.study_values.specs.declared.value.Value.{Value}
-use Rattle.study_tablefile.specs.declared.source.Header.{Header}
-use Rattle.study_tablefile.specs.File.{IsVersionOf, fields_text, page_cells_of}
+use Rattle.study_tablefile.specs.declared.page_source.Header.{Header}
+use Rattle.study_tablefile.specs.Format.{IsVersionOf, fields_text, page_cells_of}
 use Rattle.study_values.specs.declared.fault.SourceFault.{SourceFault}
 use Rattle.study_text.specs.Counts.{counted}
-use Rattle.study_tablefile.specs.Source.{is_whole_page, Question, of_page}
+use Rattle.study_tablefile.specs.PageSource.{is_whole_page, Question, of_page}
 use Rattle.study_prober.specs.declared.open_table.OpenTable.{OpenTable}
 use Rattle.study_prober.specs.declared.page_cache.PageKey.{PageKey}
 use Rattle.study_values.specs.Values.{ProbeAnswer}

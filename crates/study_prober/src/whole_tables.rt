@@ -13,7 +13,7 @@ ghost use Rattle.study_table.specs.Sound.{IsRight};
 ghost use Rattle.study_text.specs.Counts.{counted};
 ghost use Rattle.study_values.specs.declared.fault.SourceFault.{SourceFault as ASourceFault};
 ghost use Rattle.study_values.specs.Values.{IsNotDamage, faults_after, page_number};
-ghost use Rattle.study_tablefile.specs.File.{page_cells_of};
+ghost use Rattle.study_tablefile.specs.Format.{page_cells_of};
 ghost use Rattle.study_prober.specs.WholeTables.{TablesAreRight, IsCellAnswer, Whole};
 
 use crate::cell_pages::CellPages;

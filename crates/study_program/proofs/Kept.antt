@@ -8,7 +8,7 @@ use Rattle.study_script.specs.declared.running.RunFault.TheVariants.{ReadDevice,
 use Rattle.study_script.specs.State.{State}
 use Rattle.study_script.specs.Stores.{AreTrusted}
 use Rattle.study_script.specs.Replies.{replies_text}
-use Rattle.study_script.specs.Outcome.{Outcome, Shape, AreAnswered, AreBrokenOff, begun_state}
+use Rattle.study_script.specs.Outcome.{Outcome, Shape, AreAnswered, AreBrokenOff, initial_state}
 use Rattle.study_script.specs.Written.{AreWritten, IsCutOff, Fits, pieces_text}
 use Rattle.study_program.specs.Ended.{HasRun, nothing_known}
 
@@ -72,7 +72,7 @@ HasRun-kept by_pages separate (Some bytes) left old mid new answer kept (shape, 
 pub HasRun-both : (by_pages separate : Bool) (script left old new : Option (List ℕ)) (answer : Result Summary RunFault)
     → IfSome script (λ bytes. Shape bytes left answer)
     → IfSome script (λ bytes. Fits bytes left old new answer)
-    → IfSome script (λ bytes. AreTrusted (λ c. false) bytes → Outcome separate (begun_state nothing_known by_pages) bytes left old new answer)
+    → IfSome script (λ bytes. AreTrusted (λ c. false) bytes → Outcome separate (initial_state nothing_known by_pages) bytes left old new answer)
     → HasRun by_pages separate script left old new answer
 HasRun-both by_pages separate None left old new answer shape fits outcome = tt
 HasRun-both by_pages separate (Some bytes) left old new answer shape fits outcome = (shape, fits, outcome)

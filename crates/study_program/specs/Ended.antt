@@ -3,14 +3,14 @@ use Rattle.std.specs.Prelude.{◌≡◌, ℕ, ◌⊎◌, Bool, true, false, List
 use Rattle.study_script.specs.declared.running.Summary.{Summary}
 use Rattle.study_script.specs.declared.running.RunFault.{RunFault}
 use Rattle.study_script.specs.declared.running.RunFault.TheVariants.{WriteDevice}
-use Rattle.study_script.specs.State.{Shelf}
+use Rattle.study_script.specs.State.{StoreKnowledge}
 use Rattle.study_script.specs.Stores.{AreTrusted}
-use Rattle.study_script.specs.Outcome.{Outcome, Shape, begun_state}
+use Rattle.study_script.specs.Outcome.{Outcome, Shape, initial_state}
 use Rattle.study_script.specs.Written.{Fits}
 use Rattle.study_program.specs.Status.{status_told, IsTold}
 
 -- nothing is known of the files of a folder, and their sources may fail in any way
-abbrev pub nothing_known : Shelf
+abbrev pub nothing_known : StoreKnowledge
 nothing_known = record { files = λ c. None; headers = λ c. None; faults = λ c f. true }
 
 -- The result of a run over a folder, given whether tables are read by pages and whether studies are kept apart, what the reader had and has, and what the
@@ -19,7 +19,7 @@ nothing_known = record { files = λ c. None; headers = λ c. None; faults = λ c
 abbrev pub HasRun : Bool → Bool → Option (List ℕ) → Option (List ℕ) → Option (List ℕ) → Option (List ℕ) → Result Summary RunFault → Type 0
 HasRun by_pages separate script left old new answer = IfSome script (λ bytes. Shape bytes left answer
     × Fits bytes left old new answer
-    × (AreTrusted (λ c. false) bytes → Outcome separate (begun_state nothing_known by_pages) bytes left old new answer))
+    × (AreTrusted (λ c. false) bytes → Outcome separate (initial_state nothing_known by_pages) bytes left old new answer))
 
 -- The exit status of a run, and what standard error had and has; or it ends as one whose writer failed, if the last replies stay in a buffer. No clause
 -- excludes that it ends with 3 and has read nothing, for want of memory: tests do.

@@ -5,8 +5,8 @@ use Rattle.study_marks.specs.Study.{tag_name}
 use Rattle.study_tree.specs.Paths.{path_text}
 use Rattle.study_reply.specs.declared.reply.Reply.{Reply}
 use Rattle.study_reply.specs.declared.reply.Reply.TheVariants as done
-use Rattle.study_reply.specs.declared.reply.Refused.{Refused}
-use Rattle.study_reply.specs.declared.reply.Refused.TheVariants.{Line, Edit}
+use Rattle.study_reply.specs.declared.reply.LineRefusal.{LineRefusal}
+use Rattle.study_reply.specs.declared.reply.LineRefusal.TheVariants.{Line, Edit}
 use Rattle.study_reply.specs.Names.{words_of, edit_words}
 use Rattle.study_reply.specs.TableReply.{table_text}
 use Rattle.study_reply.specs.Words.{reply_line, stipulation_words, insert_text, mark_text, moves_text, solve_text, raised}
@@ -27,10 +27,10 @@ reply_text (done.Solved plies) = solve_text plies
 reply_text (done.Pgn game) = game.text.items
 reply_text (done.Table told) = table_text told
 
-abbrev pub refused_words : {A : Type 0} → Refused A → List ℕ
+abbrev pub refused_words : {A : Type 0} → LineRefusal A → List ℕ
 refused_words (Line refusal) = words_of refusal
 refused_words (Edit refusal) = edit_words refusal
 
-abbrev pub answer_text : {A : Type 0} → Result (Reply A) (Refused A) → List ℕ
+abbrev pub answer_text : {A : Type 0} → Result (Reply A) (LineRefusal A) → List ℕ
 answer_text (Ok reply) = reply_text reply
 answer_text (Err refused) = reply_line (codes "error ") (refused_words refused)

@@ -9,7 +9,7 @@ use Rattle.study_values.specs.Number.{cells_of}
 use Rattle.study_values.specs.declared.value.Value.{Value}
 use Rattle.study_values.specs.declared.value.Value.TheVariants as value
 use Rattle.study_moves.specs.LegalList.{legal_list}
-use Rattle.study_notation.specs.Written.{move_text}
+use Rattle.study_notation.specs.SanSpelling.{move_text}
 use Rattle.study_marks.specs.declared.stipulation.Goal.{Goal}
 use Rattle.study_marks.specs.declared.stipulation.Goal.TheVariants.{Win, Draw, MateIn}
 use Rattle.study_marks.specs.declared.stipulation.Stipulation.{Stipulation}

@@ -4,14 +4,14 @@
 #![tactic(auto)]
 
 mod game;
-mod path_written;
+mod path_text;
 mod refusal;
 mod reply;
+mod reply_text;
 mod table_reply;
-mod words;
 
 pub use game::Game;
 pub use refusal::{Argument, Refusal};
-pub use reply::{Answer, Refused, Reply, write_reply};
+pub use reply::{Answer, LineRefusal, Reply, write_reply};
+pub use reply_text::{of_probe, put_line, write_refusal};
 pub use table_reply::TableReply;
-pub use words::{of_probe, put_line, refuse};

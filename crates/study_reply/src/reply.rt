@@ -7,12 +7,12 @@ ghost use Rattle.study_reply.specs.Words.{reply_line, insert_text};
 ghost use Rattle.study_reply.specs.Replied.{reply_text, refused_words, answer_text};
 
 use crate::game::Game;
-use crate::path_written::{put_child, put_node, put_promoted};
+use crate::path_text::{put_child, put_node, put_promoted};
 use crate::refusal::Refusal;
-use crate::table_reply::{TableReply, put_table_reply};
-use crate::words::{
-    list_moves, put_line, put_mark, put_solution, put_stipulation, refuse, refuse_edit,
+use crate::reply_text::{
+    put_line, put_mark, put_solution, put_stipulation, refuse_edit, write_moves, write_refusal,
 };
+use crate::table_reply::{TableReply, put_table_reply};
 use arrayvec::ArrayString;
 use std::alloc::Allocator;
 use std::io::Write;
@@ -44,13 +44,13 @@ pub enum Reply<'a, A: Allocator> {
 
 /// Why a line is refused: by its own rules, or by the bench.
 #[derive(Drop)]
-pub enum Refused<'a, A: Allocator> {
+pub enum LineRefusal<'a, A: Allocator> {
     Line(Refusal),
     Edit(EditRefusal<'a, A>),
 }
 
 /// The outcome of a command, before its reply is written.
-pub type Answer<'a, A> = Result<Reply<'a, A>, Refused<'a, A>>;
+pub type Answer<'a, A> = Result<Reply<'a, A>, LineRefusal<'a, A>>;
 
 /// Writes the reply to a line, and returns whether the line was refused.
 pub fn write_reply<'a, W: Write, A: Allocator>(
@@ -75,14 +75,14 @@ pub fn write_reply<'a, W: Write, A: Allocator>(
 
 fn put_refused<'a, W: Write, A: Allocator>(
     out: &mut W,
-    refused: Refused<'a, A>,
+    refused: LineRefusal<'a, A>,
 ) -> Result<(), DeviceFailed>
     ensures ok { OnOk result (Appends (W.contents out.old) (W.contents out.new) (reply_line (codes "error ") (refused_words refused.entry))) }
     ensures err { OnErr result (TakesPrefix (W.contents out.old) (W.contents out.new) (reply_line (codes "error ") (refused_words refused.entry))) }
 {
     match refused {
-        Refused::Line(refusal) => refuse(out, refusal),
-        Refused::Edit(refusal) => refuse_edit(out, refusal),
+        LineRefusal::Line(refusal) => write_refusal(out, refusal),
+        LineRefusal::Edit(refusal) => refuse_edit(out, refusal),
     }
 }
 
@@ -104,7 +104,7 @@ fn put_reply<'a, W: Write, A: Allocator>(
         Reply::Promoted(path) => put_promoted(out, path.steps()),
         Reply::Tagged(name) => put_line(out, b"tag ", tag_name(name)),
         Reply::Mark(path, mark) => put_mark(out, path.steps(), &mark),
-        Reply::Moves(start) => list_moves(out, &start.position),
+        Reply::Moves(start) => write_moves(out, &start.position),
         Reply::Fen(start) => put_start(out, b"fen ", &start),
         Reply::Solved(plies) => put_solution(out, plies),
         Reply::Pgn(game) => write_text(out, game.text.as_slice()),

@@ -6,7 +6,7 @@ ghost use Rattle.study_text.specs.Taken.{TakesPrefix};
 ghost use Rattle.study_reply.specs.Words.{reply_line, built_text};
 ghost use Rattle.study_reply.specs.TableReply.{table_text};
 
-use crate::words::put_line;
+use crate::reply_text::put_line;
 use itoa::Buffer;
 use std::io::Write;
 use study_material::Class;

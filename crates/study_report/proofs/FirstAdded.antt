@@ -7,7 +7,7 @@ use Rattle.std.proofs.lemmas.List.{append-nil, length-drop}
 use Rattle.std.proofs.lemmas.List.Sums.{sum_by_push}
 use Rattle.std.proofs.KnownBytes.{Appends-nil, Appends-trans}
 use Rattle.std.specs.Io.KnownBytes.{Appends}
-use Rattle.study_marks.specs.Edits.{Plainly}
+use Rattle.study_marks.specs.Edits.{PlainStudy}
 use Rattle.study_script.specs.declared.running.RunFault.{RunFault}
 use Rattle.study_script.specs.declared.running.RunFault.TheVariants.{ReadDevice, WriteDevice, LineTooLong, TooManyLines, OutOfMemory}
 use Rattle.study_command.specs.Lines.{script_lines, TakesLine, BeginsLong, GaveFeeds}
@@ -16,12 +16,12 @@ use Rattle.study_script.specs.State.{State, Document}
 use Rattle.study_script.specs.Outcome.{AreShort}
 use Rattle.study_script.proofs.FirstLines.{Gone, gone_write}
 use Rattle.study_text.specs.Taken.{TakesPrefix}
-use Rattle.study_report.specs.declared.told.Told.{Told}
-use Rattle.study_report.specs.declared.told.Told.TheVariants.{Nothing, Study as AStudy, Refusal as ARefusal}
+use Rattle.study_report.specs.declared.line_outcome.LineOutcome.{LineOutcome}
+use Rattle.study_report.specs.declared.line_outcome.LineOutcome.TheVariants.{Nothing, Study as AStudy, Refusal as ARefusal}
 use Rattle.study_reply.specs.declared.refusal.Refusal.TheVariants.{NotAClass}
 use Rattle.study_script.specs.Replies.{Reply, refused}
-use Rattle.study_report.specs.declared.kind.Kind.{Kind}
-use Rattle.study_report.specs.declared.kind.Kind.TheVariants.{Remark, PassedOver, NoClass, Study, Checked}
+use Rattle.study_report.specs.declared.line_kind.LineKind.{LineKind}
+use Rattle.study_report.specs.declared.line_kind.LineKind.TheVariants.{Remark, PassedOver, NoClass, Study, Checked}
 use Rattle.study_report.specs.Told.{Point, Added, IsAdded, IsAddedAs, IsPgnAfter, IsCheckedAfter, line_kind, refusal_count, study_count}
 use Rattle.study_report.specs.Told.{nothing_added, refusal_added, Entry, studies_on, listed_in, entries_in}
 use Rattle.study_report.specs.Outcome.{begun, AreAdded, report_text, refusals, point_after, IsFollowed, AreListed, StoppedAfter, AreListedBefore, Outcome}
@@ -65,14 +65,14 @@ text-more [] a = append-nil a.text
 text-more (x ∷ added) a = ap (λ (t : List ℕ). x.text ++ t) (text-more added a) ∙ sym (append_assoc x.text (report_text added) a.text)
 
 -- the study that a line reported is the one in the document, and has the number after the others
-listed-same : (line : List ℕ) (t u : Told) (b c : Document) (i j : ℕ) → t ≡ u → b ≡ c → (study_count u ≡ 1 → i ≡ j)
+listed-same : (line : List ℕ) (t u : LineOutcome) (b c : Document) (i j : ℕ) → t ≡ u → b ≡ c → (study_count u ≡ 1 → i ≡ j)
     → listed_in line t b i ≡ listed_in line u c j
-listed-same line t Nothing b c i j e f n = ap (λ (x : Told). listed_in line x b i) e
-listed-same line t ARefusal b c i j e f n = ap (λ (x : Told). listed_in line x b i) e
+listed-same line t Nothing b c i j e f n = ap (λ (x : LineOutcome). listed_in line x b i) e
+listed-same line t ARefusal b c i j e f n = ap (λ (x : LineOutcome). listed_in line x b i) e
 listed-same line t AStudy b c i j e f n =
-    ap (λ (x : Told). listed_in line x b i) e ∙ ap (λ (x : Document). studies_on x i) f ∙ ap (studies_on c) (n refl)
+    ap (λ (x : LineOutcome). listed_in line x b i) e ∙ ap (λ (x : Document). studies_on x i) f ∙ ap (studies_on c) (n refl)
 
-module _ (tells : Plainly → ℕ → List ℕ → Type 0) (refusal : ℕ → List ℕ → List ℕ → List ℕ) (remark : List ℕ → List ℕ) where
+module _ (tells : PlainStudy → ℕ → List ℕ → Type 0) (refusal : ℕ → List ℕ → List ℕ → List ℕ) (remark : List ℕ → List ℕ) where
   are-more : (p : Point) (lines : List (List ℕ)) (added : List Added) (line : List ℕ) (a : Added)
       → AreAdded tells refusal remark p lines added → IsAdded tells refusal remark (point_after p added) line a
       → AreAdded tells refusal remark p (lines ++ line ∷ []) (added ++ a ∷ [])
@@ -400,7 +400,7 @@ module _ (tells : Plainly → ℕ → List ℕ → Type 0) (refusal : ℕ → Li
   counts-checked p line reply a true e = counts-refusal p line reply a e
   counts-checked p line reply a false e = counts-nothing p reply.state a e
 
-  counts-more : (p : Point) (line : List ℕ) (a : Added) (k : Kind) → IsAddedAs tells refusal remark k p line a → Counts p a
+  counts-more : (p : Point) (line : List ℕ) (a : Added) (k : LineKind) → IsAddedAs tells refusal remark k p line a → Counts p a
   counts-more p line a Remark e = subst (Counts p) (sym e) (refl, omega arith)
   counts-more p line a PassedOver e = counts-nothing p p.state a e
   counts-more p line a NoClass e = counts-refusal p line (refused p.state NotAClass) a e
@@ -409,7 +409,7 @@ module _ (tells : Plainly → ℕ → List ℕ → Type 0) (refusal : ℕ → Li
 
   pub ToldOn-more : (holds holds' : State → Type 0) (Lists Lists' : List Entry → Type 0) (document : Document)
       (script now next old mid new : Option (List ℕ)) (first : State)
-      (line : List ℕ) (n refused refused' studies studies' : ℕ) (told : Told)
+      (line : List ℕ) (n refused refused' studies studies' : ℕ) (told : LineOutcome)
       (r : ToldOn holds Lists script now old mid first n refused studies)
       → TakesLine now next true line → length line ≤ 1024
       → Adds (IsAdded tells refusal remark r.point line) holds' mid new told
@@ -423,13 +423,13 @@ module _ (tells : Plainly → ℕ → List ℕ → Type 0) (refusal : ℕ → Li
       record {
         point = a.after;
         told = told_more Lists Lists' script now next old mid new first r.point line a n refused refused' r.told t short is wrote
-            (k ∙ ap (λ (x : Told). refused + refusal_count x) same)
+            (k ∙ ap (λ (x : LineOutcome). refused + refusal_count x) same)
             (λ more h. subst (λ (x : List Entry). Lists' (more ++ x))
             (listed-same line told a.told document a.after.state.document (studies + 1) a.after.studies same (seen a.after.state held)
             (λ one. ap (λ i. i + 1) r.studies_are ∙ ap (λ i. r.point.studies + i) (sym one) ∙ sym counts.1)) (l more h));
         held = held;
         lines_are = ap (λ i. i + 1) r.lines_are ∙ omega arith ∙ sym counts.0;
-        studies_are = j ∙ ap (λ (x : Told). studies + study_count x) same ∙ ap (λ i. i + study_count a.told) r.studies_are ∙ sym counts.1;
+        studies_are = j ∙ ap (λ (x : LineOutcome). studies + study_count x) same ∙ ap (λ i. i + study_count a.told) r.studies_are ∙ sym counts.1;
       }
 
 -- ---- whatever is reported
@@ -449,13 +449,13 @@ gone_stops script now next line n fault (inr e) r t short lt =
     subst (λ (f : RunFault). IfSome script (λ bytes. Shape bytes next (Err f))) (sym e) (gone_memory next script now n r (omega arith))
 
 -- a line counts as at most one refusal or study
-pub few-told : (told : Told) → (refusal_count told ≤ 1) × (study_count told ≤ 1)
+pub few-told : (told : LineOutcome) → (refusal_count told ≤ 1) × (study_count told ≤ 1)
 few-told Nothing = (omega arith, omega arith)
 few-told AStudy = (omega arith, omega arith)
 few-told ARefusal = (omega arith, omega arith)
 
 -- there is no memory for the first line
-pub none_before : (tells : Plainly → ℕ → List ℕ → Type 0) (refusal : ℕ → List ℕ → List ℕ → List ℕ)
+pub none_before : (tells : PlainStudy → ℕ → List ℕ → Type 0) (refusal : ℕ → List ℕ → List ℕ → List ℕ)
     (remark : List ℕ → List ℕ) (Has : List Entry → Type 0)
     (told : List Entry) (script out : Option (List ℕ)) (first : State) → Has told
     → IfSome script (λ bytes. AreListedBefore tells refusal remark first bytes out out (λ more. Has (told ++ more)) OutOfMemory)

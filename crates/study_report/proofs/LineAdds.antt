@@ -5,36 +5,36 @@ use Rattle.std.specs.Io.KnownBytes.{Appends}
 use Rattle.std.proofs.KnownBytes.{Appends-nil}
 use Rattle.std.proofs.lemmas.List.{append-nil}
 use Rattle.std.proofs.lemmas.Result.{IfOk-weaker, IfErr-weaker}
-use Rattle.study_marks.specs.Edits.{Plainly}
+use Rattle.study_marks.specs.Edits.{PlainStudy}
 use Rattle.study_reply.specs.declared.refusal.Refusal.{Refusal}
 use Rattle.study_script.specs.declared.running.RunFault.{RunFault}
 use Rattle.study_script.specs.declared.running.RunFault.TheVariants.{ReadDevice, WriteDevice, LineTooLong, TooManyLines, OutOfMemory}
-use Rattle.study_script.specs.State.{State, Document, study, Outside}
+use Rattle.study_script.specs.State.{State, Document, study, Environment}
 use Rattle.study_script.specs.Replies.{Reply, refused, IsReplyIn}
-use Rattle.study_script.specs.Held.{Answered}
-use Rattle.study_report.specs.declared.kind.Kind.TheVariants.{Study, Checked}
-use Rattle.study_report.specs.declared.told.Told.{Told}
-use Rattle.study_report.specs.declared.told.Told.TheVariants.{Nothing, Study as AStudy, Refusal as ARefusal}
+use Rattle.study_script.specs.SessionHolds.{Answered}
+use Rattle.study_report.specs.declared.line_kind.LineKind.TheVariants.{Study, Checked}
+use Rattle.study_report.specs.declared.line_outcome.LineOutcome.{LineOutcome}
+use Rattle.study_report.specs.declared.line_outcome.LineOutcome.TheVariants.{Nothing, Study as AStudy, Refusal as ARefusal}
 use Rattle.study_report.specs.Told.{study_count, Entry, games_in, listed_in}
 use Rattle.study_report.specs.Told.{Point, Added, IsLeftOut, IsStudyTold, IsAddedAs, IsPgnAfter, IsCheckedAfter}
 use Rattle.study_report.specs.Told.{nothing_added, study_added, refusal_added, remark_added}
 use Rattle.study_report.specs.Written.{Adds, Stops, StopsIn, IsSection, IsSectionPart, IsReplied}
 
 -- what holds of every text written for a refusal
-abbrev pub RefusalWritten : List ℕ → Option (List ℕ) → Option (List ℕ) → Told → Type 0
+abbrev pub RefusalWritten : List ℕ → Option (List ℕ) → Option (List ℕ) → LineOutcome → Type 0
 RefusalWritten text old new told = (told ≡ ARefusal) × Appends old new text
 
 -- a refusal is no study
-pub refusal-none : (r : Result Told RunFault) (text : List ℕ) (old new : Option (List ℕ)) → IfOk r (RefusalWritten text old new)
+pub refusal-none : (r : Result LineOutcome RunFault) (text : List ℕ) (old new : Option (List ℕ)) → IfOk r (RefusalWritten text old new)
     → IfOk r (λ t. study_count t ≡ 0)
 refusal-none r text old new h =
     IfOk-weaker r (RefusalWritten text old new) (λ t. study_count t ≡ 0) (λ t (e, wrote). ap study_count e) h
 
 -- what holds of every text written for a remark
-abbrev pub RemarkWritten : List ℕ → Option (List ℕ) → Option (List ℕ) → Told → Type 0
+abbrev pub RemarkWritten : List ℕ → Option (List ℕ) → Option (List ℕ) → LineOutcome → Type 0
 RemarkWritten text old new told = (told ≡ Nothing) × Appends old new text
 
-none-in : (line : List ℕ) (t : Told) (document : Document) (number : ℕ) → games_in line ≡ [] → study_count t ≡ 0
+none-in : (line : List ℕ) (t : LineOutcome) (document : Document) (number : ℕ) → games_in line ≡ [] → study_count t ≡ 0
     → listed_in line t document number ≡ []
 none-in line Nothing document number none e = none
 none-in line AStudy document number none e = absurd cc
@@ -44,29 +44,29 @@ pub nothing-listed : (Lists : List Entry → Type 0) (told : List Entry) → Lis
 nothing-listed Lists told kept = subst Lists (sym (append-nil told)) kept
 
 -- if the line is no remark of a game, and no study was reported, the list is unchanged
-pub none-listed : (Lists : List Entry → Type 0) (r : Result Told RunFault) (told : List Entry) (line : List ℕ) (document : Document) (number : ℕ)
+pub none-listed : (Lists : List Entry → Type 0) (r : Result LineOutcome RunFault) (told : List Entry) (line : List ℕ) (document : Document) (number : ℕ)
     → games_in line ≡ [] → IfOk r (λ t. study_count t ≡ 0) → Lists told → IfOk r (λ t. Lists (told ++ listed_in line t document number))
 none-listed Lists r told line document number none h kept =
     IfOk-weaker r (λ t. study_count t ≡ 0) (λ t. Lists (told ++ listed_in line t document number))
     (λ t e. subst (λ (x : List Entry). Lists (told ++ x)) (sym (none-in line t document number none e)) (nothing-listed Lists told kept)) h
 
 -- a refusal leaves it unchanged
-pub refusal-listed : (Lists : List Entry → Type 0) (r : Result Told RunFault) (told : List Entry) (line : List ℕ) (document : Document) (number : ℕ)
+pub refusal-listed : (Lists : List Entry → Type 0) (r : Result LineOutcome RunFault) (told : List Entry) (line : List ℕ) (document : Document) (number : ℕ)
     (text : List ℕ) (old new : Option (List ℕ)) → IfOk r (RefusalWritten text old new) → Lists told
     → IfOk r (λ t. Lists (told ++ listed_in line t document number))
 refusal-listed Lists r told line document number text old new h kept =
     IfOk-weaker r (RefusalWritten text old new) (λ t. Lists (told ++ listed_in line t document number))
-    (λ t (e, wrote). subst (λ (x : Told). Lists (told ++ listed_in line x document number)) (sym e) (nothing-listed Lists told kept)) h
+    (λ t (e, wrote). subst (λ (x : LineOutcome). Lists (told ++ listed_in line x document number)) (sym e) (nothing-listed Lists told kept)) h
 
 -- a remark adds the game that was left out
-pub remark-listed : (Lists : List Entry → Type 0) (r : Result Told RunFault) (told : List Entry) (line : List ℕ) (document : Document) (number : ℕ)
+pub remark-listed : (Lists : List Entry → Type 0) (r : Result LineOutcome RunFault) (told : List Entry) (line : List ℕ) (document : Document) (number : ℕ)
     (text : List ℕ) (old new : Option (List ℕ)) → IfOk r (RemarkWritten text old new) → IfOk r (λ t. Lists (told ++ games_in line))
     → IfOk r (λ t. Lists (told ++ listed_in line t document number))
 remark-listed Lists (Ok t) told line document number text old new (e, wrote) kept =
-    subst (λ (x : Told). Lists (told ++ listed_in line x document number)) (sym e) kept
+    subst (λ (x : LineOutcome). Lists (told ++ listed_in line x document number)) (sym e) kept
 remark-listed Lists (Err fault) told line document number text old new h kept = tt
 
-pub adds-weaker : (I J : Added → Type 0) (H K : State → Type 0) (r : Result Told RunFault) (old new : Option (List ℕ)) → ((a : Added) → I a → J a)
+pub adds-weaker : (I J : Added → Type 0) (H K : State → Type 0) (r : Result LineOutcome RunFault) (old new : Option (List ℕ)) → ((a : Added) → I a → J a)
     → ((s : State) → H s → K s) → IfOk r (Adds I H old new) → IfOk r (Adds J K old new)
 adds-weaker I J H K r old new f g h =
     IfOk-weaker r (Adds I H old new) (Adds J K old new) (λ told (a, is, wrote, held, same). (a, f a is, wrote, g a.after.state held, same)) h
@@ -79,7 +79,7 @@ stops-same I J old new ReadDevice f h = absurd h
 stops-same I J old new (LineTooLong n) f h = absurd h
 stops-same I J old new TooManyLines f h = absurd h
 
-pub stops-weaker : (I J : Added → Type 0) (r : Result Told RunFault) (old new : Option (List ℕ)) → ((a : Added) → I a → J a)
+pub stops-weaker : (I J : Added → Type 0) (r : Result LineOutcome RunFault) (old new : Option (List ℕ)) → ((a : Added) → I a → J a)
     → IfErr r (Stops I old new) → IfErr r (Stops J old new)
 stops-weaker I J r old new f h = IfErr-weaker r (Stops I old new) (Stops J old new) (λ fault. stops-same I J old new fault f) h
 
@@ -91,10 +91,10 @@ stops-in I a old new ReadDevice is h = absurd h
 stops-in I a old new (LineTooLong n) is h = absurd h
 stops-in I a old new TooManyLines is h = absurd h
 
-module _ (tells : Plainly → ℕ → List ℕ → Type 0) (refusal : ℕ → List ℕ → List ℕ → List ℕ) (remark : List ℕ → List ℕ) where
+module _ (tells : PlainStudy → ℕ → List ℕ → Type 0) (refusal : ℕ → List ℕ → List ℕ → List ℕ) (remark : List ℕ → List ℕ) where
   -- a refusal is written, from the number of the line and the bytes of its reply
   pub refusal-adds : (I : Added → Type 0) (H : State → Type 0) (p : Point) (line : List ℕ) (reply : Reply) (number : ℕ) (bytes : List ℕ)
-      (r : Result Told RunFault) (old new : Option (List ℕ)) → number ≡ suc p.lines → bytes ≡ reply.text
+      (r : Result LineOutcome RunFault) (old new : Option (List ℕ)) → number ≡ suc p.lines → bytes ≡ reply.text
       → I (refusal_added tells refusal remark p line reply) → H reply.state → IfOk r (RefusalWritten (refusal number line bytes) old new)
       → IfOk r (Adds I H old new)
   refusal-adds I H p line reply number bytes r old new n b is held h =
@@ -104,7 +104,7 @@ module _ (tells : Plainly → ℕ → List ℕ → Type 0) (refusal : ℕ → Li
       (λ told (t, wrote). (refusal_added tells refusal remark p line reply, is, subst (Appends old new) same wrote, held, t)) h
 
   pub refusal-stops : (I : Added → Type 0) (p : Point) (line : List ℕ) (reply : Reply) (number : ℕ) (bytes : List ℕ)
-      (r : Result Told RunFault) (old new : Option (List ℕ)) → number ≡ suc p.lines → bytes ≡ reply.text
+      (r : Result LineOutcome RunFault) (old new : Option (List ℕ)) → number ≡ suc p.lines → bytes ≡ reply.text
       → I (refusal_added tells refusal remark p line reply) → IfErr r (StopsIn (refusal number line bytes) old new)
       → IfErr r (Stops I old new)
   refusal-stops I p line reply number bytes r old new n b is h =
@@ -115,20 +115,20 @@ module _ (tells : Plainly → ℕ → List ℕ → Type 0) (refusal : ℕ → Li
       (subst (λ (t : List ℕ). StopsIn t old new fault) same k)) h
 
   -- a remark is written
-  pub remark-adds : (I : Added → Type 0) (H : State → Type 0) (p : Point) (line : List ℕ) (r : Result Told RunFault) (old new : Option (List ℕ))
+  pub remark-adds : (I : Added → Type 0) (H : State → Type 0) (p : Point) (line : List ℕ) (r : Result LineOutcome RunFault) (old new : Option (List ℕ))
       → I (remark_added tells refusal remark p line) → H p.state → IfOk r (RemarkWritten (remark line) old new) → IfOk r (Adds I H old new)
   remark-adds I H p line r old new is held h =
       IfOk-weaker r (RemarkWritten (remark line) old new) (Adds I H old new)
       (λ told (t, wrote). (remark_added tells refusal remark p line, is, wrote, held, t)) h
 
-  pub remark-stops : (I : Added → Type 0) (p : Point) (line : List ℕ) (r : Result Told RunFault) (old new : Option (List ℕ))
+  pub remark-stops : (I : Added → Type 0) (p : Point) (line : List ℕ) (r : Result LineOutcome RunFault) (old new : Option (List ℕ))
       → I (remark_added tells refusal remark p line) → IfErr r (StopsIn (remark line) old new) → IfErr r (Stops I old new)
   remark-stops I p line r old new is h =
       IfErr-weaker r (StopsIn (remark line) old new) (Stops I old new)
       (λ fault. stops-in I (remark_added tells refusal remark p line) old new fault is) h
 
   -- the study in the document is written
-  pub section-adds : (H : State → Type 0) (p : Point) (s : State) (line : List ℕ) (number studies : ℕ) (plain : Plainly) (old new : Option (List ℕ))
+  pub section-adds : (H : State → Type 0) (p : Point) (s : State) (line : List ℕ) (number studies : ℕ) (plain : PlainStudy) (old new : Option (List ℕ))
       → s.document ≡ study plain → number ≡ suc studies → studies ≡ p.studies → H s → IsSection tells s.document number old new
       → Adds (IsStudyTold tells refusal remark p s line) H old new AStudy
   section-adds H p s line number studies plain old new b n k held sec =
@@ -136,7 +136,7 @@ module _ (tells : Plainly → ℕ → List ℕ → Type 0) (refusal : ℕ → Li
       let at : number ≡ suc p.studies = n ∙ ap suc k in
       (study_added p s there.0, inl (plain, there.0, b, subst (λ i. tells plain i there.0) at there.1, refl), there.2, held, refl)
 
-  pub section-stops : (p : Point) (s : State) (line : List ℕ) (number studies : ℕ) (plain : Plainly) (old new : Option (List ℕ))
+  pub section-stops : (p : Point) (s : State) (line : List ℕ) (number studies : ℕ) (plain : PlainStudy) (old new : Option (List ℕ))
       → s.document ≡ study plain → number ≡ suc studies → studies ≡ p.studies → IsSectionPart tells s.document number old new
       → Stops (IsStudyTold tells refusal remark p s line) old new WriteDevice
   section-stops p s line number studies plain old new b n k sec =
@@ -145,37 +145,37 @@ module _ (tells : Plainly → ℕ → List ℕ → Type 0) (refusal : ℕ → Li
       (study_added p s there.0, inl (plain, there.0, b, subst (λ i. tells plain i there.0) at there.1, refl), there.2)
 
   -- a study that is refused
-  pub left-out : (p : Point) (s : State) (line : List ℕ) (plain : Plainly) (why : Refusal) → s.document ≡ study plain → IsLeftOut s plain why
+  pub left-out : (p : Point) (s : State) (line : List ℕ) (plain : PlainStudy) (why : Refusal) → s.document ≡ study plain → IsLeftOut s plain why
       → IsStudyTold tells refusal remark p s line (refusal_added tells refusal remark p line (refused s why))
   left-out p s line plain why b h = inr (plain, why, b, h, refl)
 
   -- ---- after the script's reply
 
-  pub checked-refused : (p : Point) (line : List ℕ) (o : Outside) (reply : Reply) → IsReplyIn true p.state line o reply → reply.refused ≡ true
+  pub checked-refused : (p : Point) (line : List ℕ) (o : Environment) (reply : Reply) → IsReplyIn true p.state line o reply → reply.refused ≡ true
       → IsAddedAs tells refusal remark Checked p line (refusal_added tells refusal remark p line reply)
   checked-refused p line o reply is e = let a = refusal_added tells refusal remark p line reply in
       (o, reply, is, subst (λ b. IsCheckedAfter tells refusal remark p line reply b a) (sym e) refl)
 
-  pub pgn-refused : (p : Point) (line : List ℕ) (o : Outside) (reply : Reply) → IsReplyIn true p.state line o reply → reply.refused ≡ true
+  pub pgn-refused : (p : Point) (line : List ℕ) (o : Environment) (reply : Reply) → IsReplyIn true p.state line o reply → reply.refused ≡ true
       → IsAddedAs tells refusal remark Study p line (refusal_added tells refusal remark p line reply)
   pgn-refused p line o reply is e = let a = refusal_added tells refusal remark p line reply in
       (o, reply, is, subst (λ b. IsPgnAfter tells refusal remark p line reply b a) (sym e) refl)
 
-  pub pgn-told : (p : Point) (line : List ℕ) (o : Outside) (reply : Reply) (a : Added) → IsReplyIn true p.state line o reply → reply.refused ≡ false
+  pub pgn-told : (p : Point) (line : List ℕ) (o : Environment) (reply : Reply) (a : Added) → IsReplyIn true p.state line o reply → reply.refused ≡ false
       → IsStudyTold tells refusal remark p reply.state line a → IsAddedAs tells refusal remark Study p line a
   pgn-told p line o reply a is e h = (o, reply, is, subst (λ b. IsPgnAfter tells refusal remark p line reply b a) (sym e) h)
 
   pub replied-adds : (I : Added → Type 0) (H : State → Type 0) (p : Point) (line : List ℕ) (number : ℕ) (bytes : List ℕ) (was : Bool)
-      (r : Result Told RunFault) (old new : Option (List ℕ))
-      → ((o : Outside) (reply : Reply) → IsReplyIn true p.state line o reply → reply.refused ≡ true → I (refusal_added tells refusal remark p line reply))
+      (r : Result LineOutcome RunFault) (old new : Option (List ℕ))
+      → ((o : Environment) (reply : Reply) → IsReplyIn true p.state line o reply → reply.refused ≡ true → I (refusal_added tells refusal remark p line reply))
       → number ≡ suc p.lines → was ≡ true → IsReplied p.state line H bytes was
       → IfOk r (RefusalWritten (refusal number line bytes) old new) → IfOk r (Adds I H old new)
   replied-adds I H p line number bytes was r old new so n was-true (o, reply, is, b, held, same) h =
       refusal-adds I H p line reply number bytes r old new n b (so o reply is (sym same ∙ was-true)) held h
 
   pub replied-stops : (I : Added → Type 0) (H : State → Type 0) (p : Point) (line : List ℕ) (number : ℕ) (bytes : List ℕ) (was : Bool)
-      (r : Result Told RunFault) (old new : Option (List ℕ))
-      → ((o : Outside) (reply : Reply) → IsReplyIn true p.state line o reply → reply.refused ≡ true → I (refusal_added tells refusal remark p line reply))
+      (r : Result LineOutcome RunFault) (old new : Option (List ℕ))
+      → ((o : Environment) (reply : Reply) → IsReplyIn true p.state line o reply → reply.refused ≡ true → I (refusal_added tells refusal remark p line reply))
       → number ≡ suc p.lines → was ≡ true → IsReplied p.state line H bytes was
       → IfErr r (StopsIn (refusal number line bytes) old new) → IfErr r (Stops I old new)
   replied-stops I H p line number bytes was r old new so n was-true (o, reply, is, b, held, same) h =

@@ -5,14 +5,14 @@ use Rattle.study_material.specs.declared.class.Class.{Class}
 use Rattle.study_command.specs.declared.command.TableCommand.TheVariants.{Build, Load, Save, Verify}
 use Rattle.study_command.specs.Parser.{Asks, fen_command, node_query, node_command, table_command, stipulate, insert, tag, solve, pgn, command_of}
 use Rattle.study_script.specs.Stores.{IsTrusted, IsTrustedAsk}
-use Rattle.study_marks.specs.Edits.{Plainly}
+use Rattle.study_marks.specs.Edits.{PlainStudy}
 use Rattle.study_reply.specs.declared.refusal.Refusal.{Refusal}
 use Rattle.study_reply.specs.declared.refusal.Refusal.TheVariants.{NoStudy, OutOfMemory}
-use Rattle.study_script.specs.State.{State, Document, empty, start, study, Outside, quiet, no_path, no_room, no_room_for, unread, unopened}
+use Rattle.study_script.specs.State.{State, Document, empty, start, study, Environment, quiet, no_path, no_room, no_room_for, unread, unopened}
 use Rattle.study_script.specs.State.{cut_off, file, header}
 use Rattle.study_script.specs.Replies.{Reply, refused, class_told, IsPgnReply, IsReplyWhere, IsReplyIn, begins_position, emptied}
-use Rattle.study_report.specs.declared.kind.Kind.{Kind}
-use Rattle.study_report.specs.declared.kind.Kind.TheVariants.{Remark, PassedOver, Study, Checked}
+use Rattle.study_report.specs.declared.line_kind.LineKind.{LineKind}
+use Rattle.study_report.specs.declared.line_kind.LineKind.TheVariants.{Remark, PassedOver, Study, Checked}
 use Rattle.study_report.specs.Remarks.{is_remark, is_left_out, is_original, is_omission}
 use Rattle.study_report.specs.Told.{kind_in, line_kind, class_kind, game_entry, games_in}
 use Rattle.study_report.specs.Written.{none_trusted}
@@ -20,7 +20,7 @@ use Rattle.study_report.specs.Written.{none_trusted}
 -- ---- a line that is no remark
 
 -- it is of the kind of its command
-plain-kind : (b : Bool) (k kind : Kind) → (Remark ≡ kind → ⊥) → (if b then Remark else k) ≡ kind → k ≡ kind
+plain-kind : (b : Bool) (k kind : LineKind) → (Remark ≡ kind → ⊥) → (if b then Remark else k) ≡ kind → k ≡ kind
 plain-kind true k kind other e = absurd (other e)
 plain-kind false k kind other e = e
 
@@ -28,12 +28,12 @@ plain-study : (line : List ℕ) → line_kind line ≡ Study → kind_in (comman
 plain-study line k = plain-kind (is_remark line) (kind_in (command_of line)) Study (λ e. absurd cc) k
 
 -- it is not the remark of a game
-no-game : (left original omission : Bool) (line : List ℕ) (k kind : Kind) → (Remark ≡ kind → ⊥)
+no-game : (left original omission : Bool) (line : List ℕ) (k kind : LineKind) → (Remark ≡ kind → ⊥)
     → (if (left || original) || omission then Remark else k) ≡ kind → (if left then game_entry line ∷ [] else []) ≡ []
 no-game true original omission line k kind other e = absurd (other e)
 no-game false original omission line k kind other e = refl
 
-pub no-games : (line : List ℕ) (kind : Kind) → (Remark ≡ kind → ⊥) → line_kind line ≡ kind → games_in line ≡ []
+pub no-games : (line : List ℕ) (kind : LineKind) → (Remark ≡ kind → ⊥) → line_kind line ≡ kind → games_in line ≡ []
 no-games line kind other e = no-game (is_left_out line) (is_original line) (is_omission line) line (kind_in (command_of line)) kind other e
 
 -- ---- a line that is answered opens no file
@@ -74,7 +74,7 @@ class-no-study : (o : Option Class) → class_kind o ≡ Study → ⊥
 class-no-study None k = absurd cc
 class-no-study (Some c) k = absurd cc
 
-pub pgn-asked : (s : State) (o : Outside) (reply : Reply) (asks : Asks) → kind_in asks ≡ Study → IsReplyWhere s o asks reply
+pub pgn-asked : (s : State) (o : Environment) (reply : Reply) (asks : Asks) → kind_in asks ≡ Study → IsReplyWhere s o asks reply
     → IsPgnReply s o s.document reply
 pgn-asked s o reply (Ok (Some pgn)) k r = r
 pgn-asked s o reply (Ok (Some (table_command word name))) k r = absurd (class-no-study (class_told name) k)
@@ -90,16 +90,16 @@ pgn-asked s o reply (Err fault) k r = absurd cc
 
 -- an accepted one finds a study, and changes nothing
 abbrev pub Finds : State → Document → Reply → Type 0
-Finds s b reply = ((plain : Plainly) × (b ≡ study plain)) × (reply.state ≡ s)
+Finds s b reply = ((plain : PlainStudy) × (b ≡ study plain)) × (reply.state ≡ s)
 
 refused-no : (s : State) (why : Refusal) (reply : Reply) → reply ≡ refused s why → reply.refused ≡ false → ⊥
 refused-no s why reply e f = let yes : reply.refused ≡ true = ap (λ (r : Reply). r.refused) e in
     let bad : true ≡ false = sym yes ∙ f in absurd cc
 
-found-study : (s : State) (old : Plainly) (reply : Reply) → IsPgnReply s quiet (study old) reply → Finds s (study old) reply
+found-study : (s : State) (old : PlainStudy) (reply : Reply) → IsPgnReply s quiet (study old) reply → Finds s (study old) reply
 found-study s old reply (annotated, right, plain, e) = ((old, refl), ap (λ (r : Reply). r.state) e)
 
-pub pgn-finds : (s : State) (o : Outside) (b : Document) (reply : Reply) → IsPgnReply s o b reply → reply.refused ≡ false → Finds s b reply
+pub pgn-finds : (s : State) (o : Environment) (b : Document) (reply : Reply) → IsPgnReply s o b reply → reply.refused ≡ false → Finds s b reply
 pgn-finds s o empty reply r f = absurd (refused-no s NoStudy reply r f)
 pgn-finds s o (start from) reply r f = absurd (refused-no s NoStudy reply r f)
 pgn-finds s no_room (study old) reply r f = absurd (refused-no s OutOfMemory reply r f)
@@ -113,7 +113,7 @@ pgn-finds s (file bytes) (study old) reply r f = found-study s old reply r
 pgn-finds s (header told) (study old) reply r f = found-study s old reply r
 
 -- the same if studies are kept apart
-pub study-finds : (s : State) (line : List ℕ) (o : Outside) (reply : Reply) → line_kind line ≡ Study → IsReplyIn true s line o reply
+pub study-finds : (s : State) (line : List ℕ) (o : Environment) (reply : Reply) → line_kind line ≡ Study → IsReplyIn true s line o reply
     → reply.refused ≡ false → Finds s s.document reply
 study-finds s line o reply kind (plain, is, e) was =
     let accepted : plain.refused ≡ false = sym (ap (λ (r : Reply). r.refused) e) ∙ was in

@@ -8,7 +8,7 @@ use Rattle.std.proofs.KnownBytes.{Appends-nil, Appends-trans}
 use Rattle.std.proofs.lemmas.List.{append-nil, length-take-le}
 use Rattle.std.proofs.lemmas.List.Sums.{sum_by_push, sum_by-cons}
 use Rattle.std.proofs.lemmas.Result.{IfOk-weaker}
-use Rattle.study_marks.specs.Edits.{Plainly}
+use Rattle.study_marks.specs.Edits.{PlainStudy}
 use Rattle.study_command.specs.Lines.{script_lines, TakesLine, GaveFeeds}
 use Rattle.study_command.specs.Parser.{Asks, command_of}
 use Rattle.study_reply.specs.declared.refusal.Refusal.{Refusal}
@@ -20,10 +20,10 @@ use Rattle.study_script.specs.declared.running.RunFault.TheVariants.{ReadDevice,
 use Rattle.study_script.specs.State.{Document, study}
 use Rattle.study_script.specs.Written.{Piece, IsPieceWhere, IsWritten}
 use Rattle.study_script.proofs.FirstLines.{first_left, none_left}
-use Rattle.study_report.specs.declared.kind.Kind.{Kind}
-use Rattle.study_report.specs.declared.kind.Kind.TheVariants.{Remark, PassedOver, NoClass, Study, Checked}
-use Rattle.study_report.specs.declared.told.Told.{Told}
-use Rattle.study_report.specs.declared.told.Told.TheVariants.{Nothing, Study as AStudy}
+use Rattle.study_report.specs.declared.line_kind.LineKind.{LineKind}
+use Rattle.study_report.specs.declared.line_kind.LineKind.TheVariants.{Remark, PassedOver, NoClass, Study, Checked}
+use Rattle.study_report.specs.declared.line_outcome.LineOutcome.{LineOutcome}
+use Rattle.study_report.specs.declared.line_outcome.LineOutcome.TheVariants.{Nothing, Study as AStudy}
 use Rattle.study_report.specs.Told.{lacks_study, study_count, refusal_count}
 use Rattle.study_report.specs.Parts.{Part, nothing_part, study_part, parts_text, part_studies, part_refusals, WritesPart, IsReplyPiece, refused_part}
 use Rattle.study_report.specs.Parts.{remark_part, checked_part, IsPartAs, IsPart, AreParts, Fits}
@@ -50,35 +50,35 @@ on-err (Ok x) P h = tt
 on-err (Err e) P h = h
 
 module _ (form : ℕ → List ℕ → Type 0) (refusal : ℕ → List ℕ → List ℕ → List ℕ) (remark : List ℕ → List ℕ) where
-  pub passed-part : (k : Kind) (line : List ℕ) (number next : ℕ) (out : Option (List ℕ)) → PassedOver ≡ k
+  pub passed-part : (k : LineKind) (line : List ℕ) (number next : ℕ) (out : Option (List ℕ)) → PassedOver ≡ k
       → WritesPart (IsPartAs form refusal remark k number next line) out out Nothing
   passed-part k line number next out e =
-      (nothing_part, subst (λ (x : Kind). IsPartAs form refusal remark x number next line nothing_part) e refl, Appends-nil out, refl)
+      (nothing_part, subst (λ (x : LineKind). IsPartAs form refusal remark x number next line nothing_part) e refl, Appends-nil out, refl)
 
-  pub remark-part : {E : Type 0} (k : Kind) (line : List ℕ) (number next : ℕ) (r : Result Told E) (old new : Option (List ℕ)) → Remark ≡ k
+  pub remark-part : {E : Type 0} (k : LineKind) (line : List ℕ) (number next : ℕ) (r : Result LineOutcome E) (old new : Option (List ℕ)) → Remark ≡ k
       → IfOk r (RemarkWritten (remark line) old new) → IfOk r (WritesPart (IsPartAs form refusal remark k number next line) old new)
   remark-part k line number next r old new e h =
       let part = remark_part form refusal remark line in
       IfOk-weaker r (RemarkWritten (remark line) old new) (WritesPart (IsPartAs form refusal remark k number next line) old new)
-      (λ told (t, wrote). (part, subst (λ (x : Kind). IsPartAs form refusal remark x number next line part) e refl, wrote, t)) h
+      (λ told (t, wrote). (part, subst (λ (x : LineKind). IsPartAs form refusal remark x number next line part) e refl, wrote, t)) h
 
-  pub no-class-part : {E : Type 0} (k : Kind) (line : List ℕ) (number next : ℕ) (r : Result Told E) (old new : Option (List ℕ)) → NoClass ≡ k
+  pub no-class-part : {E : Type 0} (k : LineKind) (line : List ℕ) (number next : ℕ) (r : Result LineOutcome E) (old new : Option (List ℕ)) → NoClass ≡ k
       → IfOk r (RefusalWritten (refusal number line (reply_line (codes "error ") (words_of NotAClass))) old new)
       → IfOk r (WritesPart (IsPartAs form refusal remark k number next line) old new)
   no-class-part k line number next r old new e h =
       let part = refused_part form refusal remark number line (reply_line (codes "error ") (words_of NotAClass)) in
       IfOk-weaker r (RefusalWritten (refusal number line (reply_line (codes "error ") (words_of NotAClass))) old new)
       (WritesPart (IsPartAs form refusal remark k number next line) old new)
-      (λ told (t, wrote). (part, subst (λ (x : Kind). IsPartAs form refusal remark x number next line part) e refl, wrote, t)) h
+      (λ told (t, wrote). (part, subst (λ (x : LineKind). IsPartAs form refusal remark x number next line part) e refl, wrote, t)) h
 
-  pub part-of-kind : {E : Type 0} (j k : Kind) (line : List ℕ) (number next : ℕ) (r : Result Told E) (old new : Option (List ℕ)) → j ≡ k
+  pub part-of-kind : {E : Type 0} (j k : LineKind) (line : List ℕ) (number next : ℕ) (r : Result LineOutcome E) (old new : Option (List ℕ)) → j ≡ k
       → IfOk r (WritesPart (IsPartAs form refusal remark j number next line) old new)
       → IfOk r (WritesPart (IsPartAs form refusal remark k number next line) old new)
   part-of-kind j k line number next r old new e h =
-      subst (λ (x : Kind). IfOk r (WritesPart (IsPartAs form refusal remark x number next line) old new)) e h
+      subst (λ (x : LineKind). IfOk r (WritesPart (IsPartAs form refusal remark x number next line) old new)) e h
 
   -- a line is refused by these words
-  pub refusal-part : {E : Type 0} (line : List ℕ) (number next : ℕ) (words : List ℕ) (r : Result Told E) (old new : Option (List ℕ))
+  pub refusal-part : {E : Type 0} (line : List ℕ) (number next : ℕ) (words : List ℕ) (r : Result LineOutcome E) (old new : Option (List ℕ))
       → IfOk r (RefusalWritten (refusal number line (reply_line (codes "error ") words)) old new)
       → IfOk r (WritesPart (IsPartAs form refusal remark Study number next line) old new)
   refusal-part line number next words r old new h =
@@ -86,7 +86,7 @@ module _ (form : ℕ → List ℕ → Type 0) (refusal : ℕ → List ℕ → Li
       (WritesPart (IsPartAs form refusal remark Study number next line) old new)
       (λ told (e, wrote). (refused_part form refusal remark number line (reply_line (codes "error ") words), inl (words, refl), wrote, e)) h
 
-  pub refusal-of-reply : {E : Type 0} (line : List ℕ) (number next : ℕ) (bytes : List ℕ) (was : Bool) (r : Result Told E) (old new : Option (List ℕ))
+  pub refusal-of-reply : {E : Type 0} (line : List ℕ) (number next : ℕ) (bytes : List ℕ) (was : Bool) (r : Result LineOutcome E) (old new : Option (List ℕ))
       → IsReplyPiece line bytes was → was ≡ true → IfOk r (RefusalWritten (refusal number line bytes) old new)
       → IfOk r (WritesPart (IsPartAs form refusal remark Study number next line) old new)
   refusal-of-reply line number next bytes was r old new (piece, is, b, same) so h =
@@ -110,7 +110,7 @@ module _ (form : ℕ → List ℕ → Type 0) (refusal : ℕ → List ℕ → Li
       go true e = absurd cc
       go false e = refl
 
-  pub checked-refusal : {E : Type 0} (line : List ℕ) (number next : ℕ) (bytes : List ℕ) (was : Bool) (r : Result Told E) (old new : Option (List ℕ))
+  pub checked-refusal : {E : Type 0} (line : List ℕ) (number next : ℕ) (bytes : List ℕ) (was : Bool) (r : Result LineOutcome E) (old new : Option (List ℕ))
       → IsReplyPiece line bytes was → was ≡ true → IfOk r (RefusalWritten (refusal number line bytes) old new)
       → IfOk r (WritesPart (IsPartAs form refusal remark Checked number next line) old new)
   checked-refusal line number next bytes was r old new (piece, is, b, same) so h =
@@ -133,7 +133,7 @@ module _ (form : ℕ → List ℕ → Type 0) (refusal : ℕ → List ℕ → Li
   study-in line number next old new (text, is, wrote) = (study_part text, inr (text, is, refl), wrote, refl)
 
   -- the study is refused
-  pub left-out-part : {E : Type 0} (line : List ℕ) (number next : ℕ) (why : Refusal) (r : Result Told E) (old mid new : Option (List ℕ)) → mid ≡ old
+  pub left-out-part : {E : Type 0} (line : List ℕ) (number next : ℕ) (why : Refusal) (r : Result LineOutcome E) (old mid new : Option (List ℕ)) → mid ≡ old
       → IfOk r (RefusalWritten (refusal number line (reply_line (codes "error ") (words_of why))) mid new)
       → IfOk r (WritesPart (IsPartAs form refusal remark Study number next line) old new)
   left-out-part line number next why r old mid new same h =
@@ -190,7 +190,7 @@ module _ (form : ℕ → List ℕ → Type 0) (refusal : ℕ → List ℕ → Li
     known = record { left_is = refl; within = omega arith; parts = []; are = tt; written = Appends-nil out; refused_is = refl; studies_are = refl };
   }
 
-  pub parts_more : (script now next old mid new : Option (List ℕ)) (line : List ℕ) (n number refused refused' studies studies' : ℕ) (told : Told)
+  pub parts_more : (script now next old mid new : Option (List ℕ)) (line : List ℕ) (n number refused refused' studies studies' : ℕ) (told : LineOutcome)
       → HasParts script now old mid n refused studies → TakesLine now next true line → number ≡ n + 1
       → WritesPart (IsPart form refusal remark number (studies + 1) line) mid new told
       → refused' ≡ refused + refusal_count told → studies' ≡ studies + study_count told
@@ -218,9 +218,9 @@ module _ (form : ℕ → List ℕ → Type 0) (refusal : ℕ → List ℕ → Li
           parts = v.parts ++ part ∷ [];
           are = rw grown (parts-more 0 0 (take n all) v.parts line part v.are there);
           written = rw (text-more v.parts part) (Appends-trans old mid new (parts_text v.parts) part.text v.written wrote);
-          refused_is = k ∙ ap (λ (x : Told). refused + refusal_count x) same ∙ ap (λ i. i + refusal_count part.told) v.refused_is
+          refused_is = k ∙ ap (λ (x : LineOutcome). refused + refusal_count x) same ∙ ap (λ i. i + refusal_count part.told) v.refused_is
               ∙ sym (sum_by_push (λ (p : Part). refusal_count p.told) v.parts part);
-          studies_are = j ∙ ap (λ (x : Told). studies + study_count x) same ∙ ap (λ i. i + study_count part.told) v.studies_are
+          studies_are = j ∙ ap (λ (x : LineOutcome). studies + study_count x) same ∙ ap (λ i. i + study_count part.told) v.studies_are
               ∙ sym (sum_by_push (λ (p : Part). study_count p.told) v.parts part);
         };
       }
@@ -279,6 +279,6 @@ module _ (form : ℕ → List ℕ → Type 0) (refusal : ℕ → List ℕ → Li
 
 -- ---- documents
 
-pub no-study : (b : Document) (plain : Plainly) → b ≡ study plain → lacks_study b ≡ true → ⊥
+pub no-study : (b : Document) (plain : PlainStudy) → b ≡ study plain → lacks_study b ≡ true → ⊥
 no-study b plain e lacks = let has : lacks_study b ≡ false = ap lacks_study e in
     let bad : true ≡ false = sym lacks ∙ has in absurd cc

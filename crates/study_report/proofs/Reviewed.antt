@@ -7,7 +7,7 @@ use Rattle.study_values.specs.Values.{ProbeAnswer}
 use Rattle.study_values.specs.declared.values.ProbeFault.{ProbeFault}
 use Rattle.study_values.specs.declared.values.ProbeFault.TheVariants.{NoTable, TableRead, PageDamaged}
 use Rattle.study_marks.specs.Answers.{WereTold, IsFirstFault}
-use Rattle.study_marks.specs.Told.{failures_told}
+use Rattle.study_marks.specs.Evaluated.{failures_of}
 use Rattle.study_facts.specs.declared.fault.ReviewFault.{ReviewFault}
 use Rattle.study_facts.specs.declared.fault.ReviewFault.TheVariants.{OutOfMemory, Device, Values}
 use Rattle.study_facts.specs.Asked.{Stopped, within}
@@ -53,7 +53,7 @@ module _ {V : Type 0} (held : V → Class → Bool) (gives : V → Position → 
 module _ {V : Type 0} (held : V → Class → Bool) (gives : V → Position → ProbeAnswer → Type 0)
     (may_fail : V → Class → SourceFault → Type 0) (asked_of failed_of : V → ℕ) (is_honest : V → Type 0) (p : Position) (valid : IsValid p) where
   untold-by : (paged : Bool) (old new : V) (fault : ProbeFault) → is_honest old
-      → ((f : SourceFault) → failed_of new ≡ failures_told {T = Unit {0}} (Err (TableRead f)) (failed_of old) → paged ≡ true)
+      → ((f : SourceFault) → failed_of new ≡ failures_of {T = Unit {0}} (Err (TableRead f)) (failed_of old) → paged ≡ true)
       → Stopped held (within p gives) may_fail asked_of failed_of is_honest old fault new
       → IsUntoldBy (held old) paged (may_fail old) p fault
   untold-by paged old new (NoTable c) honest by_pages h =
@@ -65,7 +65,7 @@ module _ {V : Type 0} (held : V → Class → Bool) (gives : V → Position → 
 
   -- why a study is refused
   pub reviewed-why : {T : Type 0} (paged : Bool) (old new : V) (r : Result T ReviewFault) (fault : ProbeFault) → is_honest old
-      → ((f : SourceFault) → failed_of new ≡ failures_told {T = Unit {0}} (Err (TableRead f)) (failed_of old) → paged ≡ true)
+      → ((f : SourceFault) → failed_of new ≡ failures_of {T = Unit {0}} (Err (TableRead f)) (failed_of old) → paged ≡ true)
       → HasReviewed held (within p gives) may_fail asked_of failed_of is_honest {T = T} old r new → r ≡ Err (Values fault)
       → IsUntoldBy (held old) paged (may_fail old) p fault
   reviewed-why {T = T} paged old new r fault honest by_pages h e =

@@ -15,7 +15,7 @@ use Rattle.study_facts.specs.Asked.{within}
 use Rattle.study_facts.specs.Order.{HasReviewed}
 use Rattle.study_script.specs.declared.tables.Tables.{Tables}
 use Rattle.study_script.specs.declared.tables.Tables.TheVariants as held
-use Rattle.study_script.specs.Held.{tables_honest, tables_held, tables_may_fail, are_paged}
+use Rattle.study_script.specs.SessionHolds.{tables_honest, tables_held, tables_may_fail, are_paged}
 use Rattle.study_report.specs.Told.{IsUntoldBy}
 use Rattle.study_report.proofs.Reviewed.{reviewed-fails, reviewed-honest, reviewed-tables, reviewed-why}
 

@@ -4,7 +4,7 @@ use Rattle.std.specs.Prelude.{slice_get, Option, Some, Result, Ok, Err, sum_by, 
 use Rattle.std.specs.List.{flat_map}
 use Rattle.std.specs.Io.KnownBytes.{Appends}
 use Rattle.study_text.specs.Taken.{TakesPrefix}
-use Rattle.study_marks.specs.Edits.{Plainly}
+use Rattle.study_marks.specs.Edits.{PlainStudy}
 use Rattle.study_command.specs.Lines.{script_lines, GaveFeeds}
 use Rattle.study_script.specs.declared.running.Summary.{Summary}
 use Rattle.study_script.specs.declared.running.RunFault.{RunFault}
@@ -40,7 +40,7 @@ abbrev pub point_after : Point → List Added → Point
 point_after p [] = p
 point_after p (a ∷ more) = point_after a.after more
 
-module _ (tells : Plainly → ℕ → List ℕ → Type 0) (refusal : ℕ → List ℕ → List ℕ → List ℕ) (remark : List ℕ → List ℕ) where
+module _ (tells : PlainStudy → ℕ → List ℕ → Type 0) (refusal : ℕ → List ℕ → List ℕ → List ℕ) (remark : List ℕ → List ℕ) where
   -- the additions of lines, one for each; each line starts at the point after the one before it
   abbrev pub AreAdded : Point → List (List ℕ) → List Added → Type 0
   AreAdded p [] [] = Unit {0}

@@ -10,16 +10,16 @@ use Rattle.study_script.specs.declared.running.Summary.{Summary}
 use Rattle.study_script.specs.declared.running.RunFault.{RunFault}
 use Rattle.study_script.specs.declared.running.RunFault.TheVariants.{ReadDevice, WriteDevice, LineTooLong, TooManyLines, OutOfMemory}
 use Rattle.study_script.specs.Written.{Piece, IsPiece, error_of}
-use Rattle.study_report.specs.declared.kind.Kind.{Kind}
-use Rattle.study_report.specs.declared.kind.Kind.TheVariants.{Remark, PassedOver, NoClass, Study, Checked}
-use Rattle.study_report.specs.declared.told.Told.{Told}
-use Rattle.study_report.specs.declared.told.Told.TheVariants.{Nothing, Study as AStudy, Refusal as ARefusal}
+use Rattle.study_report.specs.declared.line_kind.LineKind.{LineKind}
+use Rattle.study_report.specs.declared.line_kind.LineKind.TheVariants.{Remark, PassedOver, NoClass, Study, Checked}
+use Rattle.study_report.specs.declared.line_outcome.LineOutcome.{LineOutcome}
+use Rattle.study_report.specs.declared.line_outcome.LineOutcome.TheVariants.{Nothing, Study as AStudy, Refusal as ARefusal}
 use Rattle.study_report.specs.Told.{line_kind, study_count, refusal_count}
 
 -- the text written for a line, and what the line reports
 pub record Part : Type 0 where
   pub text : List ℕ
-  pub told : Told
+  pub told : LineOutcome
 
 abbrev pub nothing_part : Part
 nothing_part = record { text = []; told = Nothing }
@@ -38,7 +38,7 @@ abbrev pub part_refusals : List Part → ℕ
 part_refusals parts = sum_by (λ part. refusal_count part.told) parts
 
 -- a part with the property is written, and this was reported
-abbrev pub WritesPart : (Part → Type 0) → Option (List ℕ) → Option (List ℕ) → Told → Type 0
+abbrev pub WritesPart : (Part → Type 0) → Option (List ℕ) → Option (List ℕ) → LineOutcome → Type 0
 WritesPart IsIt old new told = (part : Part) × IsIt part × Appends old new part.text × (told ≡ part.told)
 
 -- the reply of a script to a line
@@ -58,7 +58,7 @@ module _ (form : ℕ → List ℕ → Type 0) (refusal : ℕ → List ℕ → Li
 
   -- The text for a line of this number, if the next study to be reported has that number: a `pgn` line reports a study, in the report's form, or is
   -- refused; a remark is shown; any other line reports nothing, or is refused.
-  abbrev pub IsPartAs : Kind → ℕ → ℕ → List ℕ → Part → Type 0
+  abbrev pub IsPartAs : LineKind → ℕ → ℕ → List ℕ → Part → Type 0
   IsPartAs Remark number next line part = part ≡ remark_part line
   IsPartAs PassedOver number next line part = part ≡ nothing_part
   IsPartAs NoClass number next line part = part ≡ refused_part number line (error_of (words_of NotAClass)).text

@@ -6,34 +6,34 @@ use Rattle.study_material.specs.Needs.{NeedsClass}
 use Rattle.study_values.specs.declared.fault.SourceFault.{SourceFault}
 use Rattle.study_values.specs.declared.values.ProbeFault.{ProbeFault}
 use Rattle.study_values.specs.declared.values.ProbeFault.TheVariants.{NoTable, TableRead, PageDamaged}
-use Rattle.study_marks.specs.Edits.{Plainly}
+use Rattle.study_marks.specs.Edits.{PlainStudy}
 use Rattle.study_command.specs.Parser.{Asks, table_command, pgn, command_of}
 use Rattle.study_reply.specs.declared.refusal.Refusal.{Refusal}
 use Rattle.study_reply.specs.declared.refusal.Refusal.TheVariants.{NotAClass, OutOfMemory}
 use Rattle.study_reply.specs.Names.{of_probe}
-use Rattle.study_script.specs.State.{State, Document, empty, start, study, Outside, is_among}
+use Rattle.study_script.specs.State.{State, Document, empty, start, study, Environment, is_among}
 use Rattle.study_script.specs.Replies.{Reply, IsReplyIn, refused, class_told}
-use Rattle.study_report.specs.declared.kind.Kind.{Kind}
-use Rattle.study_report.specs.declared.kind.Kind.TheVariants.{Remark, PassedOver, NoClass, Study, Checked}
-use Rattle.study_report.specs.declared.told.Place.{Place}
-use Rattle.study_report.specs.declared.told.Told.{Told}
-use Rattle.study_report.specs.declared.told.Told.TheVariants.{Nothing, Study as AStudy, Refusal as ARefusal}
+use Rattle.study_report.specs.declared.line_kind.LineKind.{LineKind}
+use Rattle.study_report.specs.declared.line_kind.LineKind.TheVariants.{Remark, PassedOver, NoClass, Study, Checked}
+use Rattle.study_report.specs.declared.line_outcome.ReportPosition.{ReportPosition}
+use Rattle.study_report.specs.declared.line_outcome.LineOutcome.{LineOutcome}
+use Rattle.study_report.specs.declared.line_outcome.LineOutcome.TheVariants.{Nothing, Study as AStudy, Refusal as ARefusal}
 use Rattle.study_report.specs.Remarks.{is_remark, is_left_out}
 
 -- ---- the kinds of lines
 
-abbrev pub class_kind : Option Class → Kind
+abbrev pub class_kind : Option Class → LineKind
 class_kind None = NoClass
 class_kind (Some c) = PassedOver
 
 -- a line of a table is skipped, or is refused if there is no such class; a `pgn` line reports a study
-abbrev pub kind_in : Asks → Kind
+abbrev pub kind_in : Asks → LineKind
 kind_in (Ok (Some (table_command word name))) = class_kind (class_told name)
 kind_in (Ok (Some pgn)) = Study
 kind_in _ = Checked
 
 -- a comment that is a remark is shown
-abbrev pub line_kind : List ℕ → Kind
+abbrev pub line_kind : List ℕ → LineKind
 line_kind line = if is_remark line then Remark else kind_in (command_of line)
 
 -- ---- what a line adds
@@ -45,21 +45,21 @@ pub record Point : Type 0 where
   pub studies : ℕ
 
 -- the place of the next line
-abbrev pub IsAt : Point → Place → Type 0
+abbrev pub IsAt : Point → ReportPosition → Type 0
 IsAt p at = (at.line ≡ suc p.lines) × (at.studies ≡ p.studies)
 
 -- the text that a line adds, the point after it, and what it reported
 pub record Added : Type 0 where
   pub text : List ℕ
   pub after : Point
-  pub told : Told
+  pub told : LineOutcome
 
-abbrev pub study_count : Told → ℕ
+abbrev pub study_count : LineOutcome → ℕ
 study_count Nothing = 0
 study_count AStudy = 1
 study_count ARefusal = 0
 
-abbrev pub refusal_count : Told → ℕ
+abbrev pub refusal_count : LineOutcome → ℕ
 refusal_count Nothing = 0
 refusal_count AStudy = 0
 refusal_count ARefusal = 1
@@ -84,7 +84,7 @@ abbrev pub IsUntoldIn : State → Position → ProbeFault → Type 0
 IsUntoldIn s p fault = IsUntoldBy (is_among s.classes) s.paged (λ c f. s.shelf.faults c f ≡ true) p fault
 
 -- why a study is refused: want of memory, or a value reached from its start cannot be read
-abbrev pub IsLeftOut : State → Plainly → Refusal → Type 0
+abbrev pub IsLeftOut : State → PlainStudy → Refusal → Type 0
 IsLeftOut s plain why =
     (why ≡ OutOfMemory) ⊎ ((fault : ProbeFault) × IsUntoldIn s plain.start.position fault × (why ≡ of_probe fault))
 
@@ -95,7 +95,7 @@ lacks_study (study plain) = false
 
 -- an entry of a report: a study with its number, or the remark of a game that was left out
 pub data Entry : Type 0 where
-  study_entry : Plainly → ℕ → Entry
+  study_entry : PlainStudy → ℕ → Entry
   game_entry : List ℕ → Entry
 
 -- the study in a document with its number, if there is one
@@ -109,7 +109,7 @@ abbrev pub games_in : List ℕ → List Entry
 games_in line = if is_left_out line then game_entry line ∷ [] else []
 
 -- the study that a line reported, if it is in this document; without a study or a refusal, the game that was left out
-abbrev pub listed_in : List ℕ → Told → Document → ℕ → List Entry
+abbrev pub listed_in : List ℕ → LineOutcome → Document → ℕ → List Entry
 listed_in line Nothing document number = games_in line
 listed_in line AStudy document number = studies_on document number
 listed_in line ARefusal document number = []
@@ -120,7 +120,7 @@ entries_in [] added = []
 entries_in (line ∷ lines) [] = []
 entries_in (line ∷ lines) (a ∷ more) = listed_in line a.told a.after.state.document a.after.studies ++ entries_in lines more
 
-module _ (tells : Plainly → ℕ → List ℕ → Type 0) (refusal : ℕ → List ℕ → List ℕ → List ℕ) (remark : List ℕ → List ℕ) where
+module _ (tells : PlainStudy → ℕ → List ℕ → Type 0) (refusal : ℕ → List ℕ → List ℕ → List ℕ) (remark : List ℕ → List ℕ) where
   -- the line is refused: it uses no number of a study
   abbrev pub refusal_added : Point → List ℕ → Reply → Added
   refusal_added p line reply = record {
@@ -140,8 +140,8 @@ module _ (tells : Plainly → ℕ → List ℕ → Type 0) (refusal : ℕ → Li
   -- the study of the state is reported, or the line is refused
   abbrev pub IsStudyTold : Point → State → List ℕ → Added → Type 0
   IsStudyTold p s line added =
-      ((plain : Plainly) × (text : List ℕ) × (s.document ≡ study plain) × tells plain (suc p.studies) text × (added ≡ study_added p s text))
-      ⊎ ((plain : Plainly) × (why : Refusal) × (s.document ≡ study plain) × IsLeftOut s plain why × (added ≡ refusal_added p line (refused s why)))
+      ((plain : PlainStudy) × (text : List ℕ) × (s.document ≡ study plain) × tells plain (suc p.studies) text × (added ≡ study_added p s text))
+      ⊎ ((plain : PlainStudy) × (why : Refusal) × (s.document ≡ study plain) × IsLeftOut s plain why × (added ≡ refusal_added p line (refused s why)))
 
   -- after the script's reply to a `pgn` line, and to another line that is answered
   abbrev pub IsPgnAfter : Point → List ℕ → Reply → Bool → Added → Type 0
@@ -153,14 +153,14 @@ module _ (tells : Plainly → ℕ → List ℕ → Type 0) (refusal : ℕ → Li
   IsCheckedAfter p line reply false added = added ≡ nothing_added p reply.state
 
   -- by its kind; a report keeps studies apart, so that no line after a refused `position` edits the study before
-  abbrev pub IsAddedAs : Kind → Point → List ℕ → Added → Type 0
+  abbrev pub IsAddedAs : LineKind → Point → List ℕ → Added → Type 0
   IsAddedAs Remark p line added = added ≡ remark_added p line
   IsAddedAs PassedOver p line added = added ≡ nothing_added p p.state
   IsAddedAs NoClass p line added = added ≡ refusal_added p line (refused p.state NotAClass)
   IsAddedAs Study p line added =
-      (o : Outside) × (reply : Reply) × IsReplyIn true p.state line o reply × IsPgnAfter p line reply reply.refused added
+      (o : Environment) × (reply : Reply) × IsReplyIn true p.state line o reply × IsPgnAfter p line reply reply.refused added
   IsAddedAs Checked p line added =
-      (o : Outside) × (reply : Reply) × IsReplyIn true p.state line o reply × IsCheckedAfter p line reply reply.refused added
+      (o : Environment) × (reply : Reply) × IsReplyIn true p.state line o reply × IsCheckedAfter p line reply reply.refused added
 
   -- what a line adds
   abbrev pub IsAdded : Point → List ℕ → Added → Type 0

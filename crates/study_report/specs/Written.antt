@@ -3,12 +3,12 @@ use Rattle.std.specs.Prelude.{◌≡◌, ℕ, Bool, true, false, List, Option}
 use Rattle.std.specs.Io.KnownBytes.{Appends}
 use Rattle.study_text.specs.Taken.{TakesPrefix}
 use Rattle.study_material.specs.declared.class.Class.{Class}
-use Rattle.study_marks.specs.Edits.{Plainly}
+use Rattle.study_marks.specs.Edits.{PlainStudy}
 use Rattle.study_script.specs.declared.running.RunFault.{RunFault}
 use Rattle.study_script.specs.declared.running.RunFault.TheVariants.{WriteDevice, OutOfMemory}
-use Rattle.study_script.specs.State.{State, Document, empty, start, study, Outside}
+use Rattle.study_script.specs.State.{State, Document, empty, start, study, Environment}
 use Rattle.study_script.specs.Replies.{Reply, IsReplyIn}
-use Rattle.study_report.specs.declared.told.Told.{Told}
+use Rattle.study_report.specs.declared.line_outcome.LineOutcome.{LineOutcome}
 use Rattle.study_report.specs.Told.{Added}
 
 -- no class's file has to be right, since a report opens none
@@ -16,7 +16,7 @@ abbrev pub none_trusted : Class → Bool
 none_trusted c = false
 
 -- a line with the property added its text, the state after it is its state, and this was reported
-abbrev pub Adds : (Added → Type 0) → (State → Type 0) → Option (List ℕ) → Option (List ℕ) → Told → Type 0
+abbrev pub Adds : (Added → Type 0) → (State → Type 0) → Option (List ℕ) → Option (List ℕ) → LineOutcome → Type 0
 Adds IsIt HoldsIt old new told = (added : Added) × IsIt added × Appends old new added.text × HoldsIt added.after.state × (told ≡ added.told)
 
 -- the run stops within the text: the writer failed and took a prefix of it, or there is no memory and nothing is written
@@ -32,17 +32,17 @@ Stops IsIt old new OutOfMemory = new ≡ old
 Stops IsIt old new _ = ⊥
 
 -- the text of the study in a document, with this number, is appended; without a study nothing is
-abbrev pub IsSection : (Plainly → ℕ → List ℕ → Type 0) → Document → ℕ → Option (List ℕ) → Option (List ℕ) → Type 0
+abbrev pub IsSection : (PlainStudy → ℕ → List ℕ → Type 0) → Document → ℕ → Option (List ℕ) → Option (List ℕ) → Type 0
 IsSection tells empty number old new = new ≡ old
 IsSection tells (start s) number old new = new ≡ old
 IsSection tells (study plain) number old new = (text : List ℕ) × tells plain number text × Appends old new text
 
-abbrev pub IsSectionPart : (Plainly → ℕ → List ℕ → Type 0) → Document → ℕ → Option (List ℕ) → Option (List ℕ) → Type 0
+abbrev pub IsSectionPart : (PlainStudy → ℕ → List ℕ → Type 0) → Document → ℕ → Option (List ℕ) → Option (List ℕ) → Type 0
 IsSectionPart tells empty number old new = ⊥
 IsSectionPart tells (start s) number old new = ⊥
 IsSectionPart tells (study plain) number old new = (text : List ℕ) × tells plain number text × TakesPrefix old new text
 
 -- these bytes are the text of the reply to a line, the state after it is that of the reply, and the line was refused if the reply says so
 abbrev pub IsReplied : State → List ℕ → (State → Type 0) → List ℕ → Bool → Type 0
-IsReplied s line HoldsIt bytes was_refused = (o : Outside) × (reply : Reply) × IsReplyIn true s line o reply × (bytes ≡ reply.text)
+IsReplied s line HoldsIt bytes was_refused = (o : Environment) × (reply : Reply) × IsReplyIn true s line o reply × (bytes ≡ reply.text)
     × HoldsIt reply.state × (was_refused ≡ reply.refused)

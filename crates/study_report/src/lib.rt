@@ -5,20 +5,20 @@
 //! `follow_script` takes the tables, and needs no files; `follow_over` also takes a store, of which it opens no file.
 #![tactic(auto)]
 
-mod adding;
-mod following;
-mod kind;
+mod line_kind;
+mod line_outcome;
 mod lines;
 mod no_files;
 mod remarks;
 mod report;
+mod report_line;
+mod script_report;
 mod section;
-mod told;
 
-pub use following::{follow, follow_over, follow_script};
-pub use kind::{Kind, kind_of};
-pub use lines::{Lines, without_error};
+pub use line_kind::{LineKind, kind_of};
+pub use lines::{Lines, refusal_words};
 pub use no_files::NoFiles;
 pub use remarks::{behind, is_left_out, is_original, statement, subject};
-pub use report::{NotTold, Report};
+pub use report::{Report, WriteFault};
+pub use script_report::{follow, follow_over, follow_script};
 pub use study_facts::ReviewFault;

@@ -4,7 +4,7 @@ ghost use Rattle.std.specs.Io.KnownBytes.{Appends};
 ghost use Rattle.study_text.specs.Taken.{TakesPrefix};
 ghost use Rattle.study_report.specs.Lines.{refusal_line, no_remark};
 
-use crate::report::{NotTold, Report};
+use crate::report::{Report, WriteFault};
 use itoa::Buffer;
 use std::alloc::Allocator;
 use std::io::Write;
@@ -51,7 +51,7 @@ impl Report for Lines {
         _line: &[u8],
         reply: &[u8],
         out: &mut W,
-    ) -> Result<(), NotTold> {
+    ) -> Result<(), WriteFault> {
         put_refusal(out, number, reply)?;
         Ok(())
     }
@@ -61,13 +61,13 @@ impl Report for Lines {
         _alloc: &'a A,
         _line: &[u8],
         _out: &mut W,
-    ) -> Result<(), NotTold> {
+    ) -> Result<(), WriteFault> {
         Ok(())
     }
 }
 
 /// The reply to a refused line without `error `.
-pub fn without_error(reply: &[u8]) -> &[u8]
+pub fn refusal_words(reply: &[u8]) -> &[u8]
     ensures { result.now ≡ drop 6 reply.now }
 {
     if reply.len() < 6 {
@@ -84,5 +84,5 @@ fn put_refusal<W: Write>(out: &mut W, number: u32, reply: &[u8]) -> Result<(), D
     let mut buffer = Buffer::new();
     write_text(out, buffer.format(number).as_bytes())?;
     write_text(out, b" ")?;
-    write_text(out, without_error(reply))
+    write_text(out, refusal_words(reply))
 }

@@ -3,7 +3,7 @@ ghost use Rattle.std.specs.Prelude.{◌≡◌, ℕ, List, [], ◌∷◌, ◌++�
 ghost use Rattle.std.specs.Io.KnownBytes.{Appends};
 ghost use Rattle.study_values.specs.declared.values.ProbeFault.{ProbeFault as AProbeFault};
 ghost use Rattle.study_text.specs.Taken.{TakesPrefix};
-ghost use Rattle.study_marks.specs.Edits.{Plainly};
+ghost use Rattle.study_marks.specs.Edits.{PlainStudy};
 ghost use Rattle.study_marks.specs.BenchState.{marked, IsKeptRight};
 ghost use Rattle.study_marks.specs.Study.{plain_study};
 ghost use Rattle.study_facts.specs.Asked.{within};
@@ -20,28 +20,28 @@ use thiserror::Error;
 
 /// Why a refused line is not reported, or not whole.
 #[derive(Clone, Copy, Debug, PartialEq, Eq, Error)]
-pub enum NotTold {
+pub enum WriteFault {
     #[error("no memory is left for the text")]
     OutOfMemory,
     #[error("the device failed")]
     Device,
 }
 
-impl From<DeviceFailed> for NotTold {
+impl From<DeviceFailed> for WriteFault {
     ghost use Rattle.std.specs.Prelude.{◌≡◌};
-    ghost use Rattle.study_report.specs.declared.report.NotTold.TheVariants.{Device};
+    ghost use Rattle.study_report.specs.declared.report.WriteFault.TheVariants.{Device};
 
     ghost from_gives = { λ _ fault. fault ≡ Device };
 
-    fn from(_failed: DeviceFailed) -> NotTold {
-        NotTold::Device
+    fn from(_failed: DeviceFailed) -> WriteFault {
+        WriteFault::Device
     }
 }
 
 /// The text of a report for a study, for a refused line, and for a remark.
 pub trait Report {
     /// The text reports the study of this number.
-    ghost tells: { Plainly → ℕ → List ℕ → Type 0 };
+    ghost tells: { PlainStudy → ℕ → List ℕ → Type 0 };
 
     /// The form of each text for the study of this number, whatever its values are.
     ghost form: { ℕ → List ℕ → Type 0 };
@@ -86,10 +86,10 @@ pub trait Report {
         line: &[u8],
         reply: &[u8],
         out: &mut W,
-    ) -> Result<(), NotTold>
+    ) -> Result<(), WriteFault>
         ensures told { OnOk result (Appends (W.contents out.old) (W.contents out.new) (refusal number line.now reply.now)) }
-        ensures device { result ≡ Err NotTold.Device → TakesPrefix (W.contents out.old) (W.contents out.new) (refusal number line.now reply.now) }
-        ensures memory { result ≡ Err NotTold.OutOfMemory → out.new ≡ out.old }
+        ensures device { result ≡ Err WriteFault.Device → TakesPrefix (W.contents out.old) (W.contents out.new) (refusal number line.now reply.now) }
+        ensures memory { result ≡ Err WriteFault.OutOfMemory → out.new ≡ out.old }
         ensures listed { (told : List Entry) → lists self.old told → lists self.new told };
 
     /// Reports a remark: a comment that says why a game is left out, or that has the original text of a tag.
@@ -98,10 +98,10 @@ pub trait Report {
         alloc: &'a A,
         line: &[u8],
         out: &mut W,
-    ) -> Result<(), NotTold>
+    ) -> Result<(), WriteFault>
         ensures told { OnOk result (Appends (W.contents out.old) (W.contents out.new) (remark line.now)) }
-        ensures device { result ≡ Err NotTold.Device → TakesPrefix (W.contents out.old) (W.contents out.new) (remark line.now) }
-        ensures memory { result ≡ Err NotTold.OutOfMemory → out.new ≡ out.old }
+        ensures device { result ≡ Err WriteFault.Device → TakesPrefix (W.contents out.old) (W.contents out.new) (remark line.now) }
+        ensures memory { result ≡ Err WriteFault.OutOfMemory → out.new ≡ out.old }
         ensures listed { (told : List Entry) → lists self.old told → OnOk result (lists self.new (told ++ games_in line.now)) }
         ensures unlisted { (told : List Entry) → lists self.old told → OnErr result (lists self.new told) };
 }

@@ -5,11 +5,11 @@ ghost use Rattle.study_material.specs.declared.class.Class.{Class as AClass};
 ghost use Rattle.study_values.specs.declared.fault.SourceFault.{SourceFault as ASourceFault};
 ghost use Rattle.study_text.specs.Taken.{TakesPrefix};
 ghost use Rattle.study_values.specs.declared.values.ProbeFault.{ProbeFault as AProbeFault};
-ghost use Rattle.study_marks.specs.Edits.{Plainly};
+ghost use Rattle.study_marks.specs.Edits.{PlainStudy};
 ghost use Rattle.study_marks.specs.BenchState.{marked, IsKeptRight};
 ghost use Rattle.study_marks.specs.Study.{plain_study};
 ghost use Rattle.study_script.specs.State.{State, study};
-ghost use Rattle.study_script.specs.Held.{Holds, document_seen, tables_honest, tables_held, tables_may_fail, are_paged};
+ghost use Rattle.study_script.specs.SessionHolds.{Holds, document_seen, tables_honest, tables_held, tables_may_fail, are_paged};
 ghost use Rattle.study_report.specs.Told.{IsUntoldBy, IsUntoldIn, lacks_study, Entry, study_entry, studies_on};
 ghost use Rattle.study_report.specs.Written.{IsSection, IsSectionPart};
 
@@ -75,7 +75,7 @@ pub fn add_section<'a, P: PageSource, A: Allocator, W: Write, T: Report>(
     ensures listed { (s : State) (told : List Entry) → Holds P.honest P.gives document.now tables.old s → T.lists report.old told
         → OnOk result (T.lists report.new (told ++ studies_on s.document number)) }
     ensures unlisted { (told : List Entry) → T.lists report.old told → OnErr result (T.lists report.new told) }
-    ensures why { (s : State) (plain : Plainly) (fault : AProbeFault) → Holds P.honest P.gives document.now tables.old s → s.document ≡ study plain
+    ensures why { (s : State) (plain : PlainStudy) (fault : AProbeFault) → Holds P.honest P.gives document.now tables.old s → s.document ≡ study plain
         → result ≡ Err (ReviewFault.Values fault) → IsUntoldIn s plain.start.position fault }
     ensures holds { (s : State) → Holds P.honest P.gives document.now tables.old s → Holds P.honest P.gives document.now tables.new s }
 {

@@ -8,8 +8,8 @@ use std::alloc::{AllocError, Allocator};
 use std::io::Write;
 use study_material::Class;
 use study_prober::PagedTables;
-use study_reply::{Refusal, refuse};
-use study_report::without_error;
+use study_reply::{Refusal, write_refusal};
+use study_report::refusal_words;
 use study_script::{StoreFault, TableStore, refusal_of_paged};
 use study_text::{MemoryWriter, Text, write_text};
 
@@ -59,8 +59,8 @@ fn fault_line<'a, A: Allocator>(alloc: &'a A, class: Class, refusal: Refusal) ->
 {
     let mut reply = MemoryWriter::new(alloc);
     let mut text = Text::new(alloc);
-    refuse(&mut reply, refusal).ok()?;
-    add_fault(&mut text, class, without_error(reply.taken.as_slice())).ok()?;
+    write_refusal(&mut reply, refusal).ok()?;
+    add_fault(&mut text, class, refusal_words(reply.taken.as_slice())).ok()?;
     Some(text)
 }
 

@@ -13,7 +13,7 @@ use Rattle.study_board.specs.Sets.{has}
 use Rattle.study_moves.specs.declared.moves.Move.{Move}
 use Rattle.study_moves.specs.Rules.{after, is_legal, is_promotion_choice, reaches_last_rank}
 use Rattle.study_moves.specs.Alike.{Leads}
-use Rattle.study_moves.specs.Unmoves.{IsQuiet, LeadsQuietly, CanHaveLed, move_from, came_from}
+use Rattle.study_moves.specs.Unmoves.{IsQuiet, LeadsQuietly, CanHaveLed, move_from, is_unmove_origin}
 use Rattle.study_moves.specs.AnyOrder.{HasOrigins, HasSafeTargets, is_safe_target}
 use Rattle.study_moves.proofs.AnyOrder.{men-tell-moves}
 use Rattle.study_material.specs.declared.class.Class.{Class}
@@ -99,26 +99,26 @@ module _ (c : Class) (number : ℕ) (q : Position) (at : position_numbered c num
 
     module _ (man : Man) (among : Contains men man) where
       -- an origin of the man gives a position before
-      pub came_led : same_side man.side (other_side side) ≡ true → (a : ℕ) → a < 64 → came_from men side man a ≡ true → CanHaveLed q (move_from man a)
+      pub came_led : same_side man.side (other_side side) ≡ true → (a : ℕ) → a < 64 → is_unmove_origin men side man a ≡ true → CanHaveLed q (move_from man a)
       came_led s a on e =
           (told_origins.led man a among on).1
-          (rw (ap (λ (t : Side). same_side man.side (other_side t)) (sym side_is) ∙ s, ap (λ (t : Side). came_from men t man a) (sym side_is) ∙ e) refl)
+          (rw (ap (λ (t : Side). same_side man.side (other_side t)) (sym side_is) ∙ s, ap (λ (t : Side). is_unmove_origin men t man a) (sym side_is) ∙ e) refl)
 
       -- and only such an origin, and only for the side that moved
       pub led_came : (a n : ℕ) → a < 64 → IsBeforeFrom c number man a n
-          → (same_side man.side (other_side side) ≡ true) × (came_from men side man a ≡ true)
+          → (same_side man.side (other_side side) ≡ true) × (is_unmove_origin men side man a ≡ true)
       led_came a n on b =
           let led : CanHaveLed q (move_from man a) = record {
             from = b.before.from;
             leads = subst (λ (p : Position). LeadsQuietly b.before.from (move_from man a) p) (one_position b.to b.at) b.before.leads;
           } in
-          let parts = and_parts (same_side man.side (other_side q.to_move)) (came_from men q.to_move man a) ((told_origins.led man a among on).0 led) in
-          (ap (λ (t : Side). same_side man.side (other_side t)) side_is ∙ parts.0, ap (λ (t : Side). came_from men t man a) side_is ∙ parts.1)
+          let parts = and_parts (same_side man.side (other_side q.to_move)) (is_unmove_origin men q.to_move man a) ((told_origins.led man a among on).0 led) in
+          (ap (λ (t : Side). same_side man.side (other_side t)) side_is ∙ parts.0, ap (λ (t : Side). is_unmove_origin men t man a) side_is ∙ parts.1)
 
       -- the set of those squares, and a number that fits the position before from one of them
-      module _ (all : ℕ) (shown : List Man) (same : shown ≡ men) (came : (a : ℕ) → a < 64 → has all a ≡ came_from shown side man a) where
-        came_men : (a : ℕ) → a < 64 → has all a ≡ came_from men side man a
-        came_men a on = came a on ∙ ap (λ (zs : List Man). came_from zs side man a) same
+      module _ (all : ℕ) (shown : List Man) (same : shown ≡ men) (came : (a : ℕ) → a < 64 → has all a ≡ is_unmove_origin shown side man a) where
+        came_men : (a : ℕ) → a < 64 → has all a ≡ is_unmove_origin men side man a
+        came_men a on = came a on ∙ ap (λ (zs : List Man). is_unmove_origin zs side man a) same
 
         pub before_in : (a : ℕ) → a < 64 → same_side man.side (other_side side) ≡ true → has all a ≡ true → CanHaveLed q (move_from man a)
         before_in a on his e = came_led his a on (sym (came_men a on) ∙ e)

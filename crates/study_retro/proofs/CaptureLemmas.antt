@@ -10,7 +10,7 @@ use Rattle.study_board.specs.Sets.{has}
 use Rattle.study_moves.specs.declared.moves.Move.{Move}
 use Rattle.study_moves.specs.Rules.{is_legal, reaches_last_rank}
 use Rattle.study_moves.specs.AnyOrder.{HasSafeTargets, is_safe_target}
-use Rattle.study_retro.specs.Still.{GoesPlainly, move_to}
+use Rattle.study_retro.specs.Still.{GoesWithoutPromotion, move_to}
 use Rattle.study_levels.proofs.CellsLemmas.{each-more}
 
 -- one move more
@@ -52,5 +52,5 @@ module _ (q : Position) (valid : IsValid q) (men : List Man) (same : men ≡ q.m
         both true true f = absurd (false≢true f)
         both false r f = absurd (false≢true f)
 
-    pub goes_not : (b : Bool) → b ≡ (has safe o.at && not (reaches_last_rank man o.at)) → b ≡ false → GoesPlainly q man o.at → ⊥
+    pub goes_not : (b : Bool) → b ≡ (has safe o.at && not (reaches_last_rank man o.at)) → b ≡ false → GoesWithoutPromotion q man o.at → ⊥
     goes_not b e f g = false≢true (sym f ∙ e ∙ rw (word_is ∙ g.0, g.1) refl)

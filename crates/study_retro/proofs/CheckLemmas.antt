@@ -10,16 +10,16 @@ use Rattle.study_board.specs.declared.men.Side.{Side}
 use Rattle.study_board.specs.declared.men.Kind.TheVariants.{King}
 use Rattle.study_board.specs.declared.men.Man.{Man}
 use Rattle.study_board.specs.Geometry.{strictly_between}
-use Rattle.study_board.specs.Men.{bears_on, is_blocked, is_man, other_side, reaches, same_kind, same_side, moved_if}
+use Rattle.study_board.specs.Men.{attacks_square, is_blocked, is_man, other_side, reaches, same_kind, same_side, moved_if}
 use Rattle.study_board.specs.Position.{in_check, is_occupied}
 use Rattle.study_board.specs.Sets.{has, is_slider, reaches_if}
 use Rattle.study_board.proofs.Faults.{list_any_same}
 use Rattle.study_board.proofs.Lists.{count_by-cons}
 use Rattle.study_moves.proofs.KingSafety.{not_at_end}
 use Rattle.study_moves.proofs.MenOfList.{IsAmong, none_among}
-use Rattle.study_retro.specs.RowMoves.{AreApart, AreBearers, AreRest, IsOnlyKing, attacked_with_last, bears_past, bears_with, gone_to}
-use Rattle.study_retro.specs.RowMoves.{king_attacked_with, stands_aside}
-use Rattle.study_retro.specs.declared.row_checks.Bearer.{Bearer}
+use Rattle.study_retro.specs.RowMoves.{AreOnDistinctSquares, AreBearers, AreRest, IsOnlyKing, attacked_with_last, keeps_attack_past, keeps_attack_with, gone_to}
+use Rattle.study_retro.specs.RowMoves.{king_attacked_with, does_not_block}
+use Rattle.study_retro.specs.declared.rows.checks.Attacker.{Attacker}
 use Rattle.study_retro.specs.Still.{facing, on_square}
 use Rattle.study_retro.proofs.RowChecks.{and_and, bears_last, bears_men, between_self, or_none, reach_if, row_check}
 use Rattle.study_retro.proofs.RowLemmas.{bears_alone}
@@ -72,64 +72,64 @@ any_weaker p q h (x ∷ xs) e =
     let o = or_parts (p x) (list_any p xs) e in
     or_from (q x) (list_any q xs) (h x o.0) (any_weaker p q h xs o.1)
 
-none_of : (p q : Bearer → Bool) → ((b : Bearer) → p b ≡ false → q b ≡ false) → (bs : List Bearer) → list_any p bs ≡ false → list_any q bs ≡ false
+none_of : (p q : Attacker → Bool) → ((b : Attacker) → p b ≡ false → q b ≡ false) → (bs : List Attacker) → list_any p bs ≡ false → list_any q bs ≡ false
 none_of p q h [] e = refl
 none_of p q h (b ∷ bs) e =
     let o = or_parts (p b) (list_any p bs) e in
     or_from (q b) (list_any q bs) (h b o.0) (none_of p q h bs o.1)
 
 -- a set gathered from one bearer to the next
-pub gathered : (p : Bearer → Bool) (bs : List Bearer) (i : ℕ) (d b : Bearer) (x set more set' : ℕ) → i < length bs → b ≡ get_or bs i d
+pub gathered : (p : Attacker → Bool) (bs : List Attacker) (i : ℕ) (d b : Attacker) (x set more set' : ℕ) → i < length bs → b ≡ get_or bs i d
     → has set x ≡ list_any p (take i bs) → has more x ≡ p b → has set' x ≡ (has set x || has more x) → has set' x ≡ list_any p (take (i + 1) bs)
 gathered p bs i d b x set more set' lt is e f g = g ∙ rw (e, f, is) (sym (list_any_more p bs i d lt))
 
 -- a square on which a man bears among others, it bears on alone
-pub bears_without : (men : List Man) (m : Man) (x : ℕ) (s : Bool) → (s && bears_on men m x) ≡ true → bears_on [] m x ≡ true
-bears_without men m x s e = by_test (bears_on [] m x) refl
+pub bears_without : (men : List Man) (m : Man) (x : ℕ) (s : Bool) → (s && attacks_square men m x) ≡ true → attacks_square [] m x ≡ true
+bears_without men m x s e = by_test (attacks_square [] m x) refl
   where
-    by_test : (b : Bool) → bears_on [] m x ≡ b → b ≡ true
+    by_test : (b : Bool) → attacks_square [] m x ≡ b → b ≡ true
     by_test true o = refl
-    by_test false o = absurd (false≢true (sym (neither s (bears_on men m x) (bears_alone men m x o)) ∙ e))
+    by_test false o = absurd (false≢true (sym (neither s (attacks_square men m x) (bears_alone men m x o)) ∙ e))
 
 -- if no man bears on x, no man of any kind does
-pub none_with : (bearers : List Bearer) (p : Man → Bool) (x : ℕ) → list_any (λ b. has b.squares x) bearers ≡ false
+pub none_with : (bearers : List Attacker) (p : Man → Bool) (x : ℕ) → list_any (λ b. has b.squares x) bearers ≡ false
     → list_any (λ b. has b.squares x && p b.man) bearers ≡ false
 none_with bearers p x none =
     none_of (λ b. has b.squares x) (λ b. has b.squares x && p b.man) (λ b e. and_left (has b.squares x) (p b.man) e) bearers none
 
 -- one more man is of the side, or is not
 module _ (men : List Man) (by : Side) (i : ℕ) (d m : Man) (lt : i < length men) (is : m ≡ get_or men i d) (x : ℕ) (p : Man → Bool) where
-  pub bearer_more : (bs : List Bearer) (s : ℕ)
-      → list_any (λ b. has b.squares x && p b.man) bs ≡ list_any (λ k. (same_side k.side by && bears_on men k x) && p k) (take i men)
-      → has s x ≡ bears_on men m x → same_side m.side by ≡ true
+  pub bearer_more : (bs : List Attacker) (s : ℕ)
+      → list_any (λ b. has b.squares x && p b.man) bs ≡ list_any (λ k. (same_side k.side by && attacks_square men k x) && p k) (take i men)
+      → has s x ≡ attacks_square men m x → same_side m.side by ≡ true
       → list_any (λ b. has b.squares x && p b.man) (bs ++ record { man = m; squares = s } ∷ [])
-      ≡ list_any (λ k. (same_side k.side by && bears_on men k x) && p k) (take (i + 1) men)
+      ≡ list_any (λ k. (same_side k.side by && attacks_square men k x) && p k) (take (i + 1) men)
   bearer_more bs s so_far on ours =
-      let q : Bearer → Bool = λ b. has b.squares x && p b.man in
-      let of : Man → Bool = λ k. (same_side k.side by && bears_on men k x) && p k in
+      let q : Attacker → Bool = λ b. has b.squares x && p b.man in
+      let of : Man → Bool = λ k. (same_side k.side by && attacks_square men k x) && p k in
       let all = list_any-append q bs (record { man = m; squares = s } ∷ []) in
       all
       ∙ ap (λ (b : Bool). b || ((has s x && p m) || false)) so_far
       ∙ ap (λ (b : Bool). list_any of (take i men) || b)
-      (or_none (has s x && p m) ∙ ap (λ (b : Bool). b && p m) (on ∙ sym (ap (λ (b : Bool). b && bears_on men m x) ours)) ∙ ap of is)
+      (or_none (has s x && p m) ∙ ap (λ (b : Bool). b && p m) (on ∙ sym (ap (λ (b : Bool). b && attacks_square men m x) ours)) ∙ ap of is)
       ∙ sym (list_any_more of men i d lt)
 
   pub bearer_less : same_side m.side by ≡ false
-      → list_any (λ k. (same_side k.side by && bears_on men k x) && p k) (take i men)
-      ≡ list_any (λ k. (same_side k.side by && bears_on men k x) && p k) (take (i + 1) men)
+      → list_any (λ k. (same_side k.side by && attacks_square men k x) && p k) (take i men)
+      ≡ list_any (λ k. (same_side k.side by && attacks_square men k x) && p k) (take (i + 1) men)
   bearer_less other =
-      let of : Man → Bool = λ k. (same_side k.side by && bears_on men k x) && p k in
+      let of : Man → Bool = λ k. (same_side k.side by && attacks_square men k x) && p k in
       sym (list_any_more of men i d lt
-      ∙ ap (λ (b : Bool). list_any of (take i men) || b) (sym (ap of is) ∙ ap (λ (b : Bool). (b && bears_on men m x) && p m) other)
+      ∙ ap (λ (b : Bool). list_any of (take i men) || b) (sym (ap of is) ∙ ap (λ (b : Bool). (b && attacks_square men m x) && p m) other)
       ∙ or_none (list_any of (take i men)))
 
 -- the men that bear on a square are among those that bear
-pub among_bearers : (men : List Man) (by : Side) (bearers : List Bearer) → AreBearers men by bearers → (x y : ℕ) → x < 64
-    → list_any (λ b. has b.squares x && stands_aside b.man x y) bearers ≡ list_any (λ m. same_side m.side by && bears_with men y m x) men
+pub among_bearers : (men : List Man) (by : Side) (bearers : List Attacker) → AreBearers men by bearers → (x y : ℕ) → x < 64
+    → list_any (λ b. has b.squares x && does_not_block b.man x y) bearers ≡ list_any (λ m. same_side m.side by && keeps_attack_with men y m x) men
 among_bearers men by bearers bear x y on =
-    bear x on (λ m. stands_aside m x y)
-    ∙ list_any_same (λ m. (same_side m.side by && bears_on men m x) && stands_aside m x y) (λ m. same_side m.side by && bears_with men y m x)
-    (λ m. and_and (same_side m.side by) (bears_on men m x) (stands_aside m x y)) men
+    bear x on (λ m. does_not_block m x y)
+    ∙ list_any_same (λ m. (same_side m.side by && attacks_square men m x) && does_not_block m x y) (λ m. same_side m.side by && keeps_attack_with men y m x)
+    (λ m. and_and (same_side m.side by) (attacks_square men m x) (does_not_block m x y)) men
 
 -- one more man of the others stays, or is the one that goes
 module _ (others : List Man) (from i : ℕ) (d m : Man) (lt : i < length others) (is : m ≡ get_or others i d) where
@@ -216,7 +216,7 @@ module _ (man : Man) (to : ℕ) where
 -- ---- the men of a row, one of the others put on another square
 
 module _ (others staying : List Man) (last man : Man) (to y : ℕ) (among : Contains others man) (rest : AreRest others man.at staying)
-    (apart : AreApart (others ++ on_square last y ∷ [])) where
+    (apart : AreOnDistinctSquares (others ++ on_square last y ∷ [])) where
   abbrev pub moved : List Man
   moved = map (moved_if man.at to) others
 
@@ -239,7 +239,7 @@ module _ (others staying : List Man) (last man : Man) (to y : ℕ) (among : Cont
       ∙ sym (list_any-append (λ m. strictly_between a m.at x) staying (z ∷ [])
       ∙ ap (λ (b : Bool). list_any (λ m. strictly_between a m.at x) staying || b) (or_none (strictly_between a to x)))
 
-  bears_moved : (m : Man) (x : ℕ) → bears_on moved m x ≡ bears_with staying to m x
+  bears_moved : (m : Man) (x : ℕ) → attacks_square moved m x ≡ keeps_attack_with staying to m x
   bears_moved m x =
       ap (λ (b : Bool). not (m.at == x) && b)
       (reach_if moved m.side m.kind m.at x ∙ ap (λ (b : Bool). reaches_if b m.side m.kind m.at x) (blocked_moved m.at x)
@@ -248,65 +248,65 @@ module _ (others staying : List Man) (last man : Man) (to y : ℕ) (among : Cont
 
   -- ---- on the square to which the man has gone
 
-  bears_there : (m : Man) → bears_with moved y m to ≡ bears_with staying y m to
+  bears_there : (m : Man) → keeps_attack_with moved y m to ≡ keeps_attack_with staying y m to
   bears_there m =
       ap (λ (b : Bool). b && not (is_slider m.kind && strictly_between m.at y to))
-      (bears_moved m to ∙ aside (bears_on staying m to) (is_slider m.kind) (strictly_between m.at to to) (not_at_end m.at to))
+      (bears_moved m to ∙ aside (attacks_square staying m to) (is_slider m.kind) (strictly_between m.at to to) (not_at_end m.at to))
 
-  none_itself : (side : Side) → (same_side man.side side && bears_with moved y z to) ≡ false
+  none_itself : (side : Side) → (same_side man.side side && keeps_attack_with moved y z to) ≡ false
   none_itself side =
       nowhere (same_side man.side side) (to == to) (reaches moved man.side man.kind to to) (not (is_slider man.kind && strictly_between to y to))
       (eq-eqb to to refl)
 
-  last_there : bears_on moved (facing last to) y ≡ bears_on staying (facing last to) y
+  last_there : attacks_square moved (facing last to) y ≡ attacks_square staying (facing last to) y
   last_there =
       bears_moved (facing last to) y
-      ∙ aside (bears_on staying (facing last to) y) (is_slider last.kind) (strictly_between to to y) (between_self to y)
+      ∙ aside (attacks_square staying (facing last to) y) (is_slider last.kind) (strictly_between to to y) (between_self to y)
 
   attacked_there : (side : Side) → attacked_with_last moved last side to y ≡ attacked_with_last staying last side to y
   attacked_there side =
-      ap (λ (b : Bool). b || (same_side last.side side && bears_on moved (facing last to) y))
-      (any_moved (λ m. same_side m.side side && bears_with moved y m to)
-      ∙ ap (λ (b : Bool). list_any (λ m. same_side m.side side && bears_with moved y m to) staying || b) (none_itself side)
-      ∙ or_none (list_any (λ m. same_side m.side side && bears_with moved y m to) staying)
-      ∙ list_any_same (λ m. same_side m.side side && bears_with moved y m to) (λ m. same_side m.side side && bears_with staying y m to)
+      ap (λ (b : Bool). b || (same_side last.side side && attacks_square moved (facing last to) y))
+      (any_moved (λ m. same_side m.side side && keeps_attack_with moved y m to)
+      ∙ ap (λ (b : Bool). list_any (λ m. same_side m.side side && keeps_attack_with moved y m to) staying || b) (none_itself side)
+      ∙ or_none (list_any (λ m. same_side m.side side && keeps_attack_with moved y m to) staying)
+      ∙ list_any_same (λ m. same_side m.side side && keeps_attack_with moved y m to) (λ m. same_side m.side side && keeps_attack_with staying y m to)
       (λ m. ap (λ (b : Bool). same_side m.side side && b) (bears_there m)) staying)
-      ∙ ap (λ (b : Bool). list_any (λ m. same_side m.side side && bears_with staying y m to) staying || (same_side last.side side && b)) last_there
+      ∙ ap (λ (b : Bool). list_any (λ m. same_side m.side side && keeps_attack_with staying y m to) staying || (same_side last.side side && b)) last_there
 
   -- ---- on another square
 
-  module _ (side : Side) (bearers : List Bearer) (bear : AreBearers staying side bearers) (x : ℕ) (on : x < 64) where
-    by_staying : list_any (λ m. same_side m.side side && bears_with moved y m x) staying ≡ list_any (bears_past to x y) bearers
+  module _ (side : Side) (bearers : List Attacker) (bear : AreBearers staying side bearers) (x : ℕ) (on : x < 64) where
+    by_staying : list_any (λ m. same_side m.side side && keeps_attack_with moved y m x) staying ≡ list_any (keeps_attack_past to x y) bearers
     by_staying =
-        list_any_same (λ m. same_side m.side side && bears_with moved y m x)
-        (λ m. (same_side m.side side && bears_on staying m x) && (stands_aside m x to && stands_aside m x y))
-        (λ m. ap (λ (b : Bool). same_side m.side side && (b && stands_aside m x y)) (bears_moved m x)
-        ∙ past_two (same_side m.side side) (bears_on staying m x) (stands_aside m x to) (stands_aside m x y)) staying
-        ∙ sym (bear x on (λ m. stands_aside m x to && stands_aside m x y))
+        list_any_same (λ m. same_side m.side side && keeps_attack_with moved y m x)
+        (λ m. (same_side m.side side && attacks_square staying m x) && (does_not_block m x to && does_not_block m x y))
+        (λ m. ap (λ (b : Bool). same_side m.side side && (b && does_not_block m x y)) (bears_moved m x)
+        ∙ past_two (same_side m.side side) (attacks_square staying m x) (does_not_block m x to) (does_not_block m x y)) staying
+        ∙ sym (bear x on (λ m. does_not_block m x to && does_not_block m x y))
 
-    by_itself : (same_side man.side side && bears_with moved y z x)
-        ≡ ((same_side man.side side && bears_on staying (facing man x) to) && stands_aside z x y)
+    by_itself : (same_side man.side side && keeps_attack_with moved y z x)
+        ≡ ((same_side man.side side && attacks_square staying (facing man x) to) && does_not_block z x y)
     by_itself =
-        ap (λ (b : Bool). same_side man.side side && (b && stands_aside z x y))
+        ap (λ (b : Bool). same_side man.side side && (b && does_not_block z x y))
         (bears_moved z x ∙ sym (bears_men staying man to z x) ∙ bears_last staying man to x)
-        ∙ sym (and_and (same_side man.side side) (bears_on staying (facing man x) to) (stands_aside z x y))
+        ∙ sym (and_and (same_side man.side side) (attacks_square staying (facing man x) to) (does_not_block z x y))
 
-    by_last : (same_side last.side side && bears_on moved (facing last x) y)
-        ≡ ((same_side last.side side && bears_on staying (facing last x) y) && stands_aside (facing last x) y to)
+    by_last : (same_side last.side side && attacks_square moved (facing last x) y)
+        ≡ ((same_side last.side side && attacks_square staying (facing last x) y) && does_not_block (facing last x) y to)
     by_last =
         ap (λ (b : Bool). same_side last.side side && b) (bears_moved (facing last x) y)
-        ∙ sym (and_and (same_side last.side side) (bears_on staying (facing last x) y) (stands_aside (facing last x) y to))
+        ∙ sym (and_and (same_side last.side side) (attacks_square staying (facing last x) y) (does_not_block (facing last x) y to))
 
     pub by_three : attacked_with_last moved last side x y
-        ≡ ((list_any (bears_past to x y) bearers || ((same_side man.side side && bears_on staying (facing man x) to) && stands_aside z x y))
-        || ((same_side last.side side && bears_on staying (facing last x) y) && stands_aside (facing last x) y to))
+        ≡ ((list_any (keeps_attack_past to x y) bearers || ((same_side man.side side && attacks_square staying (facing man x) to) && does_not_block z x y))
+        || ((same_side last.side side && attacks_square staying (facing last x) y) && does_not_block (facing last x) y to))
     by_three =
-        ap (λ (b : Bool). b || (same_side last.side side && bears_on moved (facing last x) y))
-        (any_moved (λ m. same_side m.side side && bears_with moved y m x)
-        ∙ ap (λ (b : Bool). b || (same_side man.side side && bears_with moved y z x)) by_staying
-        ∙ ap (λ (b : Bool). list_any (bears_past to x y) bearers || b) by_itself)
-        ∙ ap (λ (b : Bool). (list_any (bears_past to x y) bearers
-        || ((same_side man.side side && bears_on staying (facing man x) to) && stands_aside z x y)) || b) by_last
+        ap (λ (b : Bool). b || (same_side last.side side && attacks_square moved (facing last x) y))
+        (any_moved (λ m. same_side m.side side && keeps_attack_with moved y m x)
+        ∙ ap (λ (b : Bool). b || (same_side man.side side && keeps_attack_with moved y z x)) by_staying
+        ∙ ap (λ (b : Bool). list_any (keeps_attack_past to x y) bearers || b) by_itself)
+        ∙ ap (λ (b : Bool). (list_any (keeps_attack_past to x y) bearers
+        || ((same_side man.side side && attacks_square staying (facing man x) to) && does_not_block z x y)) || b) by_last
 
   -- ---- on the square of a king, that of the man or another
 

@@ -14,7 +14,7 @@ use Rattle.study_board.proofs.ImagesOfImages.{IsTurnable-from_valid}
 use Rattle.study_moves.specs.declared.moves.Move.{Move}
 use Rattle.study_moves.specs.Rules.{is_legal, after, reaches_target, is_en_passant}
 use Rattle.study_moves.specs.Symmetry.{image_move}
-use Rattle.study_moves.specs.EnPassant.{is_taken, has_legal_en_passant, without_passed, bare}
+use Rattle.study_moves.specs.EnPassant.{is_capturable_en_passant, has_legal_en_passant, without_passed, without_idle_passed_square}
 use Rattle.study_moves.specs.Alike.{Leads}
 use Rattle.study_moves.specs.Unmoves.{IsQuiet, LeadsQuietly}
 use Rattle.study_moves.proofs.RulesOfImages.{after-turned, image_legal}
@@ -42,14 +42,14 @@ use Rattle.study_material.specs.Class.{is_of}
 use Rattle.study_material.proofs.Classes.{IsOf-is_of, is_of-IsOf}
 use Rattle.study_retro.proofs.QuietClass.{quiet_lists, quiet_any, quiet_within, passes_none, unpassing, unoccupied}
 
-without_bare : (p : Position) → without_passed (bare p) ≡ without_passed p
+without_bare : (p : Position) → without_passed (without_idle_passed_square p) ≡ without_passed p
 without_bare p = by_live (has_legal_en_passant p)
   where
     by_live : (b : Bool) → without_passed (cond b p (without_passed p)) ≡ without_passed p
     by_live true = refl
     by_live false = refl
 
-without_image : (s : Symmetry) (p : Position) → without_passed (image s (bare p)) ≡ without_passed (image s p)
+without_image : (s : Symmetry) (p : Position) → without_passed (image s (without_idle_passed_square p)) ≡ without_passed (image s p)
 without_image s p = by_live (has_legal_en_passant p)
   where
     by_live : (b : Bool) → without_passed (image s (cond b p (without_passed p))) ≡ without_passed (image s p)
@@ -103,7 +103,7 @@ before_alike c p q m v u o l k h =
         alike = record {
           left = va;
           right = IsValid-after r m' w l';
-          images = record { by = s; admitted = h.alike.images.admitted; is = ap bare to ∙ bare_image s (after p m) (IsTurnable-from_valid s (after p m) va b) };
+          images = record { by = s; admitted = h.alike.images.admitted; is = ap without_idle_passed_square to ∙ bare_image s (after p m) (IsTurnable-from_valid s (after p m) va b) };
         };
         kept = h.kept;
       };
@@ -155,7 +155,7 @@ HasPlain-from p i v x =
 pub small_index : (p : Position) → IsValid p → p.passed ≡ None → index_of p < 16777216
 small_index p v u =
     let h = HasParts-from p (index_of p) v (IsIndex-index_of p v) in
-    let dead : has_legal_en_passant p ≡ false = ap (λ (o : Option ℕ). is_taken p o) u in
+    let dead : has_legal_en_passant p ≡ false = ap (λ (o : Option ℕ). is_capturable_en_passant p o) u in
     let is : index_of p ≡ without_bit (index_of p) = h.is ∙ ap (λ (b : Bool). with_bit b (without_bit (index_of p))) dead in
     subst (λ (n : ℕ). n < 16777216) (sym is) h.small
 
@@ -207,7 +207,7 @@ module _ (c : Class) where
       let ix : IsIndex x n = subst (λ (k : ℕ). IsIndex x k) lands (IsIndex-index_of x vx) in
       let it : IsIndex t.0 n = same_index c x t.0 n t.2 ox ix in
       let d = entry c (index_of r) p.0 p.1 in
-      let dead : has_legal_en_passant p.0 ≡ false = sym (live_along p.2.alike.images.by p.0 r p.2.alike.images.is) ∙ ap (λ (o : Option ℕ). is_taken r o) b.unpassed in
+      let dead : has_legal_en_passant p.0 ≡ false = sym (live_along p.2.alike.images.by p.0 r p.2.alike.images.is) ∙ ap (λ (o : Option ℕ). is_capturable_en_passant r o) b.unpassed in
       record {
         from = p.0;
         to = t.0;

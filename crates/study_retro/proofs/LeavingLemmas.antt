@@ -18,7 +18,7 @@ use Rattle.study_moves.specs.Rules.{is_legal, is_promotion_choice, is_promotion_
 use Rattle.study_moves.proofs.MenOfList.{IsAmong, some_among}
 use Rattle.study_moves.proofs.HowMenGo.{IsAheadBy, IsStep, IsDoubleStep, IsCapture, pawn_ways}
 use Rattle.study_moves.specs.Unmoves.{IsQuiet}
-use Rattle.study_retro.specs.Still.{GoesPlainly, move_to, is_about_to_promote, promotion_to, promotions_to, rank_before_last}
+use Rattle.study_retro.specs.Still.{GoesWithoutPromotion, move_to, is_about_to_promote, promotion_to, promotions_to, rank_before_last}
 
 pub last_or_before : (x n : ℕ) → x < n + 1 → (x < n) ⊎ (x ≡ n)
 last_or_before x n l = grind arith
@@ -229,7 +229,7 @@ module _ (q : Position) (tells : HasSafeTargets q q.men) (man : Man) (among : Co
       | inr e ↦ absurd (leaves (e, none))
     ]
 
-    pub capture_is : (o : Man) × Contains q.men o × GoesPlainly q man o.at × (move_to man o.at ≡ m)
+    pub capture_is : (o : Man) × Contains q.men o × GoesWithoutPromotion q man o.at × (move_to man o.at ≡ m)
     capture_is =
         let o = taken in (
           o.0,

@@ -13,7 +13,7 @@ use Rattle.study_board.specs.Men.{other_side, moved_if}
 use Rattle.study_board.specs.Position.{Position, IsValid, is_occupied}
 use Rattle.study_moves.specs.declared.moves.Move.{Move}
 use Rattle.study_moves.specs.Rules.{is_legal, after, is_en_passant}
-use Rattle.study_moves.specs.EnPassant.{is_taken, has_legal_en_passant, without_passed}
+use Rattle.study_moves.specs.EnPassant.{is_capturable_en_passant, has_legal_en_passant, without_passed}
 use Rattle.study_moves.specs.Unmoves.{IsQuiet, LeadsQuietly}
 use Rattle.study_moves.proofs.AfterMove.{IsValid-after}
 use Rattle.study_material.specs.declared.class.Class.{Class}
@@ -101,7 +101,7 @@ module _ (c : Class) (n : ℕ) (q : Position) (at : position_numbered c n ≡ So
         men = subst (λ (zs : List Man). IsPermutation zs (map g told)) (men_back m.origin m.target r.men b.quiet.0)
             (IsPermutation-map g (map f r.men) told to);
         to_move = sym (other_again r.to_move) ∙ ap (λ s. other_side s) other;
-        dead = ap (λ (o : Option ℕ). is_taken r o) b.unpassed;
+        dead = ap (λ (o : Option ℕ). is_capturable_en_passant r o) b.unpassed;
       }
 
   -- it leads to the number, if no capture in passing is legal in either position

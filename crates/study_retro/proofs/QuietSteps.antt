@@ -10,7 +10,7 @@ use Rattle.study_values.specs.Number.{has_both_pawns}
 use Rattle.study_index.proofs.LivePassing.{live_class}
 use Rattle.study_material.specs.declared.class.Class.{Class}
 use Rattle.study_material.specs.Class.{lists_of, IsOf}
-use Rattle.study_moves.specs.EnPassant.{has_legal_en_passant, is_taken}
+use Rattle.study_moves.specs.EnPassant.{has_legal_en_passant, is_capturable_en_passant}
 use Rattle.study_values.specs.Number.{with_bit, without_bit}
 use Rattle.study_index.specs.Computed.{position_numbered}
 use Rattle.study_index.proofs.ComputedIndex.{told_decoded}
@@ -43,4 +43,4 @@ dead_plain c n q at l = let d = told_decoded c n q at in by_live (has_legal_en_p
 pub dead_after : (c : Class) (p : Position) (m : Move) → IsValid (after p m) → IsOf c (after p m) → is_legal p m ≡ true → PassesNone c m.origin m.target
     → has_legal_en_passant (after p m) ≡ false
 dead_after c p m v o legal (inl single) = dead_of c (after p m) v o single
-dead_after c p m v o legal (inr step) = ap (λ (x : Option ℕ). is_taken (after p m) x) (unjumped p m legal step)
+dead_after c p m v o legal (inr step) = ap (λ (x : Option ℕ). is_capturable_en_passant (after p m) x) (unjumped p m legal step)

@@ -11,7 +11,7 @@ use Rattle.study_board.specs.Position.{Position, is_empty}
 use Rattle.study_board.specs.declared.men.Side.TheVariants.{White, Black}
 use Rattle.study_board.specs.Sets.{has}
 use Rattle.std.proofs.lemmas.Bool.{false≢true, and_parts, or_cases, eqb-true, eq-eqb}
-use Rattle.study_moves.specs.Unmoves.{CanHaveLed, came_from, comes, first_rank, move_from, pawn_comes}
+use Rattle.study_moves.specs.Unmoves.{CanHaveLed, is_unmove_origin, comes, first_rank, move_from, pawn_comes}
 use Rattle.study_moves.specs.Rules.{half_way, is_ahead}
 use Rattle.study_material.specs.declared.class.Class.{Class}
 use Rattle.study_moves.specs.Rules.{after}
@@ -22,8 +22,8 @@ use Rattle.study_index.specs.Moved.{IsMoved}
 use Rattle.study_index.proofs.ComputedIndex.{told_decoded}
 use Rattle.study_index.proofs.DecodedNumbers.{told_of}
 use Rattle.study_retro.specs.Predecessors.{AreTold, IsBeforeFrom, PassesNone}
-use Rattle.study_retro.specs.RowBack.{ComesPlainly, IsItOrTwin, double_step_rank}
-use Rattle.study_retro.specs.RowMoves.{AreApart}
+use Rattle.study_retro.specs.RowBack.{ComesWithoutEnPassant, IsItOrTwin, double_step_rank}
+use Rattle.study_retro.specs.RowMoves.{AreOnDistinctSquares}
 use Rattle.study_retro.specs.Still.{on_square}
 use Rattle.study_retro.proofs.BackLemmas.{before_below, is_before, twin_before, small_before, came_led, led_came}
 use Rattle.study_retro.proofs.MovedSteps.{lands_left}
@@ -53,31 +53,31 @@ module _ (c : Class) (number y : ℕ) (q : Position) (at : position_numbered c n
   row_men = others ++ on_square last y ∷ []
 
   -- no two of them share a square
-  pub row_apart : AreApart row_men
+  pub row_apart : AreOnDistinctSquares row_men
   row_apart =
       let d = told_decoded c number q at in
       AreApart-position q row_men d.valid (subst (λ (zs : List Man). IsPermutation zs q.men) (sym told.0) (told_of c number q d).same_men)
 
   -- the last man can have led to the position from its possible origins
-  pub last_led : same_side last.side (other_side side) ≡ true → (a : ℕ) → a < 64 → came_from row_men side (on_square last y) a ≡ true
+  pub last_led : same_side last.side (other_side side) ≡ true → (a : ℕ) → a < 64 → is_unmove_origin row_men side (on_square last y) a ≡ true
       → CanHaveLed q (move_from (on_square last y) a)
   last_led his a on e = came_led c number q at row_men side told (on_square last y) (Contains-push others (on_square last y)) his a on e
 
   -- and only from those
   pub last_came : (a n : ℕ) → a < 64 → IsBeforeFrom c number (on_square last y) a n → (same_side last.side (other_side side) ≡ true)
-      × (came_from row_men side (on_square last y) a ≡ true)
+      × (is_unmove_origin row_men side (on_square last y) a ≡ true)
   last_came a n on b = led_came c number q at row_men side told (on_square last y) (Contains-push others (on_square last y)) a n on b
 
   module _ (man : Man) (among : Contains others man) where
     -- one of the other men can have led to the position from its possible origins with the last man on y
-    pub row_led : same_side man.side (other_side side) ≡ true → (a : ℕ) → a < 64 → (led : ℕ) → (AreApart row_men → has led y ≡ came_from row_men side man a)
+    pub row_led : same_side man.side (other_side side) ≡ true → (a : ℕ) → a < 64 → (led : ℕ) → (AreOnDistinctSquares row_men → has led y ≡ is_unmove_origin row_men side man a)
         → has led y ≡ true → CanHaveLed q (move_from man a)
     row_led his a on led word e =
         came_led c number q at row_men side told man (Contains-append_left others (on_square last y ∷ []) man among) his a on (sym (word row_apart) ∙ e)
 
     -- and only from those
     pub row_came : (a n : ℕ) → a < 64 → IsBeforeFrom c number man a n → (same_side man.side (other_side side) ≡ true)
-        × (came_from row_men side man a ≡ true) × (comes others man a ≡ true)
+        × (is_unmove_origin row_men side man a ≡ true) × (comes others man a ≡ true)
     row_came a n on b =
         let h = led_came c number q at row_men side told man (Contains-append_left others (on_square last y ∷ []) man among) a n on b in
         (h.0, h.1, came_less others last y side man a h.1)
@@ -143,13 +143,13 @@ no_double Black men y a off e =
           absurd (false≢true (sym off ∙ eq-eqb _ _ r))
     ]
 
-pub pawn_plainly : (c : Class) (last : Man) (y : ℕ) → is_pawn last ≡ true → (rank_of y == double_step_rank last.side) ≡ false → ComesPlainly c last y
+pub pawn_plainly : (c : Class) (last : Man) (y : ℕ) → is_pawn last ≡ true → (rank_of y == double_step_rank last.side) ≡ false → ComesWithoutEnPassant c last y
 unfolding comes
 pawn_plainly c last y pawn off men a e =
     let e' : pawn_comes men last.side y a ≡ true = rw pawn at e in
     inr (no_double last.side men y a off e')
 
 -- if the last man comes plainly, its last move has left no capture in passing
-pub came_plainly : (c : Class) (last : Man) (y : ℕ) → ComesPlainly c last y → (others : List Man) (side : Side) (a : ℕ)
-    → came_from (others ++ on_square last y ∷ []) side (on_square last y) a ≡ true → PassesNone c a y
+pub came_plainly : (c : Class) (last : Man) (y : ℕ) → ComesWithoutEnPassant c last y → (others : List Man) (side : Side) (a : ℕ)
+    → is_unmove_origin (others ++ on_square last y ∷ []) side (on_square last y) a ≡ true → PassesNone c a y
 came_plainly c last y plainly others side a e = plainly (others ++ on_square last y ∷ []) a (and_parts _ _ e).0

@@ -8,13 +8,13 @@ use Rattle.study_board.specs.declared.men.Kind.{Kind}
 use Rattle.study_board.specs.declared.men.Kind.TheVariants.{King, Queen, Rook, Bishop, Knight, Pawn}
 use Rattle.study_board.specs.declared.men.Man.{Man}
 use Rattle.study_board.specs.Geometry.{strictly_between}
-use Rattle.study_board.specs.Men.{bears_on, is_attacked, is_blocked, is_man, other_side, reaches, same_kind, same_side}
+use Rattle.study_board.specs.Men.{attacks_square, is_attacked, is_blocked, is_man, other_side, reaches, same_kind, same_side}
 use Rattle.study_board.specs.Position.{in_check}
 use Rattle.study_board.specs.Sets.{is_slider, reaches_if}
 use Rattle.study_board.proofs.Faults.{list_any_same}
 use Rattle.study_moves.proofs.KingSafety.{not_at_end}
 use Rattle.study_moves.proofs.BearsBothWays.{between-both, blocked-both, reaches-both, same_test}
-use Rattle.study_retro.specs.RowMoves.{bears_with, king_attacked_with}
+use Rattle.study_retro.specs.RowMoves.{keeps_attack_with, king_attacked_with}
 use Rattle.study_retro.specs.Still.{facing, on_square}
 
 -- ---- tests
@@ -73,13 +73,13 @@ module _ (others : List Man) (last : Man) (y : ℕ) where
   reaches_with p side Knight a x = and_one _
   reaches_with p side Pawn a x = and_one _
 
-  pub bears_men : (m : Man) (x : ℕ) → bears_on men m x ≡ bears_with others y m x
+  pub bears_men : (m : Man) (x : ℕ) → attacks_square men m x ≡ keeps_attack_with others y m x
   bears_men m x = reaches_with (not (m.at == x)) m.side m.kind m.at x
 
   same_squares : (a b : ℕ) → (a == b) ≡ (b == a)
   same_squares a b = same_test (a == b) (b == a) (λ e. eq-eqb b a (sym (eqb-true a b e))) (λ e. eq-eqb a b (sym (eqb-true b a e)))
 
-  pub bears_last : (x : ℕ) → bears_on men l x ≡ bears_on others (facing last x) y
+  pub bears_last : (x : ℕ) → attacks_square men l x ≡ attacks_square others (facing last x) y
   bears_last x =
       rw (
         same_squares y x,
@@ -92,15 +92,15 @@ module _ (others : List Man) (last : Man) (y : ℕ) where
         reaches-both (is_blocked others x y) last.side last.kind y x,
       ) refl
 
-  attacked_with : (by : Side) (x : ℕ) → is_attacked men by x ≡ (list_any (λ m. same_side m.side by && bears_with others y m x) others
-      || (same_side last.side by && bears_on others (facing last x) y))
+  attacked_with : (by : Side) (x : ℕ) → is_attacked men by x ≡ (list_any (λ m. same_side m.side by && keeps_attack_with others y m x) others
+      || (same_side last.side by && attacks_square others (facing last x) y))
   unfolding is_attacked
   attacked_with by x =
-      list_any-append (λ m. same_side m.side by && bears_on men m x) others (l ∷ [])
+      list_any-append (λ m. same_side m.side by && attacks_square men m x) others (l ∷ [])
       ∙ rw (
-        or_none (same_side last.side by && bears_on men l x),
+        or_none (same_side last.side by && attacks_square men l x),
         bears_last x,
-        list_any_same (λ m. same_side m.side by && bears_on men m x) (λ m. same_side m.side by && bears_with others y m x)
+        list_any_same (λ m. same_side m.side by && attacks_square men m x) (λ m. same_side m.side by && keeps_attack_with others y m x)
             (λ m. ap (λ (b : Bool). same_side m.side by && b) (bears_men m x)) others,
       ) refl
 

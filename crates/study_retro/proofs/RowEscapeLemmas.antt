@@ -29,7 +29,7 @@ use Rattle.study_retro.specs.ClassGame.{class_game}
 use Rattle.study_levels.specs.Numbered.{IsNumberedClass, NoLossBy, Numbered}
 use Rattle.study_retro.specs.Predecessors.{AreTold, PassesNone}
 use Rattle.study_retro.specs.RowEscapes.{CanGo, goes_beside}
-use Rattle.study_retro.specs.RowMoves.{AreApart, goes_quietly}
+use Rattle.study_retro.specs.RowMoves.{AreOnDistinctSquares, goes_quietly}
 use Rattle.study_retro.specs.Still.{HasMove, IsWonAfter, QuietMovesLose, QuietMovesLoseBy, move_to, on_square}
 use Rattle.study_retro.proofs.BackLemmas.{lose_each, occupied_same, safe_below, safe_by, safe_escape, safe_plain, safe_won, some_legal}
 use Rattle.study_retro.proofs.RowBackLemmas.{row_apart}
@@ -183,7 +183,7 @@ module _ (c : Class) (number y : ℕ) (q : Position) (at : position_numbered c n
 
   -- one of the other men goes to its safe targets with the last man on y
   pub row_can : same_side man.side side ≡ true → (x set : ℕ)
-      → (AreApart men → has set y ≡ (is_safe_target men side man x && not (is_occupied men x))) → has set y ≡ true → CanGo c number man x
+      → (AreOnDistinctSquares men → has set y ≡ (is_safe_target men side man x && not (is_occupied men x))) → has set y ≡ true → CanGo c number man x
   row_can his x set word e =
       let both = and_parts (is_safe_target men side man x) (not (is_occupied men x)) (sym (word (row_apart c number y q at others last side told)) ∙ e) in
       record {
@@ -201,7 +201,7 @@ module _ (c : Class) (number y : ℕ) (q : Position) (at : position_numbered c n
   -- and the targets of its quiet moves are safe
   module _ (x : ℕ) (legal : is_legal q (move_to man x) ≡ true) (quiet : IsQuiet q (move_to man x)) where
     pub row_goes : (x < 64) × (same_side man.side side ≡ true) × (goes_quietly others man x ≡ true)
-        × ((set : ℕ) → (AreApart men → has set y ≡ (is_safe_target men side man x && not (is_occupied men x))) → has set y ≡ true)
+        × ((set : ℕ) → (AreOnDistinctSquares men → has set y ≡ (is_safe_target men side man x && not (is_occupied men x))) → has set y ≡ true)
     row_goes =
         let s = safe_by c number q at plain men side told (move_to man x) legal man (Contains-append_left others (on_square last y ∷ []) man among) refl in
         let free = occupied_same c number q at plain men side told x ∙ quiet.0 in (

@@ -13,7 +13,7 @@ use Rattle.study_board.specs.declared.men.Kind.{Kind}
 use Rattle.study_board.specs.declared.men.Kind.TheVariants.{King, Queen, Rook, Bishop, Knight, Pawn}
 use Rattle.study_board.specs.declared.men.Man.{Man}
 use Rattle.study_board.specs.Geometry.{on_bishop_line, rank_of, strictly_between}
-use Rattle.study_board.specs.Men.{bears_on, is_attacked, is_blocked, is_man, is_pawn, other_side, reaches, same_kind, same_side}
+use Rattle.study_board.specs.Men.{attacks_square, is_attacked, is_blocked, is_man, is_pawn, other_side, reaches, same_kind, same_side}
 use Rattle.study_board.specs.Position.{Position, in_check}
 use Rattle.study_board.specs.Sets.{has, is_slider, reaches_if}
 use Rattle.study_board.proofs.Faults.{in_check_same}
@@ -23,13 +23,13 @@ use Rattle.study_material.specs.declared.class.Class.{Class}
 use Rattle.study_index.specs.declared.decoding.Slot.{Slot}
 use Rattle.study_index.specs.Computed.{position_numbered}
 use Rattle.study_index.specs.Decoded.{AreSlots, man, men_of, slots_of, told_men, told_side, head, slots_have_pawn, side_numbered}
-use Rattle.study_values.specs.Number.{listed_count, without_bit}
+use Rattle.study_values.specs.Number.{king_places, without_bit}
 use Rattle.study_index.proofs.ClassSlots.{AreSlots-class}
 use Rattle.study_index.proofs.ComputedIndex.{told_decoded}
 use Rattle.study_index.proofs.DecodedNumbers.{told_of}
 use Rattle.study_index.proofs.Symmetries.{all_below, at_below}
 use Rattle.study_retro.specs.Predecessors.{AreTold}
-use Rattle.study_retro.specs.Still.{AreStill, AreStillOrNone, IsStill, facing, is_exposed, is_restless, matters, on_square, rank_before_last}
+use Rattle.study_retro.specs.Still.{AreQuietPositions, AreStillOrNone, IsQuietPosition, facing, is_capturable_or_promotes, has_forcing_move, is_relevant_target, on_square, rank_before_last}
 use Rattle.study_retro.proofs.BackLemmas.{side_is}
 use Rattle.study_retro.proofs.StillChess.{no_capture_of_king, stays_quiet}
 
@@ -56,14 +56,14 @@ blocked_more : (others : List Man) (l : Man) (a x : ℕ) → is_blocked others a
 unfolding is_blocked
 blocked_more others l a x e = list_any-append (λ m. strictly_between a m.at x) others (l ∷ []) ∙ rw e refl
 
-bears_more : (others : List Man) (l m : Man) (x : ℕ) → bears_on others m x ≡ false → bears_on (others ++ l ∷ []) m x ≡ false
+bears_more : (others : List Man) (l m : Man) (x : ℕ) → attacks_square others m x ≡ false → attacks_square (others ++ l ∷ []) m x ≡ false
 bears_more others l m x e = by_kind (not (m.at == x)) others (others ++ l ∷ []) m.side m.kind m.at x (blocked_more others l m.at x) e
 
 blocked_any : (men : List Man) (a x : ℕ) → is_blocked [] a x ≡ true → is_blocked men a x ≡ true
 unfolding is_blocked
 blocked_any men a x e = absurd (false≢true e)
 
-pub bears_alone : (men : List Man) (m : Man) (x : ℕ) → bears_on [] m x ≡ false → bears_on men m x ≡ false
+pub bears_alone : (men : List Man) (m : Man) (x : ℕ) → attacks_square [] m x ≡ false → attacks_square men m x ≡ false
 bears_alone men m x e = by_kind (not (m.at == x)) [] men m.side m.kind m.at x (blocked_any men m.at x) e
 
 -- no man is in the way of one that does not move along lines
@@ -76,7 +76,7 @@ reach_stepping men side Bishop a x e = absurd (false≢true (sym e))
 reach_stepping men side Knight a x e = refl
 reach_stepping men side Pawn a x e = refl
 
-pub bears_stepping : (men : List Man) (m : Man) (x : ℕ) → is_slider m.kind ≡ false → bears_on [] m x ≡ bears_on men m x
+pub bears_stepping : (men : List Man) (m : Man) (x : ℕ) → is_slider m.kind ≡ false → attacks_square [] m x ≡ attacks_square men m x
 bears_stepping men m x e = ap (λ (r : Bool). not (m.at == x) && r) (reach_stepping men m.side m.kind m.at x e)
 
 open_reach : (side : Side) (kind : Kind) (a x : ℕ) → reaches [] side kind a x ≡ reaches_if false side kind a x
@@ -91,7 +91,7 @@ open_reach side Pawn a x = refl
 same_squares : (a b : ℕ) → (a == b) ≡ (b == a)
 same_squares a b = same_test (a == b) (b == a) (λ e. eq-eqb b a (sym (eqb-true a b e))) (λ e. eq-eqb a b (sym (eqb-true b a e)))
 
-faces : (man : Man) (x y : ℕ) → bears_on [] (facing man x) y ≡ bears_on [] (on_square man y) x
+faces : (man : Man) (x y : ℕ) → attacks_square [] (facing man x) y ≡ attacks_square [] (on_square man y) x
 faces man x y =
     rw (same_squares x y, open_reach (other_side man.side) man.kind x y, open_reach man.side man.kind y x, reaches-both false man.side man.kind y x) refl
 
@@ -113,7 +113,7 @@ reaches_same men more side Bishop a x e = rw e refl
 reaches_same men more side Knight a x e = refl
 reaches_same men more side Pawn a x e = refl
 
-bears_still : (others : List Man) (l m : Man) (x : ℕ) → strictly_between m.at l.at x ≡ false → bears_on others m x ≡ true → bears_on (others ++ l ∷ []) m x ≡ true
+bears_still : (others : List Man) (l m : Man) (x : ℕ) → strictly_between m.at l.at x ≡ false → attacks_square others m x ≡ true → attacks_square (others ++ l ∷ []) m x ≡ true
 bears_still others l m x e b = ap (λ (r : Bool). not (m.at == x) && r) (reaches_same others (others ++ l ∷ []) m.side m.kind m.at x (blocked_same others l m.at x e)) ∙ b
 
 IsAmong-more : (xs : List Man) (l m : Man) → IsAmong m xs → IsAmong m (xs ++ l ∷ [])
@@ -162,9 +162,9 @@ unchecked Black Black ms k b c e t g f = refl
 module _ (others : List Man) (last : Man) (side : Side) (ours theirs y : ℕ)
     (attacked : (x : ℕ) → x < 64 → has ours x ≡ is_attacked others side x)
     (checked : (x : ℕ) → x < 64 → has theirs x ≡ is_attacked others (other_side side) x)
-    (restless : is_restless others last side ours theirs ≡ false)
-    (bearing : list_any (λ m. matters last side m && bears_on [] (facing last m.at) y) others ≡ false)
-    (exposed : is_exposed last side ours y ≡ false) (board : All (λ m. m.at < 64) others) (on : y < 64) where
+    (restless : has_forcing_move others last side ours theirs ≡ false)
+    (bearing : list_any (λ m. is_relevant_target last side m && attacks_square [] (facing last m.at) y) others ≡ false)
+    (exposed : is_capturable_or_promotes last side ours y ≡ false) (board : All (λ m. m.at < 64) others) (on : y < 64) where
   abbrev pub l : Man
   l = on_square last y
 
@@ -173,19 +173,19 @@ module _ (others : List Man) (last : Man) (side : Side) (ours theirs y : ℕ)
 
   -- without the last man no man bears on the square, nor does the last one
   clear : (s : Side) (set : ℕ) → ((x : ℕ) → x < 64 → has set x ≡ is_attacked others s x) → (x : ℕ) → x < 64 → has set x ≡ false
-      → (same_side l.side s && bears_on men l x) ≡ false → is_attacked men s x ≡ false
+      → (same_side l.side s && attacks_square men l x) ≡ false → is_attacked men s x ≡ false
   unfolding is_attacked
   clear s set word x lx out mine =
-      list_any-append (λ k. same_side k.side s && bears_on men k x) others (l ∷ [])
-      ∙ or_from _ _ (list_any-none (λ k. same_side k.side s && bears_on men k x) others
+      list_any-append (λ k. same_side k.side s && attacks_square men k x) others (l ∷ [])
+      ∙ or_from _ _ (list_any-none (λ k. same_side k.side s && attacks_square men k x) others
       (λ k i. and_less (same_side k.side s) _ _ (bears_more others l k x)
-      (none_among (λ n. same_side n.side s && bears_on others n x) others k (sym (word x lx) ∙ out) i))) (or_from _ _ mine refl)
+      (none_among (λ n. same_side n.side s && attacks_square others n x) others k (sym (word x lx) ∙ out) i))) (or_from _ _ mine refl)
 
-  from_square : (m : Man) → IsAmong m others → bears_on [] (facing last m.at) y ≡ false → bears_on men l m.at ≡ false
+  from_square : (m : Man) → IsAmong m others → attacks_square [] (facing last m.at) y ≡ false → attacks_square men l m.at ≡ false
   from_square m i e = bears_alone men l m.at (sym (faces last m.at y) ∙ e)
 
-  bears_none : (m : Man) → IsAmong m others → (matters last side m && bears_on [] (facing last m.at) y) ≡ false
-  bears_none m i = none_among (λ k. matters last side k && bears_on [] (facing last k.at) y) others m bearing i
+  bears_none : (m : Man) → IsAmong m others → (is_relevant_target last side m && attacks_square [] (facing last m.at) y) ≡ false
+  bears_none m i = none_among (λ k. is_relevant_target last side k && attacks_square [] (facing last k.at) y) others m bearing i
 
   quiet_parts : (same_kind last.kind King ≡ false) × (list_any (λ m. same_side m.side (other_side side) && has ours m.at) others ≡ false)
       × (list_any (λ m. is_man side Pawn m && (rank_of m.at == rank_before_last side)) others ≡ false)
@@ -214,7 +214,7 @@ module _ (others : List Man) (last : Man) (side : Side) (ours theirs y : ℕ)
       own ls s e f = elim (cases_Bool (same_side last.side side)) [
         | inl t ↦ rw (not_other last.side side t) refl
         | inr t ↦ and_less (same_side last.side (other_side side)) false _ (λ g. clear side ours attacked y on
-            (let x : is_exposed last side ours y ≡ has ours y = rw t refl in sym x ∙ exposed) (rw t refl)) (never (same_side last.side (other_side side)))
+            (let x : is_capturable_or_promotes last side ours y ≡ has ours y = rw t refl in sym x ∙ exposed) (rw t refl)) (never (same_side last.side (other_side side)))
       ]
         where
           not_other : (a b : Side) → same_side a b ≡ true → same_side a (other_side b) ≡ false
@@ -234,7 +234,7 @@ module _ (others : List Man) (last : Man) (side : Side) (ours theirs y : ℕ)
     where
       own : (is_man side Pawn l && (rank_of y == rank_before_last side)) ≡ false
       own = elim (cases_Bool (same_side last.side side)) [
-        | inl t ↦ (let x : is_exposed last side ours y ≡ (is_pawn last && (rank_of y == rank_before_last side)) = rw t refl in rw t (sym x ∙ exposed))
+        | inl t ↦ (let x : is_capturable_or_promotes last side ours y ≡ (is_pawn last && (rank_of y == rank_before_last side)) = rw t refl in rw t (sym x ∙ exposed))
         | inr t ↦ rw t refl
       ]
 
@@ -253,7 +253,7 @@ module _ (others : List Man) (last : Man) (side : Side) (ours theirs y : ℕ)
       no_king true = rw quiet_parts.0 refl
       no_king false = refl
 
-  pub are_still : AreStill men side
+  pub are_still : AreQuietPositions men side
   are_still = record { spares = spares; keeps = keeps; safe = safe }
 
 -- ---- numbers of a row
@@ -304,7 +304,7 @@ row_told c row y ly lr others last side told =
           ∙ sym (row_men (slots_have_pawn (slots_of c)) (slots_of c) row y ly (AreSlots-class c))
           ∙ ap (λ (n : ℕ). told_men (slots_of c) n) (sym high),
       told.1 ∙ ap (λ (n : ℕ). told_side (slots_of c) n) low
-          ∙ ap (λ (h : ℕ). side_numbered (h / listed_count (slots_have_pawn (slots_of c)))) (sym (row_head (slots_of c) row y ly (AreSlots-class c)))
+          ∙ ap (λ (h : ℕ). side_numbered (h / king_places (slots_have_pawn (slots_of c)))) (sym (row_head (slots_of c) row y ly (AreSlots-class c)))
           ∙ ap (λ (n : ℕ). told_side (slots_of c) n) (sym high),
     )
 
@@ -323,7 +323,7 @@ module _ (c : Class) (number : ℕ) (q : Position) (at : position_numbered c num
   same : IsPermutation (others ++ l ∷ []) q.men
   same = subst (λ (zs : List Man). IsPermutation zs q.men) (sym told.0) (told_of c number q (told_decoded c number q at)).same_men
 
-  pub still_position : AreStillOrNone (others ++ l ∷ []) side → IsStill q
+  pub still_position : AreStillOrNone (others ++ l ∷ []) side → IsQuietPosition q
   still_position (inl still) = (
     λ mate. false≢true (sym still.safe ∙ in_check_same (others ++ l ∷ []) q.men same side
         ∙ ap (λ (s : Side). in_check q.men s) (side_is c number q at (others ++ l ∷ []) side told) ∙ mate.0),

@@ -16,7 +16,7 @@ use Rattle.study_board.specs.declared.men.Kind.TheVariants.{King, Queen, Rook, B
 use Rattle.study_board.specs.declared.men.Man.{Man}
 use Rattle.study_board.specs.EqualLaws.{sides_equal}
 use Rattle.study_board.specs.Geometry.{file_of, rank_of, strictly_between}
-use Rattle.study_board.specs.Men.{bears_on, is_pawn, other_side, pawn_captures, reaches, same_kind, same_side, moved_if}
+use Rattle.study_board.specs.Men.{attacks_square, is_pawn, other_side, pawn_captures, reaches, same_kind, same_side, moved_if}
 use Rattle.study_board.specs.Position.{Position, IsValid, in_check, is_empty, is_occupied}
 use Rattle.study_board.specs.Sets.{has, is_slider}
 use Rattle.study_board.proofs.Faults.{in_check_same}
@@ -25,7 +25,7 @@ use Rattle.study_board.proofs.MenInOrder.{IsPermutation-placed}
 use Rattle.study_moves.specs.Rules.{half_way, has_side, is_ahead, pawn_double_steps, pawn_steps, pawn_takes, reaches_target, starting_rank, survives}
 use Rattle.study_moves.specs.AnyOrder.{is_safe_target}
 use Rattle.study_moves.specs.KingSafety.{is_unsafe}
-use Rattle.study_moves.specs.Unmoves.{came_from, comes, first_rank, men_before, pawn_comes, was_check}
+use Rattle.study_moves.specs.Unmoves.{is_unmove_origin, comes, first_rank, men_before, pawn_comes, was_check}
 use Rattle.study_moves.proofs.BearsBothWays.{between-both, eqb-both}
 use Rattle.study_moves.proofs.KingSafety.{in_check_after, not_at_end}
 use Rattle.study_moves.proofs.MenOfList.{IsAmong, none_among}
@@ -34,7 +34,7 @@ use Rattle.study_moves.proofs.QuietChecks.{in_check_before, is_occupied_is, no_s
 use Rattle.study_moves.proofs.SafeTargets.{none_passed}
 use Rattle.study_index.proofs.AddedNumbers.{moves_there, none_moves}
 use Rattle.study_index.proofs.Fillings.{AreApart-ascending}
-use Rattle.study_retro.specs.RowMoves.{AreApart, goes_quietly, hinders, lets_pass, pawn_goes}
+use Rattle.study_retro.specs.RowMoves.{AreOnDistinctSquares, goes_quietly, hinders, does_not_interfere, pawn_goes}
 use Rattle.study_retro.specs.Still.{on_square}
 use Rattle.study_retro.proofs.RowChecks.{bears_men}
 use Rattle.study_retro.proofs.RowGeometry.{none_on_king_step, none_on_jump, none_on_step, one_on_double_step}
@@ -174,7 +174,7 @@ steps_as_pawn men man x p =
     (is_empty men x)
     ∙ sym (goes_as_pawn men man x p)
 
-pub goes_as_piece : (men : List Man) (man : Man) (x : ℕ) → is_pawn man ≡ false → goes_quietly men man x ≡ (bears_on men man x && is_empty men x)
+pub goes_as_piece : (men : List Man) (man : Man) (x : ℕ) → is_pawn man ≡ false → goes_quietly men man x ≡ (attacks_square men man x && is_empty men x)
 unfolding reaches_target
 goes_as_piece men man x p = rw p refl
 
@@ -192,7 +192,7 @@ comes_as_pawn : (men : List Man) (man : Man) (a : ℕ) → is_pawn man ≡ true 
 unfolding comes pawn_comes
 comes_as_pawn men man a p = rw p refl
 
-comes_as_piece : (men : List Man) (man : Man) (a : ℕ) → is_pawn man ≡ false → comes men man a ≡ (bears_on men man a && is_empty men a)
+comes_as_piece : (men : List Man) (man : Man) (a : ℕ) → is_pawn man ≡ false → comes men man a ≡ (attacks_square men man a && is_empty men a)
 unfolding comes
 comes_as_piece men man a p = rw p refl
 
@@ -290,17 +290,17 @@ module _ (others : List Man) (last : Man) (y : ℕ) where
   empty_there x = empty_with x ∙ ap (λ (b : Bool). is_empty others x && not b) (eqb-both y x)
 
   -- the empty squares on which a man that is not a pawn bears
-  bears_where : (man : Man) (x : ℕ) → is_pawn man ≡ false → (bears_on others man x && is_empty others x) ≡ true
-      → (bears_on men man x && is_empty men x) ≡ not (hinders man.at x y)
+  bears_where : (man : Man) (x : ℕ) → is_pawn man ≡ false → (attacks_square others man x && is_empty others x) ≡ true
+      → (attacks_square men man x && is_empty men x) ≡ not (hinders man.at x y)
   bears_where man x p e =
-      piece_with (bears_on others man x) (is_empty others x) (is_slider man.kind) (strictly_between man.at y x) (x == y)
-      (bears_on men man x) (is_empty men x) (bears_men others last y man x) (empty_there x)
+      piece_with (attacks_square others man x) (is_empty others x) (is_slider man.kind) (strictly_between man.at y x) (x == y)
+      (attacks_square men man x) (is_empty men x) (bears_men others last y man x) (empty_there x)
       (λ s k. none_if_bears others (not (man.at == x)) man.side man.kind man.at y x s p k) e
 
-  bears_less : (man : Man) (x : ℕ) → (bears_on men man x && is_empty men x) ≡ true → (bears_on others man x && is_empty others x) ≡ true
+  bears_less : (man : Man) (x : ℕ) → (attacks_square men man x && is_empty men x) ≡ true → (attacks_square others man x && is_empty others x) ≡ true
   bears_less man x e =
-      piece_less (bears_on others man x) (is_empty others x) (is_slider man.kind && strictly_between man.at y x) (x == y)
-      (bears_on men man x) (is_empty men x) (bears_men others last y man x) (empty_there x) e
+      piece_less (attacks_square others man x) (is_empty others x) (is_slider man.kind && strictly_between man.at y x) (x == y)
+      (attacks_square men man x) (is_empty men x) (bears_men others last y man x) (empty_there x) e
 
   -- the last man hinders the coming of a man if it stands in between or on the square, and otherwise does not
   pub comes_with : (man : Man) (a : ℕ) → comes others man a ≡ true → comes men man a ≡ not (hinders man.at a y)
@@ -358,7 +358,7 @@ module _ (others : List Man) (last : Man) (y : ℕ) where
 
   -- ---- the king with a man on another square
 
-  module _ (man : Man) (a : ℕ) (among : IsAmong man men) (apart : AreApart men) (side : Side) where
+  module _ (man : Man) (a : ℕ) (among : IsAmong man men) (apart : AreOnDistinctSquares men) (side : Side) where
     check_moved : is_occupied men a ≡ false
         → in_check (on_square man a ∷ filter (survives None man a) men) side ≡ in_check (map (moved_if man.at a) men) side
     check_moved free =
@@ -381,7 +381,7 @@ module _ (others : List Man) (last : Man) (y : ℕ) where
 
   -- ---- one of the other men
 
-  module _ (man : Man) (a : ℕ) (among : Contains others man) (apart : AreApart men) where
+  module _ (man : Man) (a : ℕ) (among : Contains others man) (apart : AreOnDistinctSquares men) where
     last_elsewhere : (xs : List Man) → IsAmong man xs → count_by (λ m. m.at == man.at) (xs ++ l ∷ []) ≤ 1 → (y == man.at) ≡ false
     last_elsewhere [] i c = absurd i
     last_elsewhere (x ∷ xs) (inl s) c =
@@ -410,7 +410,7 @@ module _ (others : List Man) (last : Man) (y : ℕ) where
 
     -- the squares of the last man with which the man can have come from a square
     pub led_with : (side : Side) → same_side man.side (other_side side) ≡ true → comes others man a ≡ true
-        → lets_pass others last side man.at a y ≡ came_from men side man a
+        → does_not_interfere others last side man.at a y ≡ is_unmove_origin men side man a
     led_with side his e =
         letting (hinders man.at a y) (in_check (map (moved_if man.at a) others ++ l ∷ []) side) (comes men man a) (was_check men side man a)
         (comes_with man a e)
@@ -418,7 +418,7 @@ module _ (others : List Man) (last : Man) (y : ℕ) where
 
     -- and with which it can go to an empty square
     pub going_with : (side : Side) → same_side man.side side ≡ true → goes_quietly others man a ≡ true
-        → lets_pass others last side man.at a y ≡ (is_safe_target men side man a && not (is_occupied men a))
+        → does_not_interfere others last side man.at a y ≡ (is_safe_target men side man a && not (is_occupied men a))
     unfolding is_safe_target
     going_with side mine e =
         letting_go (hinders man.at a y) (in_check (map (moved_if man.at a) others ++ l ∷ []) side) (reaches_target men None man a) (has_side men side a)
@@ -427,13 +427,13 @@ module _ (others : List Man) (last : Man) (y : ℕ) where
 
   -- ---- the last man itself: it comes and goes as with the others alone
 
-  apart_if_bears : (x : ℕ) → bears_on others l x ≡ true → (x == y) ≡ false
+  apart_if_bears : (x : ℕ) → attacks_square others l x ≡ true → (x == y) ≡ false
   apart_if_bears x e = eqb-both x y ∙ not-true _ (and_parts (not (y == x)) (reaches others last.side last.kind y x) e).0
 
-  piece_itself : (x : ℕ) → (bears_on men l x && is_empty men x) ≡ (bears_on others l x && is_empty others x)
+  piece_itself : (x : ℕ) → (attacks_square men l x && is_empty men x) ≡ (attacks_square others l x && is_empty others x)
   piece_itself x =
-      piece_alone (bears_on others l x) (is_empty others x) (is_slider last.kind && strictly_between y y x) (x == y)
-      (bears_on men l x) (is_empty men x) (bears_men others last y l x) (empty_there x)
+      piece_alone (attacks_square others l x) (is_empty others x) (is_slider last.kind && strictly_between y y x) (x == y)
+      (attacks_square men l x) (is_empty men x) (bears_men others last y l x) (empty_there x)
       (ap (λ (b : Bool). is_slider last.kind && b) (between-both y y x ∙ not_at_end x y) ∙ and_false (is_slider last.kind)) (apart_if_bears x)
 
   comes_itself : (a : ℕ) → comes men l a ≡ comes others l a
@@ -466,17 +466,17 @@ module _ (others : List Man) (last : Man) (y : ℕ) where
   ]
 
   -- none of the others stands on the last man's square
-  none_there : AreApart men → count_by (λ m. m.at == y) others ≡ 0
+  none_there : AreOnDistinctSquares men → count_by (λ m. m.at == y) others ≡ 0
   none_there apart =
       let sum = sum_by-append (λ (m : Man). cond (m.at == y) 1 0) others (l ∷ []) in
       let one : count_by (λ m. m.at == y) (l ∷ []) ≡ 1 = count_by-cons (λ m. m.at == y) l [] ∙ rw (eq-eqb y y refl) refl in
       omega (arith, apart y, sum, one)
 
-  pub stands_alone : AreApart men → is_occupied others y ≡ false
+  pub stands_alone : AreOnDistinctSquares men → is_occupied others y ≡ false
   stands_alone apart = unoccupied y others (none_there apart)
 
   module _ (side : Side) (check : ℕ) (tells : (a : ℕ) → a < 64 → has check a ≡ in_check (others ++ on_square last a ∷ []) side)
-      (apart : AreApart men) (a : ℕ) (on : a < 64) where
+      (apart : AreOnDistinctSquares men) (a : ℕ) (on : a < 64) where
     moved_itself : map (moved_if y a) men ≡ others ++ on_square last a ∷ []
     moved_itself =
         map-append (moved_if y a) others (l ∷ [])
@@ -487,7 +487,7 @@ module _ (others : List Man) (last : Man) (y : ℕ) where
     check_itself = ap (λ (ms : List Man). in_check ms side) moved_itself ∙ sym (tells a on)
 
     -- its possible origins, and its targets without a capture
-    pub led_itself : same_side last.side (other_side side) ≡ true → (comes others l a && not (has check a)) ≡ came_from men side l a
+    pub led_itself : same_side last.side (other_side side) ≡ true → (comes others l a && not (has check a)) ≡ is_unmove_origin men side l a
     led_itself his =
         ap (λ (b : Bool). b && not (has check a)) (sym (comes_itself a))
         ∙ letting_own (comes men l a) (was_check men side l a) (has check a)
@@ -502,7 +502,7 @@ module _ (others : List Man) (last : Man) (y : ℕ) where
         (no_side_there men side a) (λ k. check_after l a (among_end others) apart side mine k ∙ check_itself)
 
   -- origins and targets are among those without the last man
-  pub came_less : (side : Side) (man : Man) (a : ℕ) → came_from men side man a ≡ true → comes others man a ≡ true
+  pub came_less : (side : Side) (man : Man) (a : ℕ) → is_unmove_origin men side man a ≡ true → comes others man a ≡ true
   came_less side man a e = comes_less man a (and_parts (comes men man a) (not (was_check men side man a)) e).0
 
   pub going_less : (side : Side) (man : Man) (x : ℕ) → is_safe_target men side man x ≡ true → is_occupied men x ≡ false → goes_quietly others man x ≡ true
@@ -513,7 +513,7 @@ module _ (others : List Man) (last : Man) (y : ℕ) where
       goes_less man x (and_from _ _ r.0 (ap not free))
 
 -- the men of a valid position, in any order, share no square
-pub AreApart-position : (q : Position) (men : List Man) → IsValid q → IsPermutation men q.men → AreApart men
+pub AreApart-position : (q : Position) (men : List Man) → IsValid q → IsPermutation men q.men → AreOnDistinctSquares men
 AreApart-position q men valid same x =
     let one = AreApart-ascending q.men valid.ordered x in
     let count = sum_by-IsPermutation (λ (y : Man). cond (y.at == x) 1 0) men q.men same in

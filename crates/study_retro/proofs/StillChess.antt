@@ -10,7 +10,7 @@ use Rattle.study_board.specs.declared.men.Side.TheVariants.{White, Black}
 use Rattle.study_board.specs.declared.men.Kind.TheVariants.{King, Pawn}
 use Rattle.study_board.specs.declared.men.Man.{Man}
 use Rattle.study_board.specs.Geometry.{rank_of}
-use Rattle.study_board.specs.Men.{bears_on, is_attacked, is_man, is_pawn, other_side, same_side}
+use Rattle.study_board.specs.Men.{attacks_square, is_attacked, is_man, is_pawn, other_side, same_side}
 use Rattle.study_board.specs.Position.{Position, in_check, is_occupied}
 use Rattle.study_board.specs.EqualLaws.{sides_equal}
 use Rattle.study_board.specs.Sets.{has}
@@ -36,7 +36,7 @@ use Rattle.study_levels.specs.Numbered.{CellIsHeld, IsNumberedClass, OutsideIsRi
 use Rattle.study_levels.specs.Propagation.{IsHeldCell}
 use Rattle.study_retro.specs.Predecessors.{AreTold}
 use Rattle.study_levels.proofs.FirstLemmas.{held-draw}
-use Rattle.study_retro.specs.Still.{is_about_to_promote, HasOnlyQuiet, IsStill, rank_before_last}
+use Rattle.study_retro.specs.Still.{is_about_to_promote, HasOnlyQuiet, IsQuietPosition, rank_before_last}
 use Rattle.study_retro.proofs.LeavingLemmas.{far_plain, unpromoted}
 use Rattle.study_retro.proofs.BackLemmas.{occupied_same, side_is, told_targets}
 use Rattle.study_retro.proofs.MovedSteps.{quiet_stays}
@@ -80,13 +80,13 @@ module _ (men : List Man) (side : Side) where
         empty false e = refl
         empty true e = absurd (false≢true e)
 
-        by_test : (m : Man) → IsAmong m men → bears_on men man x ≡ true → (b : Bool) → (m.at == x) ≡ b → b ≡ false
+        by_test : (m : Man) → IsAmong m men → attacks_square men man x ≡ true → (b : Bool) → (m.at == x) ≡ b → b ≡ false
         by_test m i bears false e = refl
         by_test m i bears true e =
             let mine = first_false _ _ (none_among (λ k. same_side k.side side && (k.at == x)) men m own i) e in
-            let free = last_false _ _ (none_among (λ k. same_side k.side (other_side side) && list_any (λ n. same_side n.side side && bears_on men n k.at) men) men m takes i) (other_than m.side side mine) in
+            let free = last_false _ _ (none_among (λ k. same_side k.side (other_side side) && list_any (λ n. same_side n.side side && attacks_square men n k.at) men) men m takes i) (other_than m.side side mine) in
             let at : m.at ≡ x = eqb-true m.at x e in
-            absurd (false≢true (sym (none_among (λ n. same_side n.side side && bears_on men n m.at) men man free among)
+            absurd (false≢true (sym (none_among (λ n. same_side n.side side && attacks_square men n m.at) men man free among)
             ∙ rw (his, at, bears) refl))
 
   -- nor does a pawn of theirs reach its last rank
@@ -108,7 +108,7 @@ not_true false e = refl
 not_true true e = absurd (false≢true e)
 
 -- a man that bears on no man of the other side captures none
-module _ (men : List Man) (side : Side) (man : Man) (ours : ℕ) (word : (x : ℕ) → x < 64 → has ours x ≡ bears_on men man x) where
+module _ (men : List Man) (side : Side) (man : Man) (ours : ℕ) (word : (x : ℕ) → x < 64 → has ours x ≡ attacks_square men man x) where
   pub takes_none : list_any (λ m. same_side m.side (other_side side) && has ours m.at) men ≡ false → (o : Man) → Contains men o → o.at < 64
       → is_safe_target men side man o.at ≡ true → ⊥
   unfolding is_safe_target is_occupied has_side
@@ -156,7 +156,7 @@ stays_quiet c number q at low men side told takes promotes = quiet
 
 -- ---- sets of squares
 
-pub attacked_is : (men : List Man) (side : Side) (x : ℕ) → list_any (λ m. same_side m.side side && bears_on men m x) men ≡ is_attacked men side x
+pub attacked_is : (men : List Man) (side : Side) (x : ℕ) → list_any (λ m. same_side m.side side && attacks_square men m x) men ≡ is_attacked men side x
 unfolding is_attacked
 attacked_is men side x = refl
 
@@ -204,7 +204,7 @@ module _ (c : Class) (number : ℕ) (q : Position) (at : position_numbered c num
 
 -- before the levels the cell of its number is 0, as is that of a number without a position
 pub still_held : (c : Class) (held : List (Option Table)) (number : ℕ) → IsNumberedClass (class_game c held) → OutsideIsRight (class_game c held)
-    → ((q : Position) → position_numbered c number ≡ Some q → (number < 16777216) × IsStill q) → CellIsHeld (class_game c held) false 0 number 0
+    → ((q : Position) → position_numbered c number ≡ Some q → (number < 16777216) × IsQuietPosition q) → CellIsHeld (class_game c held) false 0 number 0
 still_held c held number laws outer still = by_position (position_numbered c number) refl
   where
     Held : Option Position → Type 0
@@ -222,7 +222,7 @@ still_held c held number laws outer still = by_position (position_numbered c num
           holds = inr ((λ x. x), (λ r l. leaves q e low s r l));
         }))
       where
-        leaves : (q : Position) → position_numbered c number ≡ Some q → number < 16777216 → IsStill q → (r : Position) → leads_in (class_game c held) q r × (is_of c r ≡ false) → ⊥
+        leaves : (q : Position) → position_numbered c number ≡ Some q → number < 16777216 → IsQuietPosition q → (r : Position) → leads_in (class_game c held) q r × (is_of c r ≡ false) → ⊥
         leaves q e low s r l =
             let home = is_of-IsOf c (after q l.0.0) (quiet_stays c number q e (dead_plain c number q e low) l.0.0 l.0.1 (s.1 l.0.0 l.0.1)) in
             false≢true (sym l.1 ∙ ap (λ (p : Position). is_of c p) (sym l.0.2) ∙ home)

@@ -15,7 +15,7 @@ use Rattle.study_board.specs.Position.{Position, IsValid, could_be_passed, has_m
 use Rattle.study_board.specs.EqualLaws.{sides_equal}
 use Rattle.study_moves.specs.declared.moves.Move.{Move}
 use Rattle.study_moves.specs.Rules.{is_en_passant, is_square, is_legal, reaches_target}
-use Rattle.study_moves.specs.EnPassant.{is_taken, has_legal_en_passant, without_passed}
+use Rattle.study_moves.specs.EnPassant.{is_capturable_en_passant, has_legal_en_passant, without_passed}
 use Rattle.study_moves.proofs.MenOfList.{some_among, list_any-from, same_square, found_among}
 use Rattle.study_moves.proofs.NoMoveBetween.{HasMover-from_is_legal}
 use Rattle.study_moves.proofs.HowMenGo.{IsStep, IsDoubleStep, IsCapture, pawn_ways}
@@ -41,7 +41,7 @@ record HasTaker (p : Position) (x : ℕ) : Type 0 where
   pub there : has_man p.men p.to_move Pawn at ≡ true
   pub takes : IsCapture p.to_move at x
 
-taker : (p : Position) (x : ℕ) → IsValid p → is_taken p (Some x) ≡ true → HasTaker p x
+taker : (p : Position) (x : ℕ) → IsValid p → is_capturable_en_passant p (Some x) ≡ true → HasTaker p x
 unfolding has_man is_en_passant
 taker p x v e =
     let r = some_among (λ man. is_en_passant p.passed man x && is_legal p (record { origin = man.at; target = x; promoted = None })) p.men e in
@@ -126,7 +126,7 @@ abreast_by p Black x y e there takes =
 pub AreAbreast-live : (p : Position) → IsValid p → has_legal_en_passant p ≡ true → AreAbreast p
 AreAbreast-live p v live =
     let r = live_pawns p v live in
-    let t = taker p r.0 v (sym (ap (λ (o : Option ℕ). is_taken p o) r.1) ∙ live) in
+    let t = taker p r.0 v (sym (ap (λ (o : Option ℕ). is_capturable_en_passant p o) r.1) ∙ live) in
     abreast_by p p.to_move r.0 t.at r.2 t.there t.takes
 
 -- the squares of the pawns that a number encodes

@@ -5,7 +5,7 @@ use Rattle.study_board.specs.declared.men.Side.TheVariants.{White, Black}
 use Rattle.study_board.specs.declared.men.Man.{Man}
 use Rattle.study_board.specs.Position.{Position}
 use Rattle.study_board.specs.Sets.{has}
-use Rattle.study_moves.specs.Unmoves.{CanHaveLed, came_from, comes, move_from}
+use Rattle.study_moves.specs.Unmoves.{CanHaveLed, is_unmove_origin, comes, move_from}
 use Rattle.study_material.specs.declared.class.Class.{Class}
 use Rattle.study_index.specs.Computed.{position_numbered}
 use Rattle.study_retro.specs.Predecessors.{IsBeforeBy, IsBeforeFrom, PassesNone}
@@ -27,7 +27,7 @@ CanAllHaveLed c row set man a =
 -- the last man can have come from a to one of the squares of the set, beside the others
 abbrev pub IsOriginInRow : List Man → Man → Side → ℕ → ℕ → Type 0
 IsOriginInRow others last side set a =
-    (y : ℕ) × (y < 64) × (has set y ≡ true) × (came_from (others ++ on_square last y ∷ []) side (on_square last y) a ≡ true)
+    (y : ℕ) × (y < 64) × (has set y ≡ true) × (is_unmove_origin (others ++ on_square last y ∷ []) side (on_square last y) a ≡ true)
 
 -- the rank to which a double step of the side leads
 abbrev pub double_step_rank : Side → ℕ
@@ -35,8 +35,8 @@ double_step_rank White = 3
 double_step_rank Black = 4
 
 -- no move by which the man comes to y, whatever the other men, leaves a capture in passing
-abbrev pub ComesPlainly : Class → Man → ℕ → Type 0
-ComesPlainly c last y = (men : List Man) (a : ℕ) → comes men (on_square last y) a ≡ true → PassesNone c a y
+abbrev pub ComesWithoutEnPassant : Class → Man → ℕ → Type 0
+ComesWithoutEnPassant c last y = (men : List Man) (a : ℕ) → comes men (on_square last y) a ≡ true → PassesNone c a y
 
 -- n is the number of a position from which a quiet move of the man, from a, leads to one of those numbers; and from some square
 abbrev pub IsBeforeRowFrom : Class → ℕ → ℕ → Man → ℕ → ℕ → Type 0

@@ -5,26 +5,26 @@ use Rattle.study_board.specs.declared.men.Side.{Side}
 use Rattle.study_board.specs.declared.men.Kind.TheVariants.{King}
 use Rattle.study_board.specs.declared.men.Man.{Man}
 use Rattle.study_board.specs.Geometry.{rank_of, strictly_between}
-use Rattle.study_board.specs.Men.{bears_on, is_man, other_side, same_side, moved_if}
+use Rattle.study_board.specs.Men.{attacks_square, is_man, other_side, same_side, moved_if}
 use Rattle.study_board.specs.Position.{in_check, is_empty, is_occupied}
 use Rattle.study_board.specs.Sets.{has, is_slider}
 use Rattle.study_moves.specs.Rules.{half_way, is_ahead, reaches_target, starting_rank}
-use Rattle.study_retro.specs.declared.row_checks.Bearer.{Bearer}
+use Rattle.study_retro.specs.declared.rows.checks.Attacker.{Attacker}
 use Rattle.study_retro.specs.Still.{facing, on_square}
 
 -- the man bears on x with a further man on y
-abbrev pub bears_with : List Man → ℕ → Man → ℕ → Bool
-bears_with others y m x = bears_on others m x && not (is_slider m.kind && strictly_between m.at y x)
+abbrev pub keeps_attack_with : List Man → ℕ → Man → ℕ → Bool
+keeps_attack_with others y m x = attacks_square others m x && not (is_slider m.kind && strictly_between m.at y x)
 
 -- the king of the side is attacked with the last man on y
 abbrev pub king_attacked_with : List Man → Man → Side → ℕ → Man → Bool
 king_attacked_with others last side y k = is_man side King k
-    && (list_any (λ m. same_side m.side (other_side side) && bears_with others y m k.at) others
-    || (same_side last.side (other_side side) && bears_on others (facing last k.at) y))
+    && (list_any (λ m. same_side m.side (other_side side) && keeps_attack_with others y m k.at) others
+    || (same_side last.side (other_side side) && attacks_square others (facing last k.at) y))
 
 -- no two of the men share a square
-abbrev pub AreApart : List Man → Type 0
-AreApart men = (x : ℕ) → count_by (λ m. m.at == x) men ≤ 1
+abbrev pub AreOnDistinctSquares : List Man → Type 0
+AreOnDistinctSquares men = (x : ℕ) → count_by (λ m. m.at == x) men ≤ 1
 
 -- a pawn goes from a to the empty square x, by a step or a double step
 abbrev pub pawn_goes : List Man → Side → ℕ → ℕ → Bool
@@ -40,13 +40,13 @@ abbrev pub hinders : ℕ → ℕ → ℕ → Bool
 hinders from to y = strictly_between from y to || (to == y)
 
 -- the last man on y is not in the way, and no king of the side is attacked after the man has gone from the first square to the second
-abbrev pub lets_pass : List Man → Man → Side → ℕ → ℕ → ℕ → Bool
-lets_pass others last side from to y = not (hinders from to y || in_check (map (moved_if from to) others ++ on_square last y ∷ []) side)
+abbrev pub does_not_interfere : List Man → Man → Side → ℕ → ℕ → ℕ → Bool
+does_not_interfere others last side from to y = not (hinders from to y || in_check (map (moved_if from to) others ++ on_square last y ∷ []) side)
 
 -- with the last man on y some man of the side, the last or another, bears on x
 abbrev pub attacked_with_last : List Man → Man → Side → ℕ → ℕ → Bool
-attacked_with_last others last side x y = list_any (λ m. same_side m.side side && bears_with others y m x) others
-    || (same_side last.side side && bears_on others (facing last x) y)
+attacked_with_last others last side x y = list_any (λ m. same_side m.side side && keeps_attack_with others y m x) others
+    || (same_side last.side side && attacks_square others (facing last x) y)
 
 -- the others that do not stand on the square, by the properties that one of them has
 abbrev pub AreRest : List Man → ℕ → List Man → Type 0
@@ -61,25 +61,25 @@ abbrev pub gone_to : ℕ → ℕ → ℕ → ℕ
 gone_to from to a = if a == from then to else a
 
 -- a further man on y is not in the way of the man to x
-abbrev pub stands_aside : Man → ℕ → ℕ → Bool
-stands_aside m x y = not (is_slider m.kind && strictly_between m.at y x)
+abbrev pub does_not_block : Man → ℕ → ℕ → Bool
+does_not_block m x y = not (is_slider m.kind && strictly_between m.at y x)
 
 -- the man bears on x past men on z and y
-abbrev pub bears_past : ℕ → ℕ → ℕ → Bearer → Bool
-bears_past z x y b = has b.squares x && (stands_aside b.man x z && stands_aside b.man x y)
+abbrev pub keeps_attack_past : ℕ → ℕ → ℕ → Attacker → Bool
+keeps_attack_past z x y b = has b.squares x && (does_not_block b.man x z && does_not_block b.man x y)
 
 -- the men of the side, each with the squares on which it bears, by the properties of the men that bear on a square
-abbrev pub AreBearers : List Man → Side → List Bearer → Type 0
+abbrev pub AreBearers : List Man → Side → List Attacker → Type 0
 AreBearers men side bearers = (x : ℕ) → x < 64 → (p : Man → Bool)
-    → list_any (λ b. has b.squares x && p b.man) bearers ≡ list_any (λ m. (same_side m.side side && bears_on men m x) && p m) men
+    → list_any (λ b. has b.squares x && p b.man) bearers ≡ list_any (λ m. (same_side m.side side && attacks_square men m x) && p m) men
 
 -- the others that stay when the man goes; the bearers are those of them that are not of the side, and bear on the squares of the first set; and from the
 -- squares of the other two sets the last man and the moving man, if they are not of the side, bear on the side's only king
-pub record AreStaying (others : List Man) (last man : Man) (side : Side) (staying : List Man) (bearers : List Bearer) (attacked : ℕ)
+pub record IsCheckInfo (others : List Man) (last man : Man) (side : Side) (staying : List Man) (bearers : List Attacker) (attacked : ℕ)
     (king : Option ℕ) (checks checks_of_man : ℕ) : Type 0 where
   pub rest : AreRest others man.at staying
   pub bear : AreBearers staying (other_side side) bearers
   pub all : (x : ℕ) → x < 64 → has attacked x ≡ list_any (λ b. has b.squares x) bearers
   pub only : IfSome king (λ k. IsOnlyKing others side k)
-  pub last_bears : IfSome king (λ k. (y : ℕ) → y < 64 → has checks y ≡ (same_side last.side (other_side side) && bears_on staying (facing last k) y))
-  pub man_bears : IfSome king (λ k. (y : ℕ) → y < 64 → has checks_of_man y ≡ (same_side man.side (other_side side) && bears_on staying (facing man k) y))
+  pub last_bears : IfSome king (λ k. (y : ℕ) → y < 64 → has checks y ≡ (same_side last.side (other_side side) && attacks_square staying (facing last k) y))
+  pub man_bears : IfSome king (λ k. (y : ℕ) → y < 64 → has checks_of_man y ≡ (same_side man.side (other_side side) && attacks_square staying (facing man k) y))

@@ -28,8 +28,8 @@ abbrev pub HasOnlyQuiet : Position → Type 0
 HasOnlyQuiet q = (m : Move) → is_legal q m ≡ true → IsQuiet q m
 
 -- the side to move is not mated, and each of its moves is quiet
-abbrev pub IsStill : Position → Type 0
-IsStill q = (IsMate q → ⊥) × HasOnlyQuiet q
+abbrev pub IsQuietPosition : Position → Type 0
+IsQuietPosition q = (IsMate q → ⊥) × HasOnlyQuiet q
 
 -- the move of the man to x, without a promotion
 abbrev pub move_to : Man → ℕ → Move
@@ -48,8 +48,8 @@ abbrev pub is_about_to_promote : Man → Bool
 is_about_to_promote man = is_pawn man && (rank_of man.at == rank_before_last man.side)
 
 -- the man can go to x if no capture in passing is legal, and does not promote there
-abbrev pub GoesPlainly : Position → Man → ℕ → Type 0
-GoesPlainly q man x = (is_safe_target q.men q.to_move man x ≡ true) × (reaches_last_rank man x ≡ false)
+abbrev pub GoesWithoutPromotion : Position → Man → ℕ → Type 0
+GoesWithoutPromotion q man x = (is_safe_target q.men q.to_move man x ≡ true) × (reaches_last_rank man x ≡ false)
 
 -- after the move the other side wins within k plies by the cells
 abbrev pub IsWonAfter : Numbered Position → List ℕ → ℕ → Position → Move → Type 0
@@ -64,7 +64,7 @@ QuietMovesLoseBy g cells k q man =
     (x : ℕ) → is_legal q (move_to man x) ≡ true → IsQuiet q (move_to man x) → IsWonAfter g cells k q (move_to man x)
 
 -- no man of the side bears on a man of the other side, none of its pawns is a step from its last rank, and it is not in check
-pub record AreStill (men : List Man) (side : Side) : Type 0 where
+pub record AreQuietPositions (men : List Man) (side : Side) : Type 0 where
   pub spares : list_any (λ m. same_side m.side (other_side side) && is_attacked men side m.at) men ≡ false
   pub keeps : list_any (λ m. is_man side Pawn m && (rank_of m.at == rank_before_last side)) men ≡ false
   pub safe : in_check men side ≡ false
@@ -77,23 +77,23 @@ abbrev pub facing : Man → ℕ → Man
 facing man x = record { side = other_side man.side; kind = man.kind; at = x }
 
 -- if the man bears on the other one, the men are not still: that one is of the other side, and is the king if it is not the man's turn
-abbrev pub matters : Man → Side → Man → Bool
-matters man side m = not (same_side m.side man.side) && (same_side man.side side || same_kind m.kind King)
+abbrev pub is_relevant_target : Man → Side → Man → Bool
+is_relevant_target man side m = not (same_side m.side man.side) && (same_side man.side side || same_kind m.kind King)
 
 -- on x the man promotes with its next step, if it is the man's turn; or x is in the set, so that the man can be taken
-abbrev pub is_exposed : Man → Side → ℕ → ℕ → Bool
-is_exposed man side attacked x = if same_side man.side side then is_pawn man && (rank_of x == rank_before_last side) else has attacked x
+abbrev pub is_capturable_or_promotes : Man → Side → ℕ → ℕ → Bool
+is_capturable_or_promotes man side attacked x = if same_side man.side side then is_pawn man && (rank_of x == rank_before_last side) else has attacked x
 
 -- the last man is a king, or a man of the side bears on another of the others, or promotes with its next step, or the side is in check
-abbrev pub is_restless : List Man → Man → Side → ℕ → ℕ → Bool
-is_restless others last side ours theirs = same_kind last.kind King
+abbrev pub has_forcing_move : List Man → Man → Side → ℕ → ℕ → Bool
+has_forcing_move others last side ours theirs = same_kind last.kind King
     || list_any (λ m. same_side m.side (other_side side) && has ours m.at) others
     || list_any (λ m. is_man side Pawn m && (rank_of m.at == rank_before_last side)) others
     || list_any (λ m. is_man side King m && has theirs m.at) others
 
 -- the men are still, or the other king could be taken, so that they are not a valid position
 abbrev pub AreStillOrNone : List Man → Side → Type 0
-AreStillOrNone men side = AreStill men side ⊎ (in_check men (other_side side) ≡ true)
+AreStillOrNone men side = AreQuietPositions men side ⊎ (in_check men (other_side side) ≡ true)
 
 -- the side to move has a legal move
 abbrev pub HasMove : Position → Type 0

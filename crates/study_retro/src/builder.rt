@@ -10,7 +10,7 @@ ghost use Rattle.study_retro.specs.Report.{IsGreatest, greater, win_of, loss_of}
 
 use crate::class_game::ClassGame;
 use std::alloc::Allocator;
-use study_levels::{BuildRoom, are_right, fill};
+use study_levels::{BuildRoom, are_right, solve_cells};
 use study_material::Class;
 use study_table::{Table, TableSet};
 use study_values::{Value, value_at};
@@ -59,7 +59,7 @@ pub fn build<'a, A: Allocator>(
     let _held = tables.table(class);
     let game = ClassGame { class, tables };
     let mut cells = room.into_cells();
-    let filled = fill(&game, cells.as_mut_slice());
+    let filled = solve_cells(&game, cells.as_mut_slice());
     if !filled.fits {
         return Err(BuildFault::DistanceTooLarge);
     }

@@ -8,17 +8,17 @@ ghost use Rattle.study_moves.specs.declared.moves.Move.{Move as AMove};
 ghost use Rattle.study_moves.specs.Rules.{is_legal, reaches_last_rank, reaches_target};
 ghost use Rattle.study_moves.specs.AnyOrder.{HasSafeTargets};
 ghost use Rattle.study_moves.specs.Unmoves.{IsQuiet};
-ghost use Rattle.study_retro.specs.Still.{GoesPlainly, is_about_to_promote, move_to, promotion_to, promotions_to};
+ghost use Rattle.study_retro.specs.Still.{GoesWithoutPromotion, is_about_to_promote, move_to, promotion_to, promotions_to};
 
-use crate::escapes::reaches_last_rank;
-use crate::still::{has_man_in, rank_before_last};
+use crate::numbers::moves::reaches_last_rank;
+use crate::numbers::quiet::{has_man_in, rank_before_last};
 use arrayvec::ArrayVec;
 use study_board::{Kind, Man, Position, Side, Square, SquareSet, attacks};
 use study_moves::{MAX_MOVES, Move, MoveList, safe_targets};
 
 /// Whether the square is in the set, and the man is not a pawn that reaches its last rank there.
 #[inline]
-fn goes_plainly(safe: SquareSet, man: &Man, target: Square) -> bool
+fn goes_without_promotion(safe: SquareSet, man: &Man, target: Square) -> bool
     ensures { result ≡ (has safe target && not (reaches_last_rank man.now target)) }
 {
     safe.contains(target) && !reaches_last_rank(man, target)
@@ -53,7 +53,7 @@ fn add_captures_of(at: &Position, man: &Man, list: &mut MoveList)
     requires only { (m : AMove) → Contains list.old.items m → is_legal at.now m ≡ true }
     ensures only { (m : AMove) → Contains list.new.items m → is_legal at.now m ≡ true }
     ensures kept { (m : AMove) → Contains list.old.items m → Contains list.new.items m }
-    ensures all { (other : AMan) → Contains at.now.men other → GoesPlainly at.now man.now other.at
+    ensures all { (other : AMan) → Contains at.now.men other → GoesWithoutPromotion at.now man.now other.at
         → Contains list.new.items (move_to man.now other.at) }
     ensures few { array_vec_len list.new ≤ array_vec_len list.old + 4 }
 {
@@ -64,7 +64,7 @@ fn add_captures_of(at: &Position, man: &Man, list: &mut MoveList)
     }
     let safe = safe_targets(men, side, man);
     for other in men {
-        if goes_plainly(safe, man, other.at) {
+        if goes_without_promotion(safe, man, other.at) {
             list.push(move_to(man, other.at));
         }
     }
@@ -134,7 +134,7 @@ fn add_promotions_of(at: &Position, pawn: &Man, list: &mut MoveList)
 
 /// Adds the captures and the promotions of a man of the side to move.
 #[inline]
-fn add_leaving_of(at: &Position, man: &Man, list: &mut MoveList)
+fn add_conversions_of(at: &Position, man: &Man, list: &mut MoveList)
     requires room { array_vec_len list.old + 12 ≤ MAX_MOVES }
     requires tells { HasSafeTargets at.now at.now.men }
     requires man { Contains at.now.men man.now }
@@ -163,7 +163,7 @@ pub fn captures_and_promotions(at: &Position) -> MoveList
     let men = at.men();
     for man in men {
         if man.side == side {
-            add_leaving_of(at, man, &mut list);
+            add_conversions_of(at, man, &mut list);
         }
     }
     list

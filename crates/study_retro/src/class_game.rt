@@ -7,19 +7,21 @@ ghost use Rattle.study_index.specs.Computed.{position_numbered};
 ghost use Rattle.study_values.specs.Index.{index_of};
 ghost use Rattle.study_table.specs.Table.{IsReady, IsClosed};
 
-use crate::back::Change;
 use crate::captures::captures_and_promotions;
-use crate::earlier::{may_pass, predecessor_numbers, twinless_in_row};
-use crate::row_back::write_before_row;
-use crate::row_escapes::lost_in_plain_row;
-use crate::row_levels::{lost_of_each, lower_each, mark_each};
-use crate::rows::still_in_row;
-use crate::still::begins_unknown;
+use crate::numbers::en_passant::{
+    may_allow_en_passant, predecessor_numbers, squares_without_en_passant,
+};
+use crate::numbers::predecessors::CellWrite;
+use crate::numbers::quiet::starts_undecided;
+use crate::rows::levels::{lost_one_by_one, lower_one_by_one, mark_one_by_one};
+use crate::rows::predecessors::write_before_row;
+use crate::rows::quiet::quiet_squares_in_row;
+use crate::rows::quiet_moves::lost_in_row_without_en_passant;
 use arrayvec::ArrayVec;
 use std::alloc::Allocator;
 use study_board::{Position, SquareSet, is_occupied};
-use study_index::{decode, index, number_moved};
-use study_levels::{Game, Initial, LabelledGame, Location, SteppedGame, initial_by_moves, label};
+use study_index::{decode, index, index_after_move};
+use study_levels::{Game, Initial, LabelledGame, LevelGame, Location, initial_by_moves, label};
 use study_material::{Class, class_of};
 use study_moves::{Move, MoveList, is_mate, legal_moves, played};
 use study_table::TableSet;
@@ -57,14 +59,14 @@ impl<'t, 'a, A: Allocator> Game for ClassGame<'t, 'a, A> {
         played(at, by)
     }
 
-    fn leaving(&self, at: &Position) -> MoveList {
+    fn conversions(&self, at: &Position) -> MoveList {
         if has_passed(at) {
             return legal_moves(at);
         }
         captures_and_promotions(at)
     }
 
-    fn leaves(&self, at: &Position, by: Move) -> bool {
+    fn may_convert(&self, at: &Position, by: Move) -> bool {
         by.promoted.is_some() || at.passed().is_some() || at.man_at(by.target).is_some()
     }
 
@@ -115,11 +117,11 @@ fn number_after(class: Class, number: u32, at: &Position, by: &Move) -> Option<u
     requires by { is_legal at.now by.now ≡ true }
     ensures { IfSome result (λ n. (has_legal_en_passant at.now ≡ false) × IsQuiet at.now by.now × (index_of (after at.now by.now) ≡ n)) }
 {
-    if may_pass(class, by.origin, by.target) || has_passed(at) {
+    if may_allow_en_passant(class, by.origin, by.target) || has_passed(at) {
         return None;
     }
     if is_quiet(at, by) {
-        Some(number_moved(class, number, by.origin, by.target))
+        Some(index_after_move(class, number, by.origin, by.target))
     } else {
         None
     }
@@ -137,9 +139,9 @@ impl<'t, 'a, A: Allocator> LabelledGame for ClassGame<'t, 'a, A> {
     }
 }
 
-impl<'t, 'a, A: Allocator> SteppedGame for ClassGame<'t, 'a, A> {
+impl<'t, 'a, A: Allocator> LevelGame for ClassGame<'t, 'a, A> {
     fn first(&self, number: u32) -> Initial {
-        if begins_unknown(self.class, number) {
+        if starts_undecided(self.class, number) {
             return Initial {
                 cell: 0,
                 far: false,
@@ -148,18 +150,18 @@ impl<'t, 'a, A: Allocator> SteppedGame for ClassGame<'t, 'a, A> {
         initial_by_moves(self, number)
     }
 
-    fn unknown_in_row(&self, row: u32) -> SquareSet {
+    fn undecided_in_row(&self, row: u32) -> SquareSet {
         if row >= EN_PASSANT_BIT / 64 {
-            return twinless_in_row(self.class, row - EN_PASSANT_BIT / 64);
+            return squares_without_en_passant(self.class, row - EN_PASSANT_BIT / 64);
         }
-        still_in_row(self.class, row)
+        quiet_squares_in_row(self.class, row)
     }
 
     fn lower_before(&self, cells: &mut [u8], row: u32, decided: SquareSet, level: u8) -> u64 {
         if row >= EN_PASSANT_BIT / 64 {
-            return lower_each(self, cells, row, decided, level);
+            return lower_one_by_one(self, cells, row, decided, level);
         }
-        let change = Change {
+        let change = CellWrite {
             cell: level + 2,
             over: true,
         };
@@ -168,9 +170,9 @@ impl<'t, 'a, A: Allocator> SteppedGame for ClassGame<'t, 'a, A> {
 
     fn mark_before(&self, cells: &mut [u8], row: u32, decided: SquareSet, level: u8) -> u64 {
         if row >= EN_PASSANT_BIT / 64 {
-            return mark_each(self, cells, row, decided, level);
+            return mark_one_by_one(self, cells, row, decided, level);
         }
-        let change = Change {
+        let change = CellWrite {
             cell: level + 2,
             over: false,
         };
@@ -179,8 +181,8 @@ impl<'t, 'a, A: Allocator> SteppedGame for ClassGame<'t, 'a, A> {
 
     fn lost_in_row(&self, cells: &[u8], row: u32, candidates: SquareSet, level: u8) -> SquareSet {
         if row >= EN_PASSANT_BIT / 64 {
-            return lost_of_each(self, cells, row, candidates, level);
+            return lost_one_by_one(self, cells, row, candidates, level);
         }
-        lost_in_plain_row(self, cells, row, candidates, level)
+        lost_in_row_without_en_passant(self, cells, row, candidates, level)
     }
 }

@@ -5,21 +5,12 @@
 //! study_levels, which is proved over any game whose positions have numbers; `class_game` is chess as such a game.
 #![tactic(auto)]
 
-mod back;
 mod builder;
 mod captures;
 mod class_game;
-mod earlier;
-mod escapes;
 mod mover;
-mod row;
-mod row_back;
-mod row_checks;
-mod row_escapes;
-mod row_levels;
-mod row_moves;
+mod numbers;
 mod rows;
-mod still;
 
 pub use builder::{BuildFault, BuildReport, build, verify};
 pub use study_levels::BuildRoom;

@@ -20,7 +20,7 @@ use Rattle.study_marks.specs.Annotated.{AreValuesAfter}
 use Rattle.study_marks.specs.Laws.{others_that_hold, DualCountsOthers}
 use Rattle.study_marks.proofs.OneAnnotation.{one-value}
 use Rattle.study_marks.proofs.DualCounts.{same_move-one}
-use Rattle.study_facts.specs.Continuations.{is_among, chosen}
+use Rattle.study_facts.specs.Continuations.{contains_move, wanted_moves}
 use Rattle.study_review.specs.Laws.{AlternativesAreCounted}
 
 -- ---- marks of moves that hold
@@ -66,10 +66,10 @@ turned m n = go (same_move n m) (same_move m n) refl refl
     go false true e f =
         let one : m ≡ n = same_move-one m n f in ap (λ x. same_move x m) (sym one) ∙ ap (λ x. same_move m x) one
 
-among-one : (m n : Move) → is_among n (m ∷ []) ≡ same_move m n
+among-one : (m n : Move) → contains_move n (m ∷ []) ≡ same_move m n
 among-one m n = go (same_move n m) refl ∙ turned m n
   where
-    go : (b : Bool) → same_move n m ≡ b → is_among n (m ∷ []) ≡ same_move n m
+    go : (b : Bool) → same_move n m ≡ b → contains_move n (m ∷ []) ≡ same_move n m
     go true e = rw e refl
     go false e = rw e refl
 
@@ -77,26 +77,26 @@ abbrev count_if : Bool → ℕ
 count_if b = if b then 1 else 0
 
 chosen-length : (f : Value → Bool) (n : Move) (v : Value) (ms : List Move) (vs : List Value)
-    → length (chosen f (n ∷ ms) (v ∷ vs)) ≡ (if f v then 1 else 0) + length (chosen f ms vs)
+    → length (wanted_moves f (n ∷ ms) (v ∷ vs)) ≡ (if f v then 1 else 0) + length (wanted_moves f ms vs)
 chosen-length f n v ms vs = go (f v) refl
   where
-    go : (b : Bool) → f v ≡ b → length (chosen f (n ∷ ms) (v ∷ vs)) ≡ (if f v then 1 else 0) + length (chosen f ms vs)
+    go : (b : Bool) → f v ≡ b → length (wanted_moves f (n ∷ ms) (v ∷ vs)) ≡ (if f v then 1 else 0) + length (wanted_moves f ms vs)
     go true e =
-        let k : length (chosen f (n ∷ ms) (v ∷ vs)) ≡ suc (length (chosen f ms vs)) = rw e refl in
+        let k : length (wanted_moves f (n ∷ ms) (v ∷ vs)) ≡ suc (length (wanted_moves f ms vs)) = rw e refl in
         let one : count_if (f v) ≡ 1 = rw e refl in omega (arith, k, one)
     go false e =
-        let k : length (chosen f (n ∷ ms) (v ∷ vs)) ≡ length (chosen f ms vs) = rw e refl in
+        let k : length (wanted_moves f (n ∷ ms) (v ∷ vs)) ≡ length (wanted_moves f ms vs) = rw e refl in
         let none : count_if (f v) ≡ 0 = rw e refl in omega (arith, k, none)
 
 module _ (law : EachHasAtMostOneValue) (a : Aim) (d : ℕ) (p : Position) (m : Move) where
   abbrev apart : Move → Bool
-  apart n = not (is_among n (m ∷ []))
+  apart n = not (contains_move n (m ∷ []))
 
   one-counted : (b : Bool) (n : Move) (ms : List Move) (v : Value) (all vs : List Value)
-      → ((ws : List Value) → AreValuesAfter p (filter apart ms) ws → others_that_hold a d m ms all ≡ length (chosen (holds a d) (filter apart ms) ws))
+      → ((ws : List Value) → AreValuesAfter p (filter apart ms) ws → others_that_hold a d m ms all ≡ length (wanted_moves (holds a d) (filter apart ms) ws))
       → IsValueOf (after p n) v → AreValuesAfter p (if not b then n ∷ filter apart ms else filter apart ms) vs
       → (if b then 0 else (if holds a d v then 1 else 0)) + others_that_hold a d m ms all
-      ≡ length (chosen (holds a d) (if not b then n ∷ filter apart ms else filter apart ms) vs)
+      ≡ length (wanted_moves (holds a d) (if not b then n ∷ filter apart ms else filter apart ms) vs)
   one-counted true n ms v all vs rest g j = let e = rest vs j in omega (arith, e)
   one-counted false n ms v all [] rest g j = absurd j
   one-counted false n ms v all (w ∷ vs) rest g j =
@@ -106,7 +106,7 @@ module _ (law : EachHasAtMostOneValue) (a : Aim) (d : ℕ) (p : Position) (m : M
       ∙ sym (chosen-length (holds a d) n w (filter apart ms) vs)
 
   counted : (ms : List Move) (all vs : List Value) → AreValuesAfter p ms all → AreValuesAfter p (filter apart ms) vs
-      → others_that_hold a d m ms all ≡ length (chosen (holds a d) (filter apart ms) vs)
+      → others_that_hold a d m ms all ≡ length (wanted_moves (holds a d) (filter apart ms) vs)
   counted [] [] [] h j = refl
   counted [] [] (w ∷ vs) h j = absurd j
   counted [] (v ∷ all) vs h j = absurd h
@@ -116,7 +116,7 @@ module _ (law : EachHasAtMostOneValue) (a : Aim) (d : ℕ) (p : Position) (m : M
       let f : filter apart (n ∷ ms) ≡ (if not (same_move m n) then n ∷ filter apart ms else filter apart ms) =
       ap (λ b. if b then n ∷ filter apart ms else filter apart ms) e in
       one-counted (same_move m n) n ms v all vs (λ ws k. counted ms all ws h.1 k) h.0 (subst (λ (l : List Move). AreValuesAfter p l vs) f j)
-      ∙ ap (λ (l : List Move). length (chosen (holds a d) l vs)) (sym f)
+      ∙ ap (λ (l : List Move). length (wanted_moves (holds a d) l vs)) (sym f)
 
 pub alternatives-counted : EachHasAtMostOneValue → DualCountsOthers → AlternativesAreCounted
 alternatives-counted law duals a d p m v w mark list valid legal game is others =

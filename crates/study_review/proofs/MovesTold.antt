@@ -16,29 +16,29 @@ use Rattle.study_values.specs.Game.{IsValueOf}
 use Rattle.study_marks.specs.declared.mark_rules.Aim.{Aim}
 use Rattle.study_marks.specs.declared.stipulation.Goal.{Goal}
 use Rattle.study_marks.specs.Goals.{holds}
-use Rattle.study_facts.specs.declared.continuation.Continuation.{Continuation}
-use Rattle.study_facts.specs.declared.time.Alternative.{Alternative}
-use Rattle.study_facts.specs.declared.missing.Defence.{Defence}
-use Rattle.study_review.specs.declared.answers.Answers.{Answers}
-use Rattle.study_facts.specs.Continuations.{chosen, is_among}
-use Rattle.study_facts.specs.Defences.{the_only, AreAnswered, IsAnswered}
+use Rattle.study_facts.specs.declared.continuation.EvaluatedMove.{EvaluatedMove}
+use Rattle.study_facts.specs.declared.time_loss.Alternative.{Alternative}
+use Rattle.study_facts.specs.declared.missing_defences.Defence.{Defence}
+use Rattle.study_review.specs.declared.defence_lines.Answers.{Answers}
+use Rattle.study_facts.specs.Continuations.{wanted_moves, contains_move}
+use Rattle.study_facts.specs.Defences.{only_move, AreAnswered, IsAnswered}
 use Rattle.study_facts.specs.Made.{Grew}
 use Rattle.study_facts.specs.Time.{IsTimeTold, AreTimed}
-use Rattle.study_review.specs.Told.{AreAlsoLines, AreMissingLines, AreAnswers, besides, apart}
+use Rattle.study_review.specs.NodeFacts.{AreAlsoLines, AreMissingLines, AreAnswers, besides, apart}
 use Rattle.study_facts.specs.Words.{also_line, missing_line, times_lost}
 use Rattle.study_facts.specs.TimeFaults.{all_lose_time}
 use Rattle.study_facts.proofs.NodesShown.{not-zero}
 
 -- ---- alternatives
 
-timed-append : (g : Goal) (line : List Position) (p : Position) (xs us : List Continuation) (ys vs : List Alternative)
+timed-append : (g : Goal) (line : List Position) (p : Position) (xs us : List EvaluatedMove) (ys vs : List Alternative)
     → AreTimed g line p xs ys → AreTimed g line p us vs → AreTimed g line p (xs ++ us) (ys ++ vs)
 timed-append g line p [] us [] vs h k = k
 timed-append g line p [] us (y ∷ ys) vs h k = absurd h
 timed-append g line p (x ∷ xs) us [] vs h k = absurd h
 timed-append g line p (x ∷ xs) us (y ∷ ys) vs h k = (h.0, h.1, h.2, timed-append g line p xs us ys vs h.3 k)
 
-pub timed-length : (g : Goal) (line : List Position) (p : Position) (xs : List Continuation) (ys : List Alternative)
+pub timed-length : (g : Goal) (line : List Position) (p : Position) (xs : List EvaluatedMove) (ys : List Alternative)
     → AreTimed g line p xs ys → length xs ≡ length ys
 timed-length g line p [] [] h = refl
 timed-length g line p [] (y ∷ ys) h = absurd h
@@ -112,21 +112,21 @@ module _ {X : Type 0} (f : X → Bool) where
   filter-left x e = rw e refl
 
 module _ (path : List ℕ) (a : Aim) (d : ℕ) (line : List Position) (p : Position) (m : Move) where
-  pub no-alternatives : (told : List Continuation) (text : List ℕ) → length told ≡ 0 → Grew (AreAlsoLines path a d line p m told 0) text text
+  pub no-alternatives : (told : List EvaluatedMove) (text : List ℕ) → length told ≡ 0 → Grew (AreAlsoLines path a d line p m told 0) text text
   no-alternatives [] text e = ([], ([], tt, refl, refl), sym (append-nil text))
   no-alternatives (x ∷ xs) text e = absurd (omega (arith, e))
 
   -- the only other move that holds
-  pub one-besides : (x : Continuation) (y : Alternative) (n : ℕ) (old new : List ℕ) → is_among x.played (m ∷ []) ≡ false
+  pub one-besides : (x : EvaluatedMove) (y : Alternative) (n : ℕ) (old new : List ℕ) → contains_move x.played (m ∷ []) ≡ false
       → holds a (d + 1) x.value ≡ true → y.played ≡ x.played → y.value ≡ x.value → IsTimeTold a.goal line (after p x.played) y.time
       → (if is_some y.time then 1 else 0) ≡ n → new ≡ old ++ also_line path p y → Grew (AreAlsoLines path a d line p m (x ∷ []) n) old new
   one-besides x y n old new e f h v t k grew =
-      let kept = filter-kept (λ z. not (is_among z.played (m ∷ [])) && holds a (d + 1) z.value) x
+      let kept = filter-kept (λ z. not (contains_move z.played (m ∷ [])) && holds a (d + 1) z.value) x
       (ap (λ b. not b && holds a (d + 1) x.value) e ∙ f) in (
         also_line path p y,
         (
           y ∷ [],
-          subst (λ (l : List Continuation). AreTimed a.goal line p l (y ∷ [])) (sym kept) (h, v, t, tt),
+          subst (λ (l : List EvaluatedMove). AreTimed a.goal line p l (y ∷ [])) (sym kept) (h, v, t, tt),
           sym k ∙ count (is_some y.time) refl,
           sym (append-nil (also_line path p y)),
         ),
@@ -137,18 +137,18 @@ module _ (path : List ℕ) (a : Aim) (d : ℕ) (line : List Position) (p : Posit
       count true e = rw e refl
       count false e = rw e refl
 
-  pub more-alternatives : (x : Continuation) (told rest : List Continuation) (n k : ℕ) (t0 t1 t2 : List ℕ) → told ≡ x ∷ rest
+  pub more-alternatives : (x : EvaluatedMove) (told rest : List EvaluatedMove) (n k : ℕ) (t0 t1 t2 : List ℕ) → told ≡ x ∷ rest
       → Grew (AreAlsoLines path a d line p m (x ∷ []) n) t0 t1 → Grew (AreAlsoLines path a d line p m rest k) t1 t2
       → Grew (AreAlsoLines path a d line p m told (n + k)) t0 t2
   more-alternatives x told rest n k t0 t1 t2 e h j =
       let ys = h.1.0 in
       let vs = j.1.0 in
       let list : besides a d (m ∷ []) told ≡ besides a d (m ∷ []) (x ∷ []) ++ besides a d (m ∷ []) rest =
-      ap (besides a d (m ∷ [])) e ∙ filter-more (λ y. not (is_among y.played (m ∷ [])) && holds a (d + 1) y.value) x rest in (
+      ap (besides a d (m ∷ [])) e ∙ filter-more (λ y. not (contains_move y.played (m ∷ [])) && holds a (d + 1) y.value) x rest in (
         h.0 ++ j.0,
         (
           ys ++ vs,
-          subst (λ (l : List Continuation). AreTimed a.goal line p l (ys ++ vs)) (sym list)
+          subst (λ (l : List EvaluatedMove). AreTimed a.goal line p l (ys ++ vs)) (sym list)
               (timed-append a.goal line p (besides a d (m ∷ []) (x ∷ [])) (besides a d (m ∷ []) rest) ys vs h.1.1 j.1.1),
           ap (λ i. i + k) h.1.2 ∙ ap (λ i. times_lost ys + i) j.1.2 ∙ sym (times-append ys vs),
           ap (λ (t : List ℕ). t ++ j.0) h.1.3 ∙ ap (λ (t : List ℕ). flat_map (also_line path p) ys ++ t) j.1.3
@@ -163,7 +163,7 @@ pub no-answers : (a : Aim) (d : ℕ) (q : Position) (ms : List Move) (y : Answer
 no-answers a d q [] y e n o = ([], ([], tt, refl), n, o)
 no-answers a d q (m ∷ ms) y e n o = absurd (omega (arith, e))
 
-only-more : (x : Continuation) (l : List Continuation) (n : ℕ) → n ≡ length l → (if n == 0 then Some x.played else None) ≡ the_only (x ∷ l)
+only-more : (x : EvaluatedMove) (l : List EvaluatedMove) (n : ℕ) → n ≡ length l → (if n == 0 then Some x.played else None) ≡ only_move (x ∷ l)
 only-more x [] n e = rw e refl
 only-more x (y ∷ l) n e = ap (λ b. if b then Some x.played else None) (not-zero n (λ z. absurd (omega (arith, e, z))))
 
@@ -171,12 +171,12 @@ pub answer-more : (a : Aim) (d : ℕ) (q : Position) (m : Move) (ms rest : List 
     → IsValueOf (after q m) v → holds a (d + 1) v ≡ true → AreAnswers a d q rest later → y.count ≡ later.count + 1
     → y.only ≡ (if later.count == 0 then Some m else None) → AreAnswers a d q ms y
 answer-more a d q m ms rest v later y e g h k n o =
-    let x : Continuation = record { played = m; value = v } in
+    let x : EvaluatedMove = record { played = m; value = v } in
     let list = k.0 in
-    let same : chosen (holds a (d + 1)) (m ∷ rest) (v ∷ k.1.0) ≡ x ∷ chosen (holds a (d + 1)) rest k.1.0 = rw h refl in
+    let same : wanted_moves (holds a (d + 1)) (m ∷ rest) (v ∷ k.1.0) ≡ x ∷ wanted_moves (holds a (d + 1)) rest k.1.0 = rw h refl in
     subst (λ (l : List Move). AreAnswers a d q l y) (sym e) (
       x ∷ list,
-      (v ∷ k.1.0, (g, k.1.1), ap (λ (l : List Continuation). x ∷ l) k.1.2 ∙ sym same),
+      (v ∷ k.1.0, (g, k.1.1), ap (λ (l : List EvaluatedMove). x ∷ l) k.1.2 ∙ sym same),
       (let c = k.2 in let z : y.count ≡ length (x ∷ list) = omega (arith, n, c) in z),
       o ∙ only-more x list later.count k.2,
     )
@@ -184,7 +184,7 @@ answer-more a d q m ms rest v later y e g h k n o =
 pub answer-same : (a : Aim) (d : ℕ) (q : Position) (m : Move) (ms rest : List Move) (v : Value) (later : Answers) → ms ≡ m ∷ rest
     → IsValueOf (after q m) v → holds a (d + 1) v ≡ false → AreAnswers a d q rest later → AreAnswers a d q ms later
 answer-same a d q m ms rest v later e g h k =
-    let same : chosen (holds a (d + 1)) (m ∷ rest) (v ∷ k.1.0) ≡ chosen (holds a (d + 1)) rest k.1.0 = rw h refl in
+    let same : wanted_moves (holds a (d + 1)) (m ∷ rest) (v ∷ k.1.0) ≡ wanted_moves (holds a (d + 1)) rest k.1.0 = rw h refl in
     subst (λ (l : List Move). AreAnswers a d q l later) (sym e)
     (k.0, (v ∷ k.1.0, (g, k.1.1), k.1.2 ∙ sym same), k.2, k.3)
 
@@ -192,33 +192,33 @@ answer-same a d q m ms rest v later e g h k =
 
 module _ (path : List ℕ) (a : Aim) (d : ℕ) (p : Position) (there : List Move) where
   -- one defence, with its line
-  abbrev pub OneDefence : Continuation → List ℕ → List ℕ → Type 0
+  abbrev pub OneDefence : EvaluatedMove → List ℕ → List ℕ → Type 0
   OneDefence x old new =
       (y : Defence) × (y.played ≡ x.played) × (y.value ≡ x.value) × IsAnswered a (d + 1) (after p x.played) y × (new ≡ old ++ missing_line path p y)
 
-  pub no-defences : (told : List Continuation) (text : List ℕ) → length told ≡ 0 → Grew (AreMissingLines path a d p there told) text text
+  pub no-defences : (told : List EvaluatedMove) (text : List ℕ) → length told ≡ 0 → Grew (AreMissingLines path a d p there told) text text
   no-defences [] text e = ([], ([], tt, refl), sym (append-nil text))
   no-defences (x ∷ xs) text e = absurd (omega (arith, e))
 
-  pub defence-there : (x : Continuation) (told rest : List Continuation) (old new : List ℕ) → told ≡ x ∷ rest → is_among x.played there ≡ true
+  pub defence-there : (x : EvaluatedMove) (told rest : List EvaluatedMove) (old new : List ℕ) → told ≡ x ∷ rest → contains_move x.played there ≡ true
       → Grew (AreMissingLines path a d p there rest) old new → Grew (AreMissingLines path a d p there told) old new
   defence-there x told rest old new e h k =
-      let left = filter-left (λ y. not (is_among y.played there)) x (ap not h) in
+      let left = filter-left (λ y. not (contains_move y.played there)) x (ap not h) in
       let list : apart there told ≡ apart there rest =
-      ap (apart there) e ∙ filter-more (λ y. not (is_among y.played there)) x rest ∙ ap (λ (l : List Continuation). l ++ apart there rest) left in
-      (k.0, (k.1.0, subst (λ (l : List Continuation). AreAnswered a d p l k.1.0) (sym list) k.1.1, k.1.2), k.2)
+      ap (apart there) e ∙ filter-more (λ y. not (contains_move y.played there)) x rest ∙ ap (λ (l : List EvaluatedMove). l ++ apart there rest) left in
+      (k.0, (k.1.0, subst (λ (l : List EvaluatedMove). AreAnswered a d p l k.1.0) (sym list) k.1.1, k.1.2), k.2)
 
-  pub defence-more : (x : Continuation) (told rest : List Continuation) (old mid new : List ℕ) → told ≡ x ∷ rest → is_among x.played there ≡ false
+  pub defence-more : (x : EvaluatedMove) (told rest : List EvaluatedMove) (old mid new : List ℕ) → told ≡ x ∷ rest → contains_move x.played there ≡ false
       → OneDefence x old mid → Grew (AreMissingLines path a d p there rest) mid new → Grew (AreMissingLines path a d p there told) old new
   defence-more x told rest old mid new e h o k =
       let y = o.0 in
-      let kept = filter-kept (λ z. not (is_among z.played there)) x (ap not h) in
+      let kept = filter-kept (λ z. not (contains_move z.played there)) x (ap not h) in
       let list : apart there told ≡ x ∷ apart there rest =
-      ap (apart there) e ∙ filter-more (λ z. not (is_among z.played there)) x rest ∙ ap (λ (l : List Continuation). l ++ apart there rest) kept in (
+      ap (apart there) e ∙ filter-more (λ z. not (contains_move z.played there)) x rest ∙ ap (λ (l : List EvaluatedMove). l ++ apart there rest) kept in (
         missing_line path p y ++ k.0,
         (
           y ∷ k.1.0,
-          subst (λ (l : List Continuation). AreAnswered a d p l (y ∷ k.1.0)) (sym list) (o.1, o.2, o.3, k.1.1),
+          subst (λ (l : List EvaluatedMove). AreAnswered a d p l (y ∷ k.1.0)) (sym list) (o.1, o.2, o.3, k.1.1),
           ap (λ (t : List ℕ). missing_line path p y ++ t) k.1.2,
         ),
         k.2 ∙ ap (λ (t : List ℕ). t ++ k.0) o.4 ∙ append_assoc old (missing_line path p y) k.0,

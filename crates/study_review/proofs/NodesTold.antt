@@ -18,20 +18,20 @@ use Rattle.study_marks.specs.Bench.{played_by}
 use Rattle.study_marks.specs.FaultSums.{below_at}
 use Rattle.study_marks.specs.Study.{Study, position_at}
 use Rattle.study_marks.specs.Goals.{aim_of, hero_moves, holds}
-use Rattle.study_facts.specs.declared.continuation.Continuation.{Continuation}
-use Rattle.study_facts.specs.declared.time.Alternative.{Alternative}
+use Rattle.study_facts.specs.declared.continuation.EvaluatedMove.{EvaluatedMove}
+use Rattle.study_facts.specs.declared.time_loss.Alternative.{Alternative}
 use Rattle.study_facts.specs.Continuations.{AreRefutations, AreChosen}
 use Rattle.study_facts.specs.Faults.{in_solution}
 use Rattle.study_facts.specs.Time.{AreTimedAlternatives}
 use Rattle.study_facts.specs.Defences.{AreDefences}
 use Rattle.study_facts.specs.Line.{line_to, moves_of}
 use Rattle.study_facts.specs.Words.{also_line, missing_line, keep_line, dual_line, mistake_line, times_lost}
-use Rattle.study_facts.specs.Nodes.{front_of, has_none, is_dual, is_try, is_defended, is_open_end, is_solution_move, mark_at, value_at}
+use Rattle.study_facts.specs.Nodes.{parent_path, is_leaf, is_dual, is_try, is_defended, is_open_end, is_solution_move, mark_at, value_at}
 use Rattle.study_facts.specs.Nodes.{refuted_text, AreAlso, AlsoLines, RefutedLines, MissingLines, IsEnd, EndLines, NodeLines, IsFaultOf, FaultLines}
 use Rattle.study_facts.specs.Made.{Grew, Rose}
 use Rattle.study_facts.specs.TimeFaults.{CountWhere, IsTimeFaultOf, IsTimeFault, all_lose_time}
-use Rattle.study_facts.specs.Stand.{IsNodeAt, IsStep}
-use Rattle.study_review.specs.Told.{AreAlsoLines, AreMissingLines, OwnLines, HereLines, besides, failing, drawing}
+use Rattle.study_facts.specs.WalkState.{IsNodeAt, IsStep}
+use Rattle.study_review.specs.NodeFacts.{AreAlsoLines, AreMissingLines, OwnLines, HereLines, besides, failing, drawing}
 use Rattle.study_facts.specs.declared.zugzwang.Zugzwang.{Zugzwang}
 use Rattle.study_facts.specs.Zugzwang.{IsZugzwangOf, zugzwang_line}
 use Rattle.study_facts.proofs.NodesShown.{are-there, not-there, none-counted}
@@ -43,20 +43,20 @@ module _ (s : Study Mark) (path : List ℕ) where
 
   module _ (a : Aim) (d : ℕ) (line : List Position) (p : Position) (m : Move) (h : IsStep s path a d line p m) where
     alternatives-at : (list : List Alternative) → AreTimedAlternatives a d line p m list
-        → AreTimedAlternatives (aim_of s) (length (front_of path)) (line_to s (front_of path)) (position_at s (front_of path)) m list
+        → AreTimedAlternatives (aim_of s) (length (parent_path path)) (line_to s (parent_path path)) (position_at s (parent_path path)) m list
     alternatives-at list k =
         let one = subst (λ (x : Aim). AreTimedAlternatives x d line p m list) h.before.aim k in
         let two = subst (λ n. AreTimedAlternatives (aim_of s) n line p m list) h.before.depth one in
-        let three = subst (λ (l : List Position). AreTimedAlternatives (aim_of s) (length (front_of path)) l p m list) h.line two in
-        subst (λ (q : Position). AreTimedAlternatives (aim_of s) (length (front_of path)) (line_to s (front_of path)) q m list) h.before.position three
+        let three = subst (λ (l : List Position). AreTimedAlternatives (aim_of s) (length (parent_path path)) l p m list) h.line two in
+        subst (λ (q : Position). AreTimedAlternatives (aim_of s) (length (parent_path path)) (line_to s (parent_path path)) q m list) h.before.position three
 
     -- the alternatives of a dual, among the evaluated moves
-    pub timed-told : (told : List Continuation) (n : ℕ) (text : List ℕ) → AreChosen (λ v. true) p (legal_list p) told
+    pub timed-told : (told : List EvaluatedMove) (n : ℕ) (text : List ℕ) → AreChosen (λ v. true) p (legal_list p) told
         → AreAlsoLines path a d line p m told n text
         → (list : List Alternative) × AreTimedAlternatives a d line p m list × (n ≡ times_lost list) × (text ≡ flat_map (also_line path p) list)
     timed-told told n text all k = (k.0, (_, besides-told a d p m told all, k.1), k.2, k.3)
 
-    pub also-told : (told : List Continuation) (n k : ℕ) (old new : List ℕ) → mark_at s path ≡ Some (Dual k)
+    pub also-told : (told : List EvaluatedMove) (n k : ℕ) (old new : List ℕ) → mark_at s path ≡ Some (Dual k)
         → AreChosen (λ v. true) p (legal_list p) told → Grew (AreAlsoLines path a d line p m told n) old new → Grew (AlsoLines s path) old new
     also-told told n k old new mark all grew =
         let x = timed-told told n grew.0 all grew.1 in
@@ -74,17 +74,17 @@ module _ (s : Study Mark) (path : List ℕ) where
         subst (λ (o : Option Move). MatchOption o (text ≡ []) (λ n. IsFaultOf s path n (mark_at s path) text)) (sym h.played)
         (subst (λ (o : Option MoveMark). IsFaultOf s path m o text) e k)
 
-    pub dual-told : (told : List Continuation) (n k : ℕ) (v : Value) (listed : Bool) (also old new : List ℕ)
+    pub dual-told : (told : List EvaluatedMove) (n k : ℕ) (v : Value) (listed : Bool) (also old new : List ℕ)
         → mark_at s path ≡ Some (Dual k) → v ≡ value_at s path → listed ≡ is_solution_move s path
         → AreChosen (λ w. true) p (legal_list p) told → AreAlsoLines path a d line p m told n also
         → new ≡ old ++ (if listed then dual_line path p m v k n else []) → Grew (FaultLines s path) old new
     dual-told told n k v true also old new mark value so all lines grew =
         let x = timed-told told n also all lines in
         let text = dual_line path p m v k n in
-        let same : text ≡ dual_line path (position_at s (front_of path)) m (value_at s path) k (times_lost x.0) =
+        let same : text ≡ dual_line path (position_at s (parent_path path)) m (value_at s path) k (times_lost x.0) =
         ap (λ (q : Position). dual_line path q m v k n) h.before.position
-        ∙ ap (λ (w : Value). dual_line path (position_at s (front_of path)) m w k n) value
-        ∙ ap (dual_line path (position_at s (front_of path)) m (value_at s path) k) x.2 in
+        ∙ ap (λ (w : Value). dual_line path (position_at s (parent_path path)) m w k n) value
+        ∙ ap (dual_line path (position_at s (parent_path path)) m (value_at s path) k) x.2 in
         are-there (is_solution_move s path) _ old new (sym so)
         (text, fault-of (Some (Dual k)) text (sym mark) (x.0, alternatives-at x.0 x.1, same), grew)
     dual-told told n k v false also old new mark value so all lines grew =
@@ -97,7 +97,7 @@ module _ (s : Study Mark) (path : List ℕ) where
         are-there (is_solution_move s path) _ old new so (
           text,
           fault-of (Some Mistake) text (sym mark)
-              (ap (λ (q : Position). mistake_line path q m v) h.before.position ∙ ap (mistake_line path (position_at s (front_of path)) m) value),
+              (ap (λ (q : Position). mistake_line path q m v) h.before.position ∙ ap (mistake_line path (position_at s (parent_path path)) m) value),
           grew,
         )
 
@@ -119,7 +119,7 @@ module _ (s : Study Mark) (path : List ℕ) where
         subst (λ b. CountWhere b (λ j. MatchOption (played_by (spot_at s.tree path)) (j ≡ 0) (λ i. IsTimeFaultOf s path i (mark_at s path) j)) 0)
         (sym e) refl
 
-    pub dual-timed : (told : List Continuation) (n others k : ℕ) (listed alone : Bool) (also : List ℕ) (old new : ℕ)
+    pub dual-timed : (told : List EvaluatedMove) (n others k : ℕ) (listed alone : Bool) (also : List ℕ) (old new : ℕ)
         → mark_at s path ≡ Some (Dual k) → listed ≡ is_solution_move s path → others ≡ length (besides a d (m ∷ []) told)
         → AreChosen (λ w. true) p (legal_list p) told → AreAlsoLines path a d line p m told n also
         → alone ≡ (listed && (n == others)) → (old + (if alone then 1 else 0) < 2 ^ 32 → new ≡ old + (if alone then 1 else 0))
@@ -192,7 +192,7 @@ module _ (s : Study Mark) (path : List ℕ) where
   )
 
   module _ (a : Aim) (d : ℕ) (p : Position) (h : IsNodeAt s path a d p) where
-    pub refuted-told : (told : List Continuation) (old new : List ℕ) → is_try s path ≡ true → AreChosen (λ v. true) p (legal_list p) told
+    pub refuted-told : (told : List EvaluatedMove) (old new : List ℕ) → is_try s path ≡ true → AreChosen (λ v. true) p (legal_list p) told
         → new ≡ old ++ refuted_text path p (failing a d told) → Grew (RefutedLines s path) old new
     refuted-told told old new is all grew =
         let list = failing a d told in
@@ -202,7 +202,7 @@ module _ (s : Study Mark) (path : List ℕ) where
         are-there (is_try s path) _ old new is
         (refuted_text path p list, (list, three, ap (λ (q : Position). refuted_text path q list) h.position), grew)
 
-    pub missing-told : (there : List Move) (told : List Continuation) (old new : List ℕ) → is_defended s path ≡ true
+    pub missing-told : (there : List Move) (told : List EvaluatedMove) (old new : List ℕ) → is_defended s path ≡ true
         → there ≡ moves_of (below_at s.tree.below path) → AreChosen (λ v. true) p (legal_list p) told
         → Grew (AreMissingLines path a d p there told) old new → Grew (MissingLines s path) old new
     missing-told there told old new is all chosen grew =
@@ -227,8 +227,8 @@ module _ (s : Study Mark) (path : List ℕ) where
         → ((children == 0) && not (n == 0)) ≡ is_open_end s path
     open-here children n e k =
         ap (λ b. b && not (n == 0)) (none-counted (below_at s.tree.below path) children (sym e))
-        ∙ ap (λ i. has_none (below_at s.tree.below path) && not (i == 0)) k
-        ∙ ap (λ (q : Position). has_none (below_at s.tree.below path) && not (length (legal_list q) == 0)) h.position
+        ∙ ap (λ i. is_leaf (below_at s.tree.below path) && not (i == 0)) k
+        ∙ ap (λ (q : Position). is_leaf (below_at s.tree.below path) && not (length (legal_list q) == 0)) h.position
 
     pub end-told : (v : Value) (old new : List ℕ) → is_open_end s path ≡ true → v ≡ value_at s path → Grew (IsEnd path p v) old new
         → Grew (EndLines s path) old new
@@ -271,7 +271,7 @@ module _ (s : Study Mark) (path : List ℕ) where
       )
 
 -- the moves that keep a draw
-pub keep-told : (path : List ℕ) (p : Position) (told : List Continuation) (v : Value) (old new : List ℕ) → v ≡ values.Draw
+pub keep-told : (path : List ℕ) (p : Position) (told : List EvaluatedMove) (v : Value) (old new : List ℕ) → v ≡ values.Draw
     → AreChosen (λ w. true) p (legal_list p) told → new ≡ old ++ keep_line path p (drawing told) → Grew (IsEnd path p v) old new
 keep-told path p told v old new e all grew =
     let text = keep_line path p (drawing told) in

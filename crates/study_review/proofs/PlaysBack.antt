@@ -4,12 +4,12 @@ use Rattle.study_board.specs.Position.{Position}
 use Rattle.study_moves.specs.declared.moves.Move.{Move}
 use Rattle.study_moves.specs.Rules.{after}
 use Rattle.study_marks.specs.Study.{position_after}
-use Rattle.study_facts.specs.Back.{IsNear, stands_in}
+use Rattle.study_facts.specs.Repetition.{IsNear, is_in_history}
 use Rattle.study_review.specs.Laws.{IsPlayAgainst, TimeLossIsForced}
 
 abbrev Reaches : (Position → Move) → List Position → ℕ → Position → Type 0
 Reaches answer line k q =
-    (play : List Move) × IsPlayAgainst answer q play × (length play ≤ k) × (stands_in line (position_after q play) ≡ true)
+    (play : List Move) × IsPlayAgainst answer q play × (length play ≤ k) × (is_in_history line (position_after q play) ≡ true)
 
 near-reached : (answer : Position → Move) (line : List Position) (k : ℕ) (q : Position) → 1 ≤ k → IsNear line q → Reaches answer line k q
 near-reached answer line k q few (inl here) = ([], tt, (let z : 0 ≤ k = omega arith in z), here)

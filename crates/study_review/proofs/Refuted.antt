@@ -16,7 +16,7 @@ use Rattle.study_marks.specs.declared.stipulation.Goal.{Goal}
 use Rattle.study_marks.specs.declared.stipulation.Goal.TheVariants.{Win, Draw, MateIn}
 use Rattle.study_marks.specs.Goals.{hero_moves, hero_mates, hero_loses, keeps_goal, plies_of, mates_by, holds}
 use Rattle.study_marks.specs.Annotated.{AreValuesAfter}
-use Rattle.study_facts.specs.Continuations.{chosen}
+use Rattle.study_facts.specs.Continuations.{wanted_moves}
 use Rattle.study_review.specs.Laws.{FailuresAreRefuted}
 
 -- the value after each of these moves is one of those
@@ -25,18 +25,18 @@ EachHas P q [] = Unit {0}
 EachHas P q (m ∷ ms) = ((w : Value) × IsValueOf (after q m) w × P w) × EachHas P q ms
 
 -- none was selected, so none is wanted
-none-wanted : (f : Value → Bool) (m : Move) (ms : List Move) (v : Value) (vs : List Value) → chosen (λ u. not (f u)) (m ∷ ms) (v ∷ vs) ≡ []
-    → (f v ≡ true) × (chosen (λ u. not (f u)) ms vs ≡ [])
+none-wanted : (f : Value → Bool) (m : Move) (ms : List Move) (v : Value) (vs : List Value) → wanted_moves (λ u. not (f u)) (m ∷ ms) (v ∷ vs) ≡ []
+    → (f v ≡ true) × (wanted_moves (λ u. not (f u)) ms vs ≡ [])
 none-wanted f m ms v vs e = go (f v) refl
   where
-    go : (b : Bool) → f v ≡ b → (f v ≡ true) × (chosen (λ u. not (f u)) ms vs ≡ [])
-    go true h = (h, (let k : chosen (λ u. not (f u)) (m ∷ ms) (v ∷ vs) ≡ chosen (λ u. not (f u)) ms vs = rw h refl in sym k ∙ e))
+    go : (b : Bool) → f v ≡ b → (f v ≡ true) × (wanted_moves (λ u. not (f u)) ms vs ≡ [])
+    go true h = (h, (let k : wanted_moves (λ u. not (f u)) (m ∷ ms) (v ∷ vs) ≡ wanted_moves (λ u. not (f u)) ms vs = rw h refl in sym k ∙ e))
     go false h =
-        let k : chosen (λ u. not (f u)) (m ∷ ms) (v ∷ vs) ≡ record { played = m; value = v } ∷ chosen (λ u. not (f u)) ms vs = rw h refl in
-        let n : length (record { played = m; value = v } ∷ chosen (λ u. not (f u)) ms vs) ≡ 0 = ap length (sym k ∙ e) in absurd (omega (arith, n))
+        let k : wanted_moves (λ u. not (f u)) (m ∷ ms) (v ∷ vs) ≡ record { played = m; value = v } ∷ wanted_moves (λ u. not (f u)) ms vs = rw h refl in
+        let n : length (record { played = m; value = v } ∷ wanted_moves (λ u. not (f u)) ms vs) ≡ 0 = ap length (sym k ∙ e) in absurd (omega (arith, n))
 
 each-has : (f : Value → Bool) (q : Position) (ms : List Move) (all : List Value) → AreValuesAfter q ms all
-    → chosen (λ u. not (f u)) ms all ≡ [] → EachHas (λ w. f w ≡ true) q ms
+    → wanted_moves (λ u. not (f u)) ms all ≡ [] → EachHas (λ w. f w ≡ true) q ms
 each-has f q [] [] h e = tt
 each-has f q [] (v ∷ vs) h e = absurd h
 each-has f q (m ∷ ms) [] h e = absurd h
@@ -167,7 +167,7 @@ next-turn first d e = go (d % 2) refl first e
 pub failures-refuted : EachForcesMateSoundly → ((p : Position) (m : Move) → IsValid p → Contains (legal_list p) m ↔ IsLegal p m) → FailuresAreRefuted
 failures-refuted sound exact a d q v list valid turn game lost some refs none =
     let next : hero_moves a (d + 1) ≡ true = next-turn a.hero_first d turn in
-    let empty : chosen (λ w. not (holds a (d + 1) w)) (legal_list q) refs.0 ≡ [] = sym refs.2 ∙ none in
+    let empty : wanted_moves (λ w. not (holds a (d + 1) w)) (legal_list q) refs.0 ≡ [] = sym refs.2 ∙ none in
     let each = each-has (holds a (d + 1)) q (legal_list q) refs.0 refs.1 empty in
     refuted sound q (λ m. exact q m valid) some a.goal a.hero_first d v game
     (ap (λ b. keeps_goal a.goal a.hero_first d b v) (sym turn) ∙ lost)

@@ -18,10 +18,10 @@ use Rattle.study_marks.specs.Study.{Study, position_at}
 use Rattle.study_marks.specs.Goals.{aim_of, hero_moves}
 use Rattle.study_marks.specs.Marks.{is_fault, own_faults, faults_in}
 use Rattle.study_marks.proofs.PathWalks.{spot_last, below_entered}
-use Rattle.study_facts.specs.declared.time.Alternative.{Alternative}
+use Rattle.study_facts.specs.declared.time_loss.Alternative.{Alternative}
 use Rattle.study_facts.specs.Faults.{in_solution}
 use Rattle.study_facts.specs.Line.{line_to}
-use Rattle.study_facts.specs.Nodes.{front_of, hero_made, is_dual, mark_at, is_solution_move}
+use Rattle.study_facts.specs.Nodes.{parent_path, is_hero_move, is_dual, mark_at, is_solution_move}
 use Rattle.study_facts.specs.Order.{paths_from, SumOfEach, written_order}
 use Rattle.study_facts.specs.Time.{AreTimedAlternatives}
 use Rattle.study_facts.specs.TimeFaults.{CountWhere, IsTimeFaultOf, IsTimeFault, all_lose_time}
@@ -43,7 +43,7 @@ module _ (law : EachHasAtMostOneValue) (s : Study Mark) where
   abbrev AtNode : List ℕ → Bool → Option MoveMark → Type 0
   AtNode path b o = (m : Move) → played_by (spot_at s.tree path) ≡ Some m → (b && has_fault o) ≡ true
       → (is_dual o ≡ true) × ((list : List Alternative)
-      → AreTimedAlternatives (aim_of s) (length (front_of path)) (line_to s (front_of path)) (position_at s (front_of path)) m list
+      → AreTimedAlternatives (aim_of s) (length (parent_path path)) (line_to s (parent_path path)) (position_at s (parent_path path)) m list
       → all_lose_time list ≡ true)
 
   no-fault-there : (path : List ℕ) (b : Bool) (o : Option MoveMark) → has_fault o ≡ false → AtNode path b o
@@ -66,9 +66,9 @@ module _ (law : EachHasAtMostOneValue) (s : Study Mark) where
                 refl,
                 λ list alt.
                     let move : m ≡ j = let both : Some m ≡ Some j = sym p ∙ q in cc in
-                    let other = subst (λ x. AreTimedAlternatives (aim_of s) (length (front_of path)) (line_to s (front_of path)) (position_at s (front_of path)) x list)
+                    let other = subst (λ x. AreTimedAlternatives (aim_of s) (length (parent_path path)) (line_to s (parent_path path)) (position_at s (parent_path path)) x list)
                     (sym move) alt in
-                    ap all_lose_time (one-alternatives law (aim_of s) (length (front_of path)) (line_to s (front_of path)) (position_at s (front_of path)) m
+                    ap all_lose_time (one-alternatives law (aim_of s) (length (parent_path path)) (line_to s (parent_path path)) (position_at s (parent_path path)) m
                     list h.0 other h.1) ∙ e,
               )),
               (λ so. one),
@@ -158,7 +158,7 @@ module _ (law : EachHasAtMostOneValue) (s : Study Mark) where
       (ap (λ f. node_in f 0 []) h, ap (λ f. skipped 1 f) h)
   here-at (more n y c t) (suc k) m x b r e = here-at t k m x b r e
 
-  made-last : (a : Aim) (path : List ℕ) (k : ℕ) → hero_made a (path ++ k ∷ []) ≡ hero_moves a (length path)
+  made-last : (a : Aim) (path : List ℕ) (k : ℕ) → is_hero_move a (path ++ k ∷ []) ≡ hero_moves a (length path)
   made-last a [] k = refl
   made-last a (j ∷ js) k = ap (hero_moves a) (let n = length-append js (k ∷ []) in let z : length (js ++ k ∷ []) ≡ length (j ∷ js) = omega (arith, n) in z)
 
@@ -176,7 +176,7 @@ module _ (law : EachHasAtMostOneValue) (s : Study Mark) where
 
   -- no fault of the solution is below a node outside it
   outside-weight : (path : List ℕ) → in_solution (aim_of s) 0 path ≡ false → weight path ≡ 0
-  outside-weight path e = go (hero_made (aim_of s) path) (in_solution (aim_of s) 0 path) e
+  outside-weight path e = go (is_hero_move (aim_of s) path) (in_solution (aim_of s) 0 path) e
     where
       go : (a b : Bool) → b ≡ false → ◌≡◌ {A = ℕ} (if (a && b) && has_fault (mark_at s path) then 1 else 0) 0
       go true b e = ap (λ c. if c && has_fault (mark_at s path) then 1 else 0) e
@@ -222,7 +222,7 @@ module _ (law : EachHasAtMostOneValue) (s : Study Mark) where
   own-weight : (path : List ℕ) (k d : ℕ) (x : Mark) → d ≡ length path → mark_at s (path ++ k ∷ []) ≡ x.on_move
       → in_solution (aim_of s) 0 (path ++ k ∷ []) ≡ true → weight (path ++ k ∷ []) ≡ own_faults (hero_moves (aim_of s) d) x.on_move
   own-weight path k d x depth mark on =
-      let made : hero_made (aim_of s) (path ++ k ∷ []) ≡ hero_moves (aim_of s) d =
+      let made : is_hero_move (aim_of s) (path ++ k ∷ []) ≡ hero_moves (aim_of s) d =
       made-last (aim_of s) path k ∙ ap (hero_moves (aim_of s)) (sym depth) in
       ap (λ b. if (b && in_solution (aim_of s) 0 (path ++ k ∷ [])) && has_fault (mark_at s (path ++ k ∷ [])) then 1 else 0) made
       ∙ ap (λ b. if (hero_moves (aim_of s) d && b) && has_fault (mark_at s (path ++ k ∷ [])) then 1 else 0) on

@@ -10,52 +10,52 @@ use Rattle.study_values.specs.Game.{IsValueOf}
 use Rattle.study_marks.specs.declared.mark_rules.Aim.{Aim}
 use Rattle.study_marks.specs.Goals.{holds}
 use Rattle.study_marks.specs.Annotated.{AreValuesAfter}
-use Rattle.study_facts.specs.declared.continuation.Continuation.{Continuation}
-use Rattle.study_facts.specs.Continuations.{chosen, is_among, is_draw, AreChosen, AreRefutations, AreDrawingMoves, AreMissing, AreAlternatives}
-use Rattle.study_review.specs.Told.{AreTold, failing, drawing, apart, besides}
+use Rattle.study_facts.specs.declared.continuation.EvaluatedMove.{EvaluatedMove}
+use Rattle.study_facts.specs.Continuations.{wanted_moves, contains_move, is_draw, AreChosen, AreRefutations, AreDrawingMoves, AreMissing, AreAlternatives}
+use Rattle.study_review.specs.NodeFacts.{AreTold, failing, drawing, apart, besides}
 use Rattle.study_facts.proofs.Chosen.{one-added}
 
 -- one more move is written
-pub told-one : {T E : Type 0} (p : Position) (m : Move) (ms rest : List Move) (old mid new : List Continuation) (r : Result T E) → ms ≡ m ∷ rest
+pub told-one : {T E : Type 0} (p : Position) (m : Move) (ms rest : List Move) (old mid new : List EvaluatedMove) (r : Result T E) → ms ≡ m ∷ rest
     → ((v : Value) × IsValueOf (after p m) v × (mid ≡ old ++ (record { played = m; value = v }) ∷ []))
     → OnOk r (AreTold p rest mid new) → OnOk r (AreTold p ms old new)
 told-one p m ms rest old mid new r e h k = one-added (λ v. true) p m ms rest h.0 old mid new r e h.1 h.2 k
 
 -- all legal moves are evaluated
-pub told-all : {T E : Type 0} (p : Position) (ms : List Move) (old new : List Continuation) (r : Result T E) → ms ≡ legal_list p → old ≡ []
+pub told-all : {T E : Type 0} (p : Position) (ms : List Move) (old new : List EvaluatedMove) (r : Result T E) → ms ≡ legal_list p → old ≡ []
     → OnOk r (AreTold p ms old new) → OnOk r (AreChosen (λ v. true) p (legal_list p) new)
 told-all p ms old new (Err x) e n h = tt
 told-all p ms old new (Ok x) e n h =
-    (h.0, subst (λ (l : List Move). AreValuesAfter p l h.0) e h.1, h.2 ∙ ap (λ (u : List Continuation). u ++ chosen (λ v. true) ms h.0) n ∙ ap (λ (l : List Move). chosen (λ v. true) l h.0) e)
+    (h.0, subst (λ (l : List Move). AreValuesAfter p l h.0) e h.1, h.2 ∙ ap (λ (u : List EvaluatedMove). u ++ wanted_moves (λ v. true) ms h.0) n ∙ ap (λ (l : List Move). wanted_moves (λ v. true) l h.0) e)
 
 -- ---- some of them
 
-some-kept : (f : Value → Bool) (ms : List Move) (vs : List Value) → filter (λ x. f x.value) (chosen (λ v. true) ms vs) ≡ chosen f ms vs
+some-kept : (f : Value → Bool) (ms : List Move) (vs : List Value) → filter (λ x. f x.value) (wanted_moves (λ v. true) ms vs) ≡ wanted_moves f ms vs
 some-kept f [] vs = refl
 some-kept f (m ∷ ms) [] = refl
 some-kept f (m ∷ ms) (v ∷ vs) = go (some-kept f ms vs) (f v) refl
   where
-    go : filter (λ x. f x.value) (chosen (λ w. true) ms vs) ≡ chosen f ms vs → (b : Bool) → f v ≡ b
-        → filter (λ x. f x.value) (chosen (λ w. true) (m ∷ ms) (v ∷ vs)) ≡ chosen f (m ∷ ms) (v ∷ vs)
-    go h true e = rw e (ap (λ (l : List Continuation). record { played = m; value = v } ∷ l) h)
+    go : filter (λ x. f x.value) (wanted_moves (λ w. true) ms vs) ≡ wanted_moves f ms vs → (b : Bool) → f v ≡ b
+        → filter (λ x. f x.value) (wanted_moves (λ w. true) (m ∷ ms) (v ∷ vs)) ≡ wanted_moves f (m ∷ ms) (v ∷ vs)
+    go h true e = rw e (ap (λ (l : List EvaluatedMove). record { played = m; value = v } ∷ l) h)
     go h false e = rw e h
 
-some-told : (f : Value → Bool) (p : Position) (ms : List Move) (list : List Continuation) → AreChosen (λ v. true) p ms list
+some-told : (f : Value → Bool) (p : Position) (ms : List Move) (list : List EvaluatedMove) → AreChosen (λ v. true) p ms list
     → AreChosen f p ms (filter (λ x. f x.value) list)
-some-told f p ms list h = (h.0, h.1, ap (λ (l : List Continuation). filter (λ x. f x.value) l) h.2 ∙ some-kept f ms h.0)
+some-told f p ms list h = (h.0, h.1, ap (λ (l : List EvaluatedMove). filter (λ x. f x.value) l) h.2 ∙ some-kept f ms h.0)
 
-pub failing-told : (a : Aim) (d : ℕ) (p : Position) (list : List Continuation) → AreChosen (λ v. true) p (legal_list p) list
+pub failing-told : (a : Aim) (d : ℕ) (p : Position) (list : List EvaluatedMove) → AreChosen (λ v. true) p (legal_list p) list
     → AreRefutations a d p (failing a d list)
 failing-told a d p list h = some-told (λ v. not (holds a (d + 1) v)) p (legal_list p) list h
 
-pub drawing-told : (p : Position) (list : List Continuation) → AreChosen (λ v. true) p (legal_list p) list → AreDrawingMoves p (drawing list)
+pub drawing-told : (p : Position) (list : List EvaluatedMove) → AreChosen (λ v. true) p (legal_list p) list → AreDrawingMoves p (drawing list)
 drawing-told p list h = some-told is_draw p (legal_list p) list h
 
 -- ---- the moves that are not in the list
 
-module _ (p : Position) (g : Move → Bool) (f : Value → Bool) (h : Continuation → Bool) (same : (x : Continuation) → h x ≡ (g x.played && f x.value)) where
+module _ (p : Position) (g : Move → Bool) (f : Value → Bool) (h : EvaluatedMove → Bool) (same : (x : EvaluatedMove) → h x ≡ (g x.played && f x.value)) where
   abbrev IsPicked : List Move → List Value → Type 0
-  IsPicked ms vs = (ws : List Value) × AreValuesAfter p (filter g ms) ws × (filter h (chosen (λ v. true) ms vs) ≡ chosen f (filter g ms) ws)
+  IsPicked ms vs = (ws : List Value) × AreValuesAfter p (filter g ms) ws × (filter h (wanted_moves (λ v. true) ms vs) ≡ wanted_moves f (filter g ms) ws)
 
   picked : (ms : List Move) (vs : List Value) → AreValuesAfter p ms vs → IsPicked ms vs
   picked [] [] k = ([], tt, refl)
@@ -63,13 +63,13 @@ module _ (p : Position) (g : Move → Bool) (f : Value → Bool) (h : Continuati
   picked (m ∷ ms) [] k = absurd k
   picked (m ∷ ms) (v ∷ vs) k = go (picked ms vs k.1) (g m) (f v) refl refl
     where
-      x : Continuation
+      x : EvaluatedMove
       x = record { played = m; value = v }
 
       go : IsPicked ms vs → (b c : Bool) → g m ≡ b → f v ≡ c → IsPicked (m ∷ ms) (v ∷ vs)
       go rest true true e i =
           let y : h x ≡ true = same x ∙ ap (λ b. b && f v) e ∙ i in
-          rw e rw y (v ∷ rest.0, (k.0, rest.1), (rw i (ap (λ (l : List Continuation). x ∷ l) rest.2)))
+          rw e rw y (v ∷ rest.0, (k.0, rest.1), (rw i (ap (λ (l : List EvaluatedMove). x ∷ l) rest.2)))
       go rest true false e i =
           let y : h x ≡ false = same x ∙ ap (λ b. b && f v) e ∙ i in
           rw e rw y (v ∷ rest.0, (k.0, rest.1), (rw i rest.2))
@@ -77,21 +77,21 @@ module _ (p : Position) (g : Move → Bool) (f : Value → Bool) (h : Continuati
           let y : h x ≡ false = same x ∙ ap (λ b. b && f v) e in
           rw e rw y (rest.0, rest.1, rest.2)
 
-  pub picked-told : (ms : List Move) (list : List Continuation) → AreChosen (λ v. true) p ms list → AreChosen f p (filter g ms) (filter h list)
+  pub picked-told : (ms : List Move) (list : List EvaluatedMove) → AreChosen (λ v. true) p ms list → AreChosen f p (filter g ms) (filter h list)
   picked-told ms list k =
       let r = picked ms k.0 k.1 in
-      (r.0, r.1, ap (λ (l : List Continuation). filter h l) k.2 ∙ r.2)
+      (r.0, r.1, ap (λ (l : List EvaluatedMove). filter h l) k.2 ∙ r.2)
 
 and-true : (b : Bool) → b ≡ (b && true)
 and-true true = refl
 and-true false = refl
 
-pub apart-told : (p : Position) (there : List Move) (list : List Continuation) → AreChosen (λ v. true) p (legal_list p) list
+pub apart-told : (p : Position) (there : List Move) (list : List EvaluatedMove) → AreChosen (λ v. true) p (legal_list p) list
     → AreMissing p there (apart there list)
 apart-told p there list k =
-    picked-told p (λ m. not (is_among m there)) (λ v. true) (λ x. not (is_among x.played there)) (λ x. and-true (not (is_among x.played there))) (legal_list p) list k
+    picked-told p (λ m. not (contains_move m there)) (λ v. true) (λ x. not (contains_move x.played there)) (λ x. and-true (not (contains_move x.played there))) (legal_list p) list k
 
-pub besides-told : (a : Aim) (d : ℕ) (p : Position) (m : Move) (list : List Continuation) → AreChosen (λ v. true) p (legal_list p) list
+pub besides-told : (a : Aim) (d : ℕ) (p : Position) (m : Move) (list : List EvaluatedMove) → AreChosen (λ v. true) p (legal_list p) list
     → AreAlternatives a d p m (besides a d (m ∷ []) list)
 besides-told a d p m list k =
-    picked-told p (λ n. not (is_among n (m ∷ []))) (holds a (d + 1)) (λ x. not (is_among x.played (m ∷ [])) && holds a (d + 1) x.value) (λ x. refl) (legal_list p) list k
+    picked-told p (λ n. not (contains_move n (m ∷ []))) (holds a (d + 1)) (λ x. not (contains_move x.played (m ∷ [])) && holds a (d + 1) x.value) (λ x. refl) (legal_list p) list k

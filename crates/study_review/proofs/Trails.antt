@@ -2,9 +2,9 @@
 use Rattle.std.proofs.Common.{◌≡◌, ◌<◌, ℕ, List, [], ◌∷◌, ◌++◌, length, refl, sym, ap, subst, ◌∙◌, arith, length-append}
 use Rattle.study_marks.specs.declared.mark.Mark.{Mark}
 use Rattle.study_marks.specs.Study.{Study}
-use Rattle.study_facts.specs.declared.stand.Stand.{Stand}
-use Rattle.study_facts.specs.Nodes.{front_of}
-use Rattle.study_facts.specs.Stand.{IsStand}
+use Rattle.study_facts.specs.declared.walk_state.WalkState.{WalkState}
+use Rattle.study_facts.specs.Nodes.{parent_path}
+use Rattle.study_facts.specs.WalkState.{IsStand}
 use Rattle.study_facts.proofs.NodesShown.{front-is}
 use Rattle.study_review.specs.Trail.{IsAt}
 
@@ -19,20 +19,20 @@ last-pushed d x (y ∷ ys) = last-pushed y x ys
 last-same : {X : Type 0} (xs ys : List X) (x y : X) → xs ++ x ∷ [] ≡ ys ++ y ∷ [] → x ≡ y
 last-same xs ys x y e = sym (last-pushed x x xs) ∙ ap (last_or x) e ∙ last-pushed x y ys
 
-module _ (s : Study Mark) (path : List ℕ) (stands : List Stand) (here : IsAt s path stands) where
+module _ (s : Study Mark) (path : List ℕ) (stands : List WalkState) (here : IsAt s path stands) where
   pub at-some : 0 < length stands
   at-some =
       let n = length-append here.0 (here.1.0 ∷ []) in
       let same = ap length here.1.2 in omega (arith, n, same)
 
-  module _ (x : Stand) (last : (front : List Stand) × (stands ≡ front ++ x ∷ [])) where
+  module _ (x : WalkState) (last : (front : List WalkState) × (stands ≡ front ++ x ∷ [])) where
     pub at-last : IsStand s path x
     at-last = subst (IsStand s path) (last-same here.0 last.0 here.1.0 x (sym here.1.2 ∙ last.1)) here.1.1
 
     -- the walk state before the last move of a path
-    pub at-front : (steps : List ℕ) (k : ℕ) → steps ≡ path ++ k ∷ [] → IsStand s (front_of steps) x
+    pub at-front : (steps : List ℕ) (k : ℕ) → steps ≡ path ++ k ∷ [] → IsStand s (parent_path steps) x
     at-front steps k e = subst (λ (u : List ℕ). IsStand s u x) (front-is steps path k e) at-last
 
 -- the walk begins at the root
-pub root-stands : (s : Study Mark) (path : List ℕ) (stands : List Stand) (x : Stand) → path ≡ [] → stands ≡ x ∷ [] → IsStand s [] x → IsAt s path stands
+pub root-stands : (s : Study Mark) (path : List ℕ) (stands : List WalkState) (x : WalkState) → path ≡ [] → stands ≡ x ∷ [] → IsStand s [] x → IsAt s path stands
 root-stands s path stands x none one is = ([], (x, subst (λ (u : List ℕ). IsStand s u x) (sym none) is, one))

@@ -11,7 +11,7 @@ use Rattle.study_facts.specs.Nodes.{AlsoLines, FaultLines, NodeLines, is_dual, m
 use Rattle.study_notation.specs.FenSpelling.{fen_text}
 use Rattle.study_review.specs.Review.{study_line, stipulation_line, empty_line, waste_line, IsReview, BeginsReview}
 use Rattle.study_facts.specs.Order.{paths_from, LinesOfEach, AreTimeFaults, written_order}
-use Rattle.study_review.specs.Told.{HereLines}
+use Rattle.study_review.specs.NodeFacts.{HereLines}
 use Rattle.study_facts.proofs.NodesShown.{are-there, not-there}
 use Rattle.study_review.proofs.NodesTold.{node-told}
 use Rattle.study_facts.proofs.WrittenOrder.{both-written}

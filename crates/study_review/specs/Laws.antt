@@ -17,13 +17,13 @@ use Rattle.study_marks.specs.Study.{Study, position_after, position_at}
 use Rattle.study_tree.specs.Tree.{spot_at}
 use Rattle.study_marks.specs.Goals.{aim_of, hero_moves, holds}
 use Rattle.study_marks.specs.Annotated.{IsMoveMark, IsAnnotated}
-use Rattle.study_facts.specs.declared.continuation.Continuation.{Continuation}
+use Rattle.study_facts.specs.declared.continuation.EvaluatedMove.{EvaluatedMove}
 use Rattle.study_facts.specs.Continuations.{AreAlternatives, AreRefutations}
-use Rattle.study_facts.specs.Back.{HasLost, Wins, IsBack, stands_in}
-use Rattle.study_facts.specs.declared.time.Alternative.{Alternative}
+use Rattle.study_facts.specs.Repetition.{HasLost, Wins, IsRepeatableWithin, is_in_history}
+use Rattle.study_facts.specs.declared.time_loss.Alternative.{Alternative}
 use Rattle.study_facts.specs.Time.{AreTimedAlternatives}
 use Rattle.study_facts.specs.Line.{line_to}
-use Rattle.study_facts.specs.Nodes.{front_of, is_dual, mark_at, is_solution_move}
+use Rattle.study_facts.specs.Nodes.{parent_path, is_dual, mark_at, is_solution_move}
 use Rattle.study_facts.specs.TimeFaults.{all_lose_time}
 use Rattle.study_facts.specs.Order.{AreTimeFaults, written_order}
 
@@ -35,14 +35,14 @@ WonPositionsHold = (a : Aim) (d : ℕ) (p : Position) (v : Value) → a.goal ≡
 -- a move that is marked as a dual with k others has k alternatives, and an only move has none
 abbrev pub AlternativesAreCounted : Type 0
 AlternativesAreCounted =
-    (a : Aim) (d : ℕ) (p : Position) (m : Move) (v w : Value) (mark : MoveMark) (list : List Continuation) → IsValid p
+    (a : Aim) (d : ℕ) (p : Position) (m : Move) (v w : Value) (mark : MoveMark) (list : List EvaluatedMove) → IsValid p
     → IsLegal p m → IsValueOf (after p m) w → IsMoveMark a d p v w mark → AreAlternatives a d p m list
     → ((k : ℕ) → mark ≡ Dual k → length list ≡ k) × (mark ≡ Only → length list ≡ 0)
 
 -- if the opponent is to move in a position that does not hold, and has a legal move, some move refutes
 abbrev pub FailuresAreRefuted : Type 0
 FailuresAreRefuted =
-    (a : Aim) (d : ℕ) (q : Position) (v : Value) (list : List Continuation) → IsValid q → hero_moves a d ≡ false
+    (a : Aim) (d : ℕ) (q : Position) (v : Value) (list : List EvaluatedMove) → IsValid q → hero_moves a d ≡ false
     → IsValueOf q v → holds a d v ≡ false → ((m : Move) × IsLegal q m) → AreRefutations a d q list → ¬ (list ≡ [])
 
 -- A hero who answers by this rule whenever some move wins, and then by a winning move.
@@ -60,8 +60,8 @@ IsPlayAgainst answer q (n ∷ h ∷ rest) =
 -- rule the hero answers with winning moves
 abbrev pub TimeLossIsForced : Type 0
 TimeLossIsForced =
-    (line : List Position) (m : ℕ) (q : Position) (answer : Position → Move) → IsBack line m q → AnswersByWins answer
-    → (play : List Move) × IsPlayAgainst answer q play × (length play ≤ 2 * m + 1) × (stands_in line (position_after q play) ≡ true)
+    (line : List Position) (m : ℕ) (q : Position) (answer : Position → Move) → IsRepeatableWithin line m q → AnswersByWins answer
+    → (play : List Move) × IsPlayAgainst answer q play × (length play ≤ 2 * m + 1) × (is_in_history line (position_after q play) ≡ true)
 
 -- a dual, or a mistake
 abbrev pub has_fault : Option MoveMark → Bool
@@ -76,7 +76,7 @@ abbrev pub LosesTimeAlone : Study Mark → List ℕ → Move → Type 0
 LosesTimeAlone s path m =
     (is_dual (mark_at s path) ≡ true)
     × ((list : List Alternative)
-    → AreTimedAlternatives (aim_of s) (length (front_of path)) (line_to s (front_of path)) (position_at s (front_of path)) m list
+    → AreTimedAlternatives (aim_of s) (length (parent_path path)) (line_to s (parent_path path)) (position_at s (parent_path path)) m list
     → all_lose_time list ≡ true)
 
 -- if the move to the node is a fault of the solution, it loses time alone

@@ -1,4 +1,4 @@
 pub mod Review
-pub mod Told
+pub mod NodeFacts
 pub mod Laws
 pub mod Trail

@@ -3,14 +3,14 @@
 //! `write_review` writes them in one walk. Values are probed when they are needed, and kept for the lines of one node.
 #![tactic(auto)]
 
-mod answers;
-mod draft;
-mod ends;
+mod best_play_lines;
+mod defence_lines;
+mod fault_lines;
 mod laws;
 mod lines;
-mod moves;
-mod nodes;
-mod told;
+mod node_lines;
+mod probe;
+mod review_lines;
 mod walk;
 mod writing;
 

@@ -7,12 +7,13 @@ ghost use Rattle.study_facts.specs.Words.{told_move, time_words, also_line, refu
 ghost use Rattle.study_facts.specs.Words.{only_words, none_words, answers_words, missing_line, play_words, play_line};
 ghost use Rattle.study_facts.specs.Words.{move_words, keep_line, dual_line, mistake_line};
 ghost use Rattle.study_moves.specs.LegalList.{legal_list};
-ghost use Rattle.study_review.specs.Told.{failing, drawing};
+ghost use Rattle.study_review.specs.NodeFacts.{failing, drawing};
 
 use std::alloc::{AllocError, Allocator};
 use study_board::Position;
 use study_facts::{
-    Alternative, Continuation, Defence, Node, add_counted, add_front, add_move, add_value, is_draw,
+    Alternative, Defence, EvaluatedMove, NodeContext, add_counted, add_line_start, add_move,
+    add_value, is_draw,
 };
 use study_marks::holds;
 use study_moves::{Move, played};
@@ -56,7 +57,7 @@ pub fn add_also_line<A: Allocator>(
     requires { is_legal p.now x.now.played ≡ true }
     ensures { OnOk result (text.new ≡ text.old ++ also_line steps.now p.now x.now) }
 {
-    add_front(text, b"also ", steps)?;
+    add_line_start(text, b"also ", steps)?;
     add_told(text, p, x.played, x.value)?;
     add_time(text, x.time)?;
     text.add(b"\n")
@@ -67,12 +68,12 @@ fn add_refuted_line<A: Allocator>(
     text: &mut Text<'_, A>,
     steps: &[u16],
     p: &Position,
-    x: &Continuation,
+    x: &EvaluatedMove,
 ) -> Result<(), AllocError>
     requires { is_legal p.now x.now.played ≡ true }
     ensures { OnOk result (text.new ≡ text.old ++ refuted_line steps.now p.now x.now) }
 {
-    add_front(text, b"refuted ", steps)?;
+    add_line_start(text, b"refuted ", steps)?;
     add_told(text, p, x.played, x.value)?;
     text.add(b"\n")
 }
@@ -81,8 +82,8 @@ fn add_refuted_line<A: Allocator>(
 pub fn add_refuted_lines<A: Allocator>(
     text: &mut Text<'_, A>,
     steps: &[u16],
-    node: &Node<'_>,
-    told: &[Continuation],
+    node: &NodeContext<'_>,
+    told: &[EvaluatedMove],
 ) -> Result<(), AllocError>
     requires depth { node.now.depth + 1 < 2 ^ 64 }
     requires legal { All (λ x. is_legal node.now.position.now x.played ≡ true) told.now }
@@ -102,7 +103,7 @@ pub fn add_refuted_lines<A: Allocator>(
 pub fn add_stalemate<A: Allocator>(text: &mut Text<'_, A>, steps: &[u16]) -> Result<(), AllocError>
     ensures { OnOk result (text.new ≡ text.old ++ stalemate_line steps.now) }
 {
-    add_front(text, b"refuted ", steps)?;
+    add_line_start(text, b"refuted ", steps)?;
     text.add(b"stalemate\n")
 }
 
@@ -160,7 +161,7 @@ pub fn add_missing_line<A: Allocator>(
     ensures { OnOk result (text.new ≡ text.old ++ missing_line steps.now p.now y.now) }
 {
     let next = played(p, y.played);
-    add_front(text, b"missing ", steps)?;
+    add_line_start(text, b"missing ", steps)?;
     add_told(text, p, y.played, y.value)?;
     add_answers(text, &next, y.answers, y.only)?;
     text.add(b"\n")
@@ -169,7 +170,7 @@ pub fn add_missing_line<A: Allocator>(
 fn add_moves<A: Allocator>(
     text: &mut Text<'_, A>,
     p: &Position,
-    list: &[Continuation],
+    list: &[EvaluatedMove],
 ) -> Result<(), AllocError>
     requires { ArePlayed p.now list.now }
     ensures { OnOk result (text.new ≡ text.old ++ play_words p.now list.now) }
@@ -192,12 +193,12 @@ pub fn add_play<A: Allocator>(
     steps: &[u16],
     p: &Position,
     value: Value,
-    list: &[Continuation],
+    list: &[EvaluatedMove],
 ) -> Result<(), AllocError>
     requires { ArePlayed p.now list.now }
     ensures { OnOk result (text.new ≡ text.old ++ play_line steps.now p.now value list.now) }
 {
-    add_front(text, b"play ", steps)?;
+    add_line_start(text, b"play ", steps)?;
     add_value(text, value)?;
     add_moves(text, p, list)?;
     text.add(b"\n")
@@ -207,7 +208,7 @@ pub fn add_play<A: Allocator>(
 fn add_drawing_moves<A: Allocator>(
     text: &mut Text<'_, A>,
     p: &Position,
-    told: &[Continuation],
+    told: &[EvaluatedMove],
 ) -> Result<(), AllocError>
     requires { All (λ x. is_legal p.now x.played ≡ true) told.now }
     ensures { OnOk result (text.new ≡ text.old ++ flat_map (move_words p.now) (drawing told.now)) }
@@ -221,7 +222,7 @@ fn add_drawing_moves<A: Allocator>(
 }
 
 /// The number of these moves that keep a draw.
-fn count_drawing(told: &[Continuation]) -> u32
+fn count_drawing(told: &[EvaluatedMove]) -> u32
     requires { length told.now < 2 ^ 32 }
     ensures count { result ≡ length (drawing told.now) }
     ensures few { result ≤ length told.now }
@@ -234,18 +235,18 @@ fn count_drawing(told: &[Continuation]) -> u32
 
 /// The line of the moves that keep a draw, among all legal moves.
 #[tactic(auto, unfolding(study_facts::specs::Words::keep_line))]
-pub fn add_keep<A: Allocator>(
+pub fn add_drawing_moves_line<A: Allocator>(
     text: &mut Text<'_, A>,
     steps: &[u16],
     p: &Position,
-    told: &[Continuation],
+    told: &[EvaluatedMove],
 ) -> Result<(), AllocError>
     requires few { length told.now < 2 ^ 32 }
     requires all { length told.now ≡ length (legal_list p.now) }
     requires legal { All (λ x. is_legal p.now x.played ≡ true) told.now }
     ensures { OnOk result (text.new ≡ text.old ++ keep_line steps.now p.now (drawing told.now)) }
 {
-    add_front(text, b"keep ", steps)?;
+    add_line_start(text, b"keep ", steps)?;
     text.add_number(count_drawing(told))?;
     text.add(b" ")?;
     text.add_number(told.len() as u32)?;
@@ -259,13 +260,13 @@ pub fn add_dual<A: Allocator>(
     text: &mut Text<'_, A>,
     steps: &[u16],
     p: &Position,
-    x: &Continuation,
+    x: &EvaluatedMove,
     counts: (u8, u16),
 ) -> Result<(), AllocError>
     requires { is_legal p.now x.now.played ≡ true }
     ensures { OnOk result (text.new ≡ text.old ++ dual_line steps.now p.now x.now.played x.now.value counts.0 counts.1) }
 {
-    add_front(text, b"fault ", steps)?;
+    add_line_start(text, b"fault ", steps)?;
     add_told(text, p, x.played, x.value)?;
     text.add(b" dual ")?;
     text.add_number(counts.0 as u32)?;
@@ -280,12 +281,12 @@ pub fn add_mistake<A: Allocator>(
     text: &mut Text<'_, A>,
     steps: &[u16],
     p: &Position,
-    x: &Continuation,
+    x: &EvaluatedMove,
 ) -> Result<(), AllocError>
     requires { is_legal p.now x.now.played ≡ true }
     ensures { OnOk result (text.new ≡ text.old ++ mistake_line steps.now p.now x.now.played x.now.value) }
 {
-    add_front(text, b"fault ", steps)?;
+    add_line_start(text, b"fault ", steps)?;
     add_told(text, p, x.played, x.value)?;
     text.add(b" mistake\n")
 }

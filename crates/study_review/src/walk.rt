@@ -9,21 +9,21 @@ ghost use Rattle.study_marks.specs.FaultSums.{below_at};
 ghost use Rattle.study_facts.specs.Asked.{within};
 ghost use Rattle.study_facts.specs.Line.{line_to};
 ghost use Rattle.study_facts.specs.Made.{Grew, Rose, HasAsked};
-ghost use Rattle.study_facts.specs.Nodes.{front_of, NodeLines, FaultLines};
+ghost use Rattle.study_facts.specs.Nodes.{parent_path, NodeLines, FaultLines};
 ghost use Rattle.study_facts.specs.Order.{paths_from, LinesOfEach, SumOfEach, AreTimeFaults, written_order};
-ghost use Rattle.study_facts.specs.Stand.{arrival_of, IsStand};
-ghost use Rattle.study_facts.specs.declared.stand.Stand.{Stand as AStand};
+ghost use Rattle.study_facts.specs.WalkState.{arrival_of, IsStand};
+ghost use Rattle.study_facts.specs.declared.walk_state.WalkState.{WalkState as AStand};
 ghost use Rattle.study_facts.specs.TimeFaults.{IsTimeFault};
 ghost use Rattle.study_review.specs.Trail.{IsAt, WentTo};
 
-use crate::draft::{Draft, Trail};
-use crate::moves::{Step, add_move};
-use crate::nodes::{Here, add_here};
+use crate::fault_lines::{StudyMove, add_move};
+use crate::node_lines::{ReviewNode, add_here};
+use crate::review_lines::{ReviewLines, Trail};
 use std::alloc::Allocator;
 use study_board::Position;
 use study_facts::{
-    Arrival, Node, NotMade, Stand, aim_in, arrival_at, count_at, is_solution_move, is_try,
-    root_stand, stand_after,
+    MoveToNode, NodeContext, TextFault, WalkState, aim_in, child_count, is_solution_move, is_try,
+    move_to_node, root_walk_state, walk_state_after,
 };
 use study_marks::{Aim, Bench, Mark, hero_moves};
 use study_values::Values;
@@ -31,19 +31,19 @@ use study_values::Values;
 /// The line of the fault of a move, and all other lines of the node that it leads to.
 fn add_lines<'a, 'b, A: Allocator, B: Allocator, V: Values>(
     alloc: &'a A,
-    draft: &mut Draft<'a, A>,
+    draft: &mut ReviewLines<'a, A>,
     bench: &Bench<'b, B>,
     aim: &Aim,
     steps: &[u16],
     line: &[Position],
-    stands: (&Stand, &Stand),
-    by: &Arrival,
+    stands: (&WalkState, &WalkState),
+    by: &MoveToNode,
     values: &mut V,
-) -> Result<(), NotMade>
+) -> Result<(), TextFault>
     requires aim { aim.now ≡ aim_of (marked bench.now) }
     requires some { 0 < length steps.now }
-    requires line { line.now ≡ line_to (marked bench.now) (front_of steps.now) }
-    requires before { IsStand (marked bench.now) (front_of steps.now) stands.0.now }
+    requires line { line.now ≡ line_to (marked bench.now) (parent_path steps.now) }
+    requires before { IsStand (marked bench.now) (parent_path steps.now) stands.0.now }
     requires here { IsStand (marked bench.now) steps.now stands.1.now }
     requires by { arrival_of (spot_at (marked bench.now).tree steps.now) ≡ Some by.now }
     ensures faults { V.is_honest values.old → OnOk result (Grew (FaultLines (marked bench.now) steps.now) draft.old.faults draft.new.faults) }
@@ -54,8 +54,8 @@ fn add_lines<'a, 'b, A: Allocator, B: Allocator, V: Values>(
 {
     let first = bench.start();
     let (before, here) = stands;
-    let step = Step {
-        before: Node {
+    let step = StudyMove {
+        before: NodeContext {
             aim,
             depth: steps.len() - 1,
             position: &before.position,
@@ -67,8 +67,8 @@ fn add_lines<'a, 'b, A: Allocator, B: Allocator, V: Values>(
     let made = hero_moves(aim, steps.len() - 1);
     let listed = is_solution_move(made, here);
     add_move(draft, bench, &step, by.mark, listed, values)?;
-    let node = Here {
-        node: Node {
+    let node = ReviewNode {
+        node: NodeContext {
             aim,
             depth: steps.len(),
             position: &here.position,
@@ -90,7 +90,7 @@ fn add_lines<'a, 'b, A: Allocator, B: Allocator, V: Values>(
 }
 
 /// The walk state of the node where the walk is.
-fn last_stand<'t, A: Allocator>(trail: &'t Trail<'_, A>) -> &'t Stand
+fn last_stand<'t, A: Allocator>(trail: &'t Trail<'_, A>) -> &'t WalkState
     requires { 0 < length trail.now.stands.items }
     ensures { (front : List AStand) × (trail.now.stands.items ≡ front ++ result.now ∷ []) }
 {
@@ -103,15 +103,15 @@ fn last_stand<'t, A: Allocator>(trail: &'t Trail<'_, A>) -> &'t Stand
 /// Goes to the child at this place, and writes its lines. It is a call of its own, and its walk state goes to the trail, so that a ply of `add_below`
 /// takes little of the stack.
 #[inline(never)]
-fn enter<'a, 'b, A: Allocator, B: Allocator, V: Values>(
+fn descend<'a, 'b, A: Allocator, B: Allocator, V: Values>(
     alloc: &'a A,
-    draft: &mut Draft<'a, A>,
+    draft: &mut ReviewLines<'a, A>,
     trail: &mut Trail<'a, A>,
     bench: &Bench<'b, B>,
     aim: &Aim,
     place: u16,
     values: &mut V,
-) -> Result<(), NotMade>
+) -> Result<(), TextFault>
     requires aim { aim.now ≡ aim_of (marked bench.now) }
     requires line { trail.old.line.items ≡ line_to (marked bench.now) trail.old.steps.items }
     requires stands { IsAt (marked bench.now) trail.old.steps.items trail.old.stands.items }
@@ -130,11 +130,11 @@ fn enter<'a, 'b, A: Allocator, B: Allocator, V: Values>(
     let first = bench.start();
     trail.steps.push(place)?;
     let steps = trail.steps.as_slice();
-    match arrival_at(bench, steps) {
+    match move_to_node(bench, steps) {
         None => unreachable!(),
         Some(by) => {
             let before = last_stand(trail);
-            let here = stand_after(bench, aim, steps, before, &by);
+            let here = walk_state_after(bench, aim, steps, before, &by);
             let line = trail.line.as_slice();
             add_lines(
                 alloc,
@@ -169,12 +169,12 @@ fn leave<A: Allocator>(trail: &mut Trail<'_, A>)
 /// The lines of all nodes below the node where the walk is.
 fn add_below<'a, 'b, A: Allocator, B: Allocator, V: Values>(
     alloc: &'a A,
-    draft: &mut Draft<'a, A>,
+    draft: &mut ReviewLines<'a, A>,
     trail: &mut Trail<'a, A>,
     bench: &Bench<'b, B>,
     aim: &Aim,
     values: &mut V,
-) -> Result<(), NotMade>
+) -> Result<(), TextFault>
     requires aim { aim.now ≡ aim_of (marked bench.now) }
     requires line { trail.old.line.items ≡ line_to (marked bench.now) trail.old.steps.items }
     requires stands { IsAt (marked bench.now) trail.old.steps.items trail.old.stands.items }
@@ -192,7 +192,7 @@ fn add_below<'a, 'b, A: Allocator, B: Allocator, V: Values>(
         V.may_fail V.asked_of V.failed_of V.is_honest values.old result values.new }
 {
     for place in 0..last_stand(trail).children {
-        enter(alloc, draft, trail, bench, aim, place, values)?;
+        descend(alloc, draft, trail, bench, aim, place, values)?;
         add_below(alloc, draft, trail, bench, aim, values)?;
         leave(trail);
     }
@@ -202,13 +202,13 @@ fn add_below<'a, 'b, A: Allocator, B: Allocator, V: Values>(
 /// The lines of the root.
 fn add_root<'a, 'b, A: Allocator, B: Allocator, V: Values>(
     alloc: &'a A,
-    draft: &mut Draft<'a, A>,
+    draft: &mut ReviewLines<'a, A>,
     bench: &Bench<'b, B>,
     aim: &Aim,
-    root: &Stand,
+    root: &WalkState,
     mark: Mark,
     values: &mut V,
-) -> Result<(), NotMade>
+) -> Result<(), TextFault>
     requires aim { aim.now ≡ aim_of (marked bench.now) }
     requires root { IsStand (marked bench.now) [] root.now }
     requires mark { mark ≡ (marked bench.now).tree.label }
@@ -218,8 +218,8 @@ fn add_root<'a, 'b, A: Allocator, B: Allocator, V: Values>(
     ensures asked { HasAsked V.held (within (marked bench.now).start.position V.gives)
         V.may_fail V.asked_of V.failed_of V.is_honest values.old result values.new }
 {
-    let here = Here {
-        node: Node {
+    let here = ReviewNode {
+        node: NodeContext {
             aim,
             depth: 0,
             position: &root.position,
@@ -241,11 +241,11 @@ fn add_root<'a, 'b, A: Allocator, B: Allocator, V: Values>(
 }
 
 /// The trail of the root, whose walk state this is.
-fn root_trail<'a, A: Allocator>(alloc: &'a A, root: Stand) -> Result<Trail<'a, A>, NotMade>
+fn root_trail<'a, A: Allocator>(alloc: &'a A, root: WalkState) -> Result<Trail<'a, A>, TextFault>
     ensures steps { IfOk result (λ trail. trail.steps.items ≡ []) }
     ensures line { IfOk result (λ trail. trail.line.items ≡ root.position ∷ []) }
     ensures stands { IfOk result (λ trail. trail.stands.items ≡ root ∷ []) }
-    ensures memory { IfErr result (λ reason. reason ≡ NotMade.OutOfMemory) }
+    ensures memory { IfErr result (λ reason. reason ≡ TextFault.OutOfMemory) }
 {
     let mut line = Vec::new(alloc);
     line.push(root.position.copied())?;
@@ -261,11 +261,11 @@ fn root_trail<'a, A: Allocator>(alloc: &'a A, root: Stand) -> Result<Trail<'a, A
 /// The lines of all nodes.
 pub fn add_all<'a, 'b, A: Allocator, B: Allocator, V: Values>(
     alloc: &'a A,
-    draft: &mut Draft<'a, A>,
+    draft: &mut ReviewLines<'a, A>,
     bench: &Bench<'b, B>,
     root: Mark,
     values: &mut V,
-) -> Result<(), NotMade>
+) -> Result<(), TextFault>
     requires { root ≡ (marked bench.now).tree.label }
     ensures faults { V.is_honest values.old → OnOk result (Grew (LinesOfEach (FaultLines (marked bench.now)) (written_order (marked bench.now)))
         draft.old.faults draft.new.faults) }
@@ -276,7 +276,7 @@ pub fn add_all<'a, 'b, A: Allocator, B: Allocator, V: Values>(
         V.may_fail V.asked_of V.failed_of V.is_honest values.old result values.new }
 {
     let aim = aim_in(bench);
-    let stand = root_stand(bench, count_at(bench, &[]));
+    let stand = root_walk_state(bench, child_count(bench, &[]));
     add_root(alloc, draft, bench, &aim, &stand, root, values)?;
     let mut trail = root_trail(alloc, stand)?;
     add_below(alloc, draft, &mut trail, bench, &aim, values)?;

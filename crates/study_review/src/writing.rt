@@ -12,15 +12,15 @@ ghost use Rattle.study_facts.specs.Made.{HasAsked};
 ghost use Rattle.study_review.specs.Review.{study_line, stipulation_line, empty_line, waste_line, waste_words, IsReview, IsReviewOf, BeginsReview};
 ghost use Rattle.study_facts.specs.Order.{is_empty, HasReviewed};
 
-use crate::draft::Draft;
+use crate::review_lines::ReviewLines;
 use crate::walk::add_all;
 use std::alloc::{AllocError, Allocator};
 use std::io::Write;
 use study_board::Side;
-use study_facts::{NotMade, ReviewFault, add_time_verdict, aim_in, is_empty};
+use study_facts::{ReviewFault, TextFault, add_time_verdict, aim_in, is_empty};
 use study_marks::{Bench, Mark, Stipulation, hero_moves};
 use study_notation::write_fen;
-use study_pgn::{add_opening_words, is_right, root_mark};
+use study_pgn::{add_opening_words, meets_stipulation, root_mark};
 use study_text::{Text, write_text};
 use study_values::Values;
 
@@ -100,7 +100,7 @@ fn add_waste_words<A: Allocator>(
     ensures { (s : Study AMark) → s.stipulation ≡ stipulation → s.start.position.to_move ≡ first → s.tree.label ≡ root
         → OnOk result (text.new ≡ text.old ++ waste_words (verdict s) time) }
 {
-    let right = is_right(stipulation.goal, stipulation.hero == first, root.value);
+    let right = meets_stipulation(stipulation.goal, stipulation.hero == first, root.value);
     if !right || root.faults == 0 || time == 0 {
         return Ok(());
     }
@@ -134,9 +134,9 @@ fn join<'a, A: Allocator>(
     mut text: Text<'a, A>,
     middle: Text<'a, A>,
     rest: Text<'a, A>,
-) -> Result<Text<'a, A>, NotMade>
+) -> Result<Text<'a, A>, TextFault>
     ensures text { IfOk result (λ whole. whole ≡ (text.entry ++ middle.entry) ++ rest.entry) }
-    ensures memory { IfErr result (λ reason. reason ≡ NotMade.OutOfMemory) }
+    ensures memory { IfErr result (λ reason. reason ≡ TextFault.OutOfMemory) }
 {
     text.add(middle.as_slice())?;
     text.add(rest.as_slice())?;
@@ -149,7 +149,7 @@ fn text_of<'a, 'b, A: Allocator, B: Allocator, V: Values>(
     bench: &Bench<'b, B>,
     values: &mut V,
     number: u32,
-) -> Result<Text<'a, A>, NotMade>
+) -> Result<Text<'a, A>, TextFault>
     ensures text { V.is_honest values.old → IfOk result (IsReview (marked bench.now) number) }
     ensures begins { IfOk result (BeginsReview number) }
     ensures asked { HasAsked V.held (within (marked bench.now).start.position V.gives)
@@ -159,7 +159,7 @@ fn text_of<'a, 'b, A: Allocator, B: Allocator, V: Values>(
     let _size = bench.size();
     let root = root_mark(bench);
     let mut head = Text::new(alloc);
-    let mut draft = Draft {
+    let mut draft = ReviewLines {
         faults: Text::new(alloc),
         time_faults: 0,
         nodes: Text::new(alloc),

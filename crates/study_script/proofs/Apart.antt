@@ -10,7 +10,7 @@ use Rattle.study_script.specs.declared.document.Document.TheVariants as held
 use Rattle.study_script.specs.declared.tables.Tables.{Tables}
 use Rattle.study_script.specs.State.{State}
 use Rattle.study_script.specs.Replies.{IsReply, IsReplyIn, begins_position, emptied, kept_apart}
-use Rattle.study_script.specs.Held.{Answered, BrokenOff}
+use Rattle.study_script.specs.SessionHolds.{Answered, BrokenOff}
 use Rattle.study_script.specs.Session.{Known, SessionHolds}
 
 pub answered-apart : (s : State) (line : List ℕ) (H K : State → Type 0) (old new : Option (List ℕ)) (was : Bool)

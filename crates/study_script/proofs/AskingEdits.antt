@@ -8,11 +8,11 @@ use Rattle.study_marks.specs.declared.refusal.Refusal.{Refusal as EditRefusal}
 use Rattle.study_marks.specs.declared.refusal.Refusal.TheVariants as edit
 use Rattle.study_marks.specs.Queries.{IsTableHeld, AreTablesHeld, AllHeld, IsFirstMissing, IsFirstUnread, IsOutside, is_of_tables}
 use Rattle.study_marks.specs.Answers.{IsUndamaged}
-use Rattle.study_marks.specs.Edits.{Plainly}
+use Rattle.study_marks.specs.Edits.{PlainStudy}
 use Rattle.study_reply.specs.Names.{edit_words}
-use Rattle.study_script.specs.State.{State, is_among, Outside, quiet, no_room, unread}
-use Rattle.study_script.specs.Replies.{accepted, refused_as, holding, missing, found, IsAskingReply, IsAskedReply}
-use Rattle.study_script.specs.Held.{IsToldBy, TellsFailing}
+use Rattle.study_script.specs.State.{State, is_among, Environment, quiet, no_room, unread}
+use Rattle.study_script.specs.Replies.{accepted, refused_as, holding, missing, found, IsProbingEdit, IsProbingEditWithMemory}
+use Rattle.study_script.specs.SessionHolds.{HasNoDeviceFault, IsFailingTable}
 
 -- the same tables are loaded
 held-same : (h k : Class → Bool) (p : Position) → ((c : Class) → h c ≡ k c) → IsTableHeld h p → IsTableHeld k p
@@ -39,10 +39,10 @@ missing-unread held (p ∷ ps) c m = elim m.1 [ inl here ↦ here | inr there �
 
 -- an edit that is refused for memory or tables has that reply
 pub refused_outside : (A : Type 0) (s : State) (held : Class → Bool) (paged : Bool) (asked : List Position)
-    (new : Plainly) (text : List ℕ) (refusal : EditRefusal A) → ((c : Class) → held c ≡ is_among s.classes c)
-    → paged ≡ s.paged → IsOutside held asked refusal → IsToldBy paged refusal → IsUndamaged refusal
-    → TellsFailing (λ c f. s.shelf.faults c f ≡ true) asked refusal
-    → (o : Outside) × IsAskedReply s o asked new text (refused_as s (edit_words refusal))
+    (new : PlainStudy) (text : List ℕ) (refusal : EditRefusal A) → ((c : Class) → held c ≡ is_among s.classes c)
+    → paged ≡ s.paged → IsOutside held asked refusal → HasNoDeviceFault paged refusal → IsUndamaged refusal
+    → IsFailingTable (λ c f. s.shelf.faults c f ≡ true) asked refusal
+    → (o : Environment) × IsProbingEditWithMemory s o asked new text (refused_as s (edit_words refusal))
 refused_outside A s held paged asked new text edit.OutOfMemory e m out told clean failing = (no_room, refl)
 refused_outside A s held paged asked new text (edit.NoTable c) e m out told clean failing = (
   quiet,
@@ -65,10 +65,10 @@ refused_outside A s held paged asked new text edit.TagText e m out told clean fa
 
 -- the same for an edit that takes no memory
 pub refused_asking : (A : Type 0) (s : State) (held : Class → Bool) (paged : Bool) (asked : List Position)
-    (new : Plainly) (text : List ℕ) (refusal : EditRefusal A) → ((c : Class) → held c ≡ is_among s.classes c)
-    → paged ≡ s.paged → IsOutside held asked refusal → IsToldBy paged refusal → IsUndamaged refusal → is_of_tables refusal ≡ true
-    → TellsFailing (λ c f. s.shelf.faults c f ≡ true) asked refusal
-    → (o : Outside) × IsAskingReply s o asked new text (refused_as s (edit_words refusal))
+    (new : PlainStudy) (text : List ℕ) (refusal : EditRefusal A) → ((c : Class) → held c ≡ is_among s.classes c)
+    → paged ≡ s.paged → IsOutside held asked refusal → HasNoDeviceFault paged refusal → IsUndamaged refusal → is_of_tables refusal ≡ true
+    → IsFailingTable (λ c f. s.shelf.faults c f ≡ true) asked refusal
+    → (o : Environment) × IsProbingEdit s o asked new text (refused_as s (edit_words refusal))
 refused_asking A s held paged asked new text edit.OutOfMemory e m out told clean of_tables failing = let absent : ⊥ = cc in absurd absent
 refused_asking A s held paged asked new text (edit.NoTable c) e m out told clean of_tables failing =
     (quiet, missing c (missing-same held (is_among s.classes) asked c e out) refl)
@@ -87,7 +87,7 @@ refused_asking A s held paged asked new text (edit.ShiftBroken steps) e m out to
 refused_asking A s held paged asked new text edit.TagText e m out told clean of_tables failing = absurd out
 
 -- an accepted edit found all tables that it probed
-pub accepted_outside : (s : State) (held : Class → Bool) (asked : List Position) (new : Plainly) (text : List ℕ)
+pub accepted_outside : (s : State) (held : Class → Bool) (asked : List Position) (new : PlainStudy) (text : List ℕ)
     → ((c : Class) → held c ≡ is_among s.classes c) → AllHeld held asked
-    → IsAskedReply s quiet asked new text (accepted (holding s new) text)
+    → IsProbingEditWithMemory s quiet asked new text (accepted (holding s new) text)
 accepted_outside s held asked new text e all = found (record { each = are_held-same held (is_among s.classes) asked e all.each }) refl

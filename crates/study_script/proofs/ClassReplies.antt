@@ -29,14 +29,14 @@ use Rattle.study_reply.specs.declared.refusal.Refusal.TheVariants.{DistanceTooLa
 use Rattle.study_reply.specs.declared.table_reply.TableReply.{TableReply}
 use Rattle.study_reply.specs.declared.table_reply.TableReply.TheVariants.{Built, Loaded, Saved, Verified}
 use Rattle.study_script.specs.State.{State, is_among, first_lacking, written_anew, IsGiven, IsOpened}
-use Rattle.study_script.specs.State.{Outside, quiet, no_room, no_room_for, unopened, cut_off, file}
+use Rattle.study_script.specs.State.{Environment, quiet, no_room, no_room_for, unopened, cut_off, file}
 use Rattle.study_script.specs.Replies.{Reply, refused, refused_as, with_class, built, too_far, IsBuildReply}
 use Rattle.study_script.specs.Replies.{IsLoadReply, IsNamedReply, IsTableReply, IsClassReply, IsClassReplyIn, IsOpenReply, IsLoadIn}
-use Rattle.study_script.specs.Replies.{class_told, wants_whole, save_reply, verify_reply}
+use Rattle.study_script.specs.Replies.{class_told, needs_whole_tables, save_reply, verify_reply}
 use Rattle.study_reply.specs.Names.{words_of}
 use Rattle.study_script.specs.Stores.{IsRightFile, GivesBytes, IsTrustedClass}
 use Rattle.study_script.specs.Decided.{decided_reply, Decided, HoldsWhole, HoldsPaged, WholeFrom, IsFileRefusal}
-use Rattle.study_script.specs.Held.{HoldsTables, TablesFrom, Answered, BrokenOff}
+use Rattle.study_script.specs.SessionHolds.{HoldsTables, TablesFrom, Answered, BrokenOff}
 use Rattle.study_script.proofs.HeldTables.{lacking, whole_kept}
 
 -- the knowledge of the class before a command
@@ -199,11 +199,11 @@ module _ {P A : Type 0} where
   }
 
 -- whole tables accept any command
-pub asked_whole : (s : State) (o : Outside) (word : TableCommand) (name : List ℕ) (reply : Reply) → false ≡ s.paged
+pub asked_whole : (s : State) (o : Environment) (word : TableCommand) (name : List ℕ) (reply : Reply) → false ≡ s.paged
     → IsNamedReply s o word (class_told name) reply → IsClassReply s o word name reply
 asked_whole s o word name reply e h = subst (λ b. IsClassReplyIn s o word name b reply) (sym (by_word word s.paged e)) h
   where
-    by_word : (w : TableCommand) (p : Bool) → false ≡ p → wants_whole w && p ≡ false
+    by_word : (w : TableCommand) (p : Bool) → false ≡ p → needs_whole_tables w && p ≡ false
     by_word Build p k = sym k
     by_word Save p k = sym k
     by_word Verify p k = sym k
@@ -217,18 +217,18 @@ refused_paged s word name e (inr (inl k)) = subst (λ w. IsClassReply s quiet w 
 refused_paged s word name e (inr (inr k)) = subst (λ w. IsClassReply s quiet w name (refused s PagedMode)) (sym k) (rw (← e) refl)
 
 -- a word that is not the name of a class
-pub not_named : (s : State) (o : Outside) (word : TableCommand) (name : List ℕ) → class_told name ≡ None
+pub not_named : (s : State) (o : Environment) (word : TableCommand) (name : List ℕ) → class_told name ≡ None
     → IsNamedReply s o word (class_told name) (refused s NotAClass)
 not_named s o word name e = rw e refl
 
-pub named_as : (s : State) (o : Outside) (word : TableCommand) (name : List ℕ) (c : Class) (reply : Reply)
+pub named_as : (s : State) (o : Environment) (word : TableCommand) (name : List ℕ) (c : Class) (reply : Reply)
     → class_told name ≡ Some c → IsTableReply s o word c reply → IsNamedReply s o word (class_told name) reply
 named_as s o word name c reply e i = rw e i
 
 -- ---- an outcome, by a weaker property
 
-pub decided_weaker : (I J : Outside → Reply → Type 0) (H K : State → Type 0) (told : Result TableReply Refusal)
-    → ((o : Outside) (r : Reply) → I o r → J o r) → ((t : State) → H t → K t) → Decided I H told → Decided J K told
+pub decided_weaker : (I J : Environment → Reply → Type 0) (H K : State → Type 0) (told : Result TableReply Refusal)
+    → ((o : Environment) (r : Reply) → I o r → J o r) → ((t : State) → H t → K t) → Decided I H told → Decided J K told
 decided_weaker I J H K told f g (o, t, is, holds) = (o, t, f o (decided_reply t told) is, g t holds)
 
 -- ---- the answers of a file and its source
@@ -278,10 +278,10 @@ pub trust_of : (trusted : Class → Bool) (word : TableCommand) (name : List ℕ
 trust_of trusted word name c is told may =
     subst (λ (o : Option Class). IfSome o (λ k. trusted k ≡ true)) told (subst (λ (w : TableCommand). IsTrustedClass trusted w name) is may)
 
-pub open_as : (s : State) (o : Outside) (name : List ℕ) (c : Class) (r : Reply) → class_told name ≡ Some c → true ≡ s.paged
+pub open_as : (s : State) (o : Environment) (name : List ℕ) (c : Class) (r : Reply) → class_told name ≡ Some c → true ≡ s.paged
     → IsOpenReply s o c (is_among s.classes c) r → IsClassReply s o Load name r
 open_as s o name c r told paged i = subst (λ (x : Option Class). IsNamedReply s o Load x r) (sym told) (subst (λ (b : Bool). IsLoadIn s o b c r) paged i)
 
-pub load_as : (s : State) (o : Outside) (c : Class) (r : Reply) → false ≡ s.paged
+pub load_as : (s : State) (o : Environment) (c : Class) (r : Reply) → false ≡ s.paged
     → IsLoadReply s o c (is_among s.classes c) (first_lacking s.classes c) r → IsTableReply s o Load c r
 load_as s o c r whole i = subst (λ (b : Bool). IsLoadIn s o b c r) whole i

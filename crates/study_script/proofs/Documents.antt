@@ -10,13 +10,13 @@ use Rattle.study_table.specs.Table.{Table}
 use Rattle.study_notation.specs.declared.start.Start.{Start}
 use Rattle.study_marks.specs.Study.{plain_study}
 use Rattle.study_marks.specs.BenchState.{BenchState, marked, IsKeptRight}
-use Rattle.study_marks.specs.Edits.{Plainly}
+use Rattle.study_marks.specs.Edits.{PlainStudy}
 use Rattle.study_script.specs.declared.tables.Tables.{Tables}
 use Rattle.study_script.specs.declared.document.Document.{Document as HeldDocument}
 use Rattle.study_script.specs.declared.document.Document.TheVariants as held
-use Rattle.study_script.specs.State.{State, start, study, Outside}
+use Rattle.study_script.specs.State.{State, start, study, Environment}
 use Rattle.study_script.specs.Replies.{Reply, accepted, holding}
-use Rattle.study_script.specs.Held.{document_seen, Holds, tables_honest, tables_held, tables_may_fail, are_paged, Answered, BrokenOff}
+use Rattle.study_script.specs.SessionHolds.{document_seen, Holds, tables_honest, tables_held, tables_may_fail, are_paged, Answered, BrokenOff}
 
 module _ {P A : Type 0} where
   -- the state, if the document is known
@@ -35,7 +35,7 @@ module _ {P A : Type 0} where
       (record { document = refl; marks = tt; values = h.values; classes = h.classes; paged = h.paged; faults = h.faults })
 
   -- a study is set without probing a table
-  pub study_held : (honest : P → Table → ℕ → Type 0) (gives : GivesOf P) (old k : BenchState) (t : Tables P A) (s : State) (new : Plainly)
+  pub study_held : (honest : P → Table → ℕ → Type 0) (gives : GivesOf P) (old k : BenchState) (t : Tables P A) (s : State) (new : PlainStudy)
       → plain_study (marked k) ≡ new → IsKeptRight k → Holds honest gives (held.Study old) t s
       → Holds honest gives (held.Study k) t (holding s new)
   study_held honest gives old k t s new e r h = record {
@@ -51,7 +51,7 @@ module _ {P A : Type 0} where
 module _ {P A : Type 0} where
   -- a study is made by probing tables
   pub study_made : (honest : P → Table → ℕ → Type 0) (gives : GivesOf P) (b : HeldDocument A) (k : BenchState) (t u : Tables P A) (s : State)
-      (new : Plainly) → Holds honest gives b t s → plain_study (marked k) ≡ new → IsKeptRight k → tables_honest honest u
+      (new : PlainStudy) → Holds honest gives b t s → plain_study (marked k) ≡ new → IsKeptRight k → tables_honest honest u
       → ((c : Class) → tables_held u c ≡ tables_held t c) → are_paged u ≡ are_paged t
       → ((c : Class) (f : SourceFault) → tables_may_fail gives u c f → tables_may_fail gives t c f) → Holds honest gives (held.Study k) u (holding s new)
   study_made honest gives b k t u s new h e r v same mode fails =

@@ -7,31 +7,31 @@ use Rattle.study_reply.specs.declared.table_reply.TableReply.{TableReply}
 use Rattle.study_reply.specs.declared.refusal.Refusal.{Refusal}
 use Rattle.study_reply.specs.declared.reply.Reply.{Reply as Done}
 use Rattle.study_reply.specs.declared.reply.Reply.TheVariants.{Table}
-use Rattle.study_reply.specs.declared.reply.Refused.{Refused}
-use Rattle.study_reply.specs.declared.reply.Refused.TheVariants.{Line}
+use Rattle.study_reply.specs.declared.reply.LineRefusal.{LineRefusal}
+use Rattle.study_reply.specs.declared.reply.LineRefusal.TheVariants.{Line}
 use Rattle.study_reply.specs.Replied.{answer_text}
-use Rattle.study_script.specs.State.{State, Outside}
+use Rattle.study_script.specs.State.{State, Environment}
 use Rattle.study_script.specs.Replies.{Reply}
-use Rattle.study_script.specs.Held.{Answered, BrokenOff}
+use Rattle.study_script.specs.SessionHolds.{Answered, BrokenOff}
 use Rattle.study_script.specs.Decided.{decided_reply, Decided}
 use Rattle.study_script.specs.Executed.{reply_of, Executed}
 
-module _ {A : Type 0} {I J : Outside → Reply → Type 0} {H K : State → Type 0} where
-  pub executed_weaker : (answer : Result (Done A) (Refused A)) → ((o : Outside) (r : Reply) → I o r → J o r)
+module _ {A : Type 0} {I J : Environment → Reply → Type 0} {H K : State → Type 0} where
+  pub executed_weaker : (answer : Result (Done A) (LineRefusal A)) → ((o : Environment) (r : Reply) → I o r → J o r)
       → ((t : State) → H t → K t) → Executed I H answer → Executed J K answer
   executed_weaker answer f g (o, t, is, holds) = (o, t, f o (reply_of t answer) is, g t holds)
 
   -- the environment is described differently
-  pub executed_told : (answer : Result (Done A) (Refused A)) → ((o : Outside) (r : Reply) → I o r → (p : Outside) × J p r)
+  pub executed_told : (answer : Result (Done A) (LineRefusal A)) → ((o : Environment) (r : Reply) → I o r → (p : Environment) × J p r)
       → ((t : State) → H t → K t) → Executed I H answer → Executed J K answer
   executed_told answer f g (o, t, is, holds) = let j = f o (reply_of t answer) is in (j.0, t, j.1, g t holds)
 
   -- the state after a reply, by the reply
-  pub executed_kept : (answer : Result (Done A) (Refused A)) → ((o : Outside) (r : Reply) → I o r → J o r)
-      → ((o : Outside) (r : Reply) → I o r → H r.state → K r.state) → Executed I H answer → Executed J K answer
+  pub executed_kept : (answer : Result (Done A) (LineRefusal A)) → ((o : Environment) (r : Reply) → I o r → J o r)
+      → ((o : Environment) (r : Reply) → I o r → H r.state → K r.state) → Executed I H answer → Executed J K answer
   executed_kept answer f g (o, t, is, holds) = (o, t, f o (reply_of t answer) is, g o (reply_of t answer) is holds)
 
-module _ {A : Type 0} (I : Outside → Reply → Type 0) (H : State → Type 0) (answer : Result (Done A) (Refused A)) where
+module _ {A : Type 0} (I : Environment → Reply → Type 0) (H : State → Type 0) (answer : Result (Done A) (LineRefusal A)) where
   pub executed_answered : {E : Type 0} (r : Result Bool E) (old new : Option (List ℕ)) → Executed I H answer
       → OnOk r (Appends old new (answer_text answer)) → IfOk r (λ b. b ≡ is_err answer) → IfOk r (Answered I H old new)
   executed_answered (Ok b) old new (o, t, is, holds) wrote e = (o, reply_of t answer, is, wrote, holds, e)
@@ -43,7 +43,7 @@ module _ {A : Type 0} (I : Outside → Reply → Type 0) (H : State → Type 0) 
   executed_broken (Err e) old new (o, t, is, holds) part = (o, reply_of t answer, is, part)
 
 -- the outcome of a command of a class
-module _ (A : Type 0) (I : Outside → Reply → Type 0) (H : State → Type 0) (told : Result TableReply Refusal) where
+module _ (A : Type 0) (I : Environment → Reply → Type 0) (H : State → Type 0) (told : Result TableReply Refusal) where
   pub table_done : (done : TableReply) → told ≡ Ok done → Decided I H told → Executed {A = A} I H (Ok (Table done))
   table_done done e (o, t, is, holds) = (o, t, subst (λ (x : Result TableReply Refusal). I o (decided_reply t x)) e is, holds)
 

@@ -10,9 +10,9 @@ use Rattle.std.specs.Io.KnownBytes.{Appends}
 use Rattle.study_script.specs.declared.running.RunFault.TheVariants.{ReadDevice, WriteDevice, LineTooLong, TooManyLines}
 use Rattle.study_command.specs.Lines.{script_lines, TakesLine, BeginsLong, GaveFeeds}
 use Rattle.study_command.proofs.LineTaken.{HasMore}
-use Rattle.study_script.specs.State.{State, Outside}
+use Rattle.study_script.specs.State.{State, Environment}
 use Rattle.study_script.specs.Replies.{Reply, Answer, IsReplyIn, AreReplies, replies_text}
-use Rattle.study_script.specs.Held.{Answered, BrokenOff}
+use Rattle.study_script.specs.SessionHolds.{Answered, BrokenOff}
 use Rattle.std.specs.List.{AllByRecursion}
 use Rattle.study_material.specs.declared.class.Class.{Class}
 use Rattle.study_script.specs.Stores.{IsTrusted, AreTrusted}
@@ -20,7 +20,7 @@ use Rattle.study_script.specs.Outcome.{AreShort, error_count, state_after, Outco
 
 -- ---- one reply more
 
-are-more : (separate : Bool) (s : State) (lines : List (List ℕ)) (replies : List Answer) (line : List ℕ) (o : Outside) (reply : Reply)
+are-more : (separate : Bool) (s : State) (lines : List (List ℕ)) (replies : List Answer) (line : List ℕ) (o : Environment) (reply : Reply)
     → AreReplies separate s lines replies → IsReplyIn separate (state_after s replies) line o reply
     → AreReplies separate s (lines ++ line ∷ []) (replies ++ (o, reply) ∷ [])
 are-more separate s [] [] line o reply h r = (r, tt)
@@ -100,7 +100,7 @@ ran_none separate (Some bs) out first =
     }
 
 pub ran_more : (separate : Bool) (script now next old mid new : Option (List ℕ)) (first : State) (s : State) (line : List ℕ)
-    (o : Outside) (reply : Reply) (n refused refused' : ℕ) → Ran separate script now old mid first s n refused
+    (o : Environment) (reply : Reply) (n refused refused' : ℕ) → Ran separate script now old mid first s n refused
     → TakesLine now next true line → length line ≤ 1024
     → IsReplyIn separate s line o reply → Appends mid new reply.text → refused' ≡ refused + cond reply.refused 1 0
     → Ran separate script next old new first reply.state (n + 1) refused'

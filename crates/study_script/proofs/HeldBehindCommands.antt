@@ -16,7 +16,7 @@ use Rattle.study_marks.specs.declared.stipulation.Stipulation.{Stipulation}
 use Rattle.study_marks.specs.declared.refusal.Refusal.{Refusal as EditRefusal}
 use Rattle.study_marks.specs.Study.{position_at}
 use Rattle.study_marks.specs.Queries.{positions_asked}
-use Rattle.study_marks.specs.Edits.{Plainly, shifted, shift_refusal, insert_refusal}
+use Rattle.study_marks.specs.Edits.{PlainStudy, with_start, shift_refusal, insert_refusal}
 use Rattle.study_notation.specs.FenSpelling.{fen_text}
 use Rattle.study_reply.specs.Words.{reply_line}
 use Rattle.study_command.specs.declared.command.FenCommand.{FenCommand}
@@ -24,13 +24,13 @@ use Rattle.study_command.specs.declared.command.FenCommand.TheVariants.{Position
 use Rattle.study_script.specs.declared.store.StoreFault.{StoreFault}
 use Rattle.study_script.specs.declared.document.Document.{Document as HeldDocument}
 use Rattle.study_script.specs.declared.tables.Tables.{Tables}
-use Rattle.study_script.specs.State.{State, Document, empty, start, study, is_among, Outside, quiet, no_path}
+use Rattle.study_script.specs.State.{State, Document, empty, start, study, is_among, Environment, quiet, no_path}
 use Rattle.study_values.specs.declared.values.ProbeFault.TheVariants as probe
 use Rattle.study_script.specs.State.{no_room, no_room_for, unread, unopened, cut_off, file, header}
-use Rattle.study_script.specs.Replies.{Reply, IsValued, missing, found, IsAskingReply, IsAskedReply, IsPositionReply}
+use Rattle.study_script.specs.Replies.{Reply, IsValued, missing, found, IsProbingEdit, IsProbingEditWithMemory, IsPositionReply}
 use Rattle.study_script.specs.Replies.{IsShiftReply, IsStartReply, IsStipulateReply, IsInserted}
 use Rattle.study_script.specs.Replies.{IsMoveReply, IsMoveReplyAt, IsInsertReply}
-use Rattle.study_script.specs.Held.{Holds, HoldsDocument, HoldsFrom, HoldsTables, TablesFrom, Answered}
+use Rattle.study_script.specs.SessionHolds.{Holds, HoldsDocument, HoldsFrom, HoldsTables, TablesFrom, Answered}
 use Rattle.study_script.specs.Stores.{StoreSeen}
 use Rattle.study_script.specs.Session.{SessionHolds}
 
@@ -46,12 +46,12 @@ beside s r reply h e = subst (λ (x : Reply). IsBeside s x.state) (sym e) h
 same_side : (s : State) → IsBeside s s
 same_side s = record { paged = refl; shelf = refl }
 
-valued : (s : State) (asked : List Position) (new : Plainly) (text : List ℕ) (reply : Reply) → IsValued s asked new text reply → IsBeside s reply.state
+valued : (s : State) (asked : List Position) (new : PlainStudy) (text : List ℕ) (reply : Reply) → IsValued s asked new text reply → IsBeside s reply.state
 valued s asked new text reply (missing c m e) = beside s _ reply (same_side s) e
 valued s asked new text reply (found all e) = beside s _ reply (record { paged = refl; shelf = refl }) e
 
-asking_beside : (s : State) (o : Outside) (asked : List Position) (new : Plainly) (text : List ℕ) (reply : Reply)
-    → IsAskingReply s o asked new text reply → IsBeside s reply.state
+asking_beside : (s : State) (o : Environment) (asked : List Position) (new : PlainStudy) (text : List ℕ) (reply : Reply)
+    → IsProbingEdit s o asked new text reply → IsBeside s reply.state
 asking_beside s (unread (probe.TableRead f)) asked new text reply h = beside s _ reply (same_side s) h.3
 asking_beside s (unread (probe.PageDamaged c n)) asked new text reply h = absurd h
 asking_beside s (unread (probe.NoTable c)) asked new text reply h = absurd h
@@ -64,8 +64,8 @@ asking_beside s cut_off asked new text reply h = valued s asked new text reply h
 asking_beside s (file bytes) asked new text reply h = valued s asked new text reply h
 asking_beside s (header told) asked new text reply h = valued s asked new text reply h
 
-asked_beside : (s : State) (o : Outside) (asked : List Position) (new : Plainly) (text : List ℕ) (reply : Reply)
-    → IsAskedReply s o asked new text reply → IsBeside s reply.state
+asked_beside : (s : State) (o : Environment) (asked : List Position) (new : PlainStudy) (text : List ℕ) (reply : Reply)
+    → IsProbingEditWithMemory s o asked new text reply → IsBeside s reply.state
 asked_beside s no_room asked new text reply h = beside s _ reply (same_side s) h
 asked_beside s (unread fault) asked new text reply h = asking_beside s (unread fault) asked new text reply h
 asked_beside s quiet asked new text reply h = valued s asked new text reply h
@@ -76,17 +76,17 @@ asked_beside s cut_off asked new text reply h = valued s asked new text reply h
 asked_beside s (file bytes) asked new text reply h = valued s asked new text reply h
 asked_beside s (header told) asked new text reply h = valued s asked new text reply h
 
-position_beside : (s : State) (o : Outside) (b : Document) (new : Start) (reply : Reply) → IsPositionReply s o b new reply → IsBeside s reply.state
+position_beside : (s : State) (o : Environment) (b : Document) (new : Start) (reply : Reply) → IsPositionReply s o b new reply → IsBeside s reply.state
 position_beside s o empty new reply h = beside s _ reply (record { paged = refl; shelf = refl }) h
 position_beside s o (start old) new reply h = beside s _ reply (record { paged = refl; shelf = refl }) h
 position_beside s o (study old) new reply h = asking_beside s o _ _ _ reply h
 
-shift_asked : (s : State) (o : Outside) (old : Plainly) (new : Start) (reply : Reply)
-    → IsAskedReply s o (positions_asked (shifted old new)) (shifted old new) (reply_line (codes "shift ") (fen_text new))
+shift_asked : (s : State) (o : Environment) (old : PlainStudy) (new : Start) (reply : Reply)
+    → IsProbingEditWithMemory s o (positions_asked (with_start old new)) (with_start old new) (reply_line (codes "shift ") (fen_text new))
     reply → IsBeside s reply.state
-shift_asked s o old new reply h = asked_beside s o (positions_asked (shifted old new)) (shifted old new) (reply_line (codes "shift ") (fen_text new)) reply h
+shift_asked s o old new reply h = asked_beside s o (positions_asked (with_start old new)) (with_start old new) (reply_line (codes "shift ") (fen_text new)) reply h
 
-shift_beside : (s : State) (o : Outside) (old : Plainly) (new : Start) (r : Option (EditRefusal (Unit {0})))
+shift_beside : (s : State) (o : Environment) (old : PlainStudy) (new : Start) (r : Option (EditRefusal (Unit {0})))
     (reply : Reply) → IsShiftReply s o old new r reply → IsBeside s reply.state
 shift_beside s no_room old new (Some refusal) reply h = beside s _ reply (same_side s) h
 shift_beside s quiet old new (Some refusal) reply h = beside s _ reply (same_side s) h
@@ -107,7 +107,7 @@ shift_beside s cut_off old new None reply h = shift_asked s cut_off old new repl
 shift_beside s (file bytes) old new None reply h = shift_asked s (file bytes) old new reply h
 shift_beside s (header told) old new None reply h = shift_asked s (header told) old new reply h
 
-pub start_beside : (s : State) (word : FenCommand) (b : Document) (read : Result Start FenFault) (o : Outside)
+pub start_beside : (s : State) (word : FenCommand) (b : Document) (read : Result Start FenFault) (o : Environment)
     (reply : Reply) → IsStartReply s o word b read reply → IsBeside s reply.state
 start_beside s PositionWord b (Err fault) o reply h = beside s _ reply (same_side s) h
 start_beside s PositionWord b (Ok new) o reply h = position_beside s o b new reply h
@@ -116,28 +116,28 @@ start_beside s Shift (study old) (Ok new) o reply h = shift_beside s o old new (
 start_beside s Shift empty read o reply h = beside s _ reply (same_side s) h
 start_beside s Shift (start old) read o reply h = beside s _ reply (same_side s) h
 
-pub stipulate_beside : (s : State) (b : Document) (new : Stipulation) (o : Outside) (reply : Reply) → IsStipulateReply s o b new reply → IsBeside s reply.state
+pub stipulate_beside : (s : State) (b : Document) (new : Stipulation) (o : Environment) (reply : Reply) → IsStipulateReply s o b new reply → IsBeside s reply.state
 stipulate_beside s empty new o reply h = beside s _ reply (same_side s) h
 stipulate_beside s (start from) new o reply h = asking_beside s o _ _ _ reply h
 stipulate_beside s (study old) new o reply h = beside s _ reply (record { paged = refl; shelf = refl }) h
 
-inserted_beside : (s : State) (o : Outside) (old : Plainly) (steps : List ℕ) (m : Move)
+inserted_beside : (s : State) (o : Environment) (old : PlainStudy) (steps : List ℕ) (m : Move)
     (r : Option (EditRefusal (Unit {0}))) (reply : Reply) → IsInserted s o old steps m r reply
     → IsBeside s reply.state
 inserted_beside s o old steps m (Some refusal) reply h = beside s _ reply (same_side s) h
 inserted_beside s o old steps m None reply h = asked_beside s o _ _ _ reply h
 
-moved_beside : (s : State) (o : Outside) (old : Plainly) (steps : List ℕ) (read : Result Move SanFault)
+moved_beside : (s : State) (o : Environment) (old : PlainStudy) (steps : List ℕ) (read : Result Move SanFault)
     (reply : Reply) → IsMoveReply s o old steps read reply → IsBeside s reply.state
 moved_beside s o old steps (Err fault) reply h = beside s _ reply (same_side s) h
 moved_beside s o old steps (Ok m) reply h = inserted_beside s o old steps m (insert_refusal old steps m) reply h
 
-at_beside : (s : State) (o : Outside) (old : Plainly) (steps san : List ℕ) (b : Bool) (reply : Reply)
+at_beside : (s : State) (o : Environment) (old : PlainStudy) (steps san : List ℕ) (b : Bool) (reply : Reply)
     → IsMoveReplyAt s o old steps san b reply → IsBeside s reply.state
 at_beside s o old steps san false reply h = beside s _ reply (same_side s) h
 at_beside s o old steps san true reply h = moved_beside s o old steps (move_of (position_at old steps) san) reply h
 
-pub insert_beside : (s : State) (b : Document) (steps san : List ℕ) (o : Outside) (reply : Reply) → IsInsertReply s o b steps san reply
+pub insert_beside : (s : State) (b : Document) (steps san : List ℕ) (o : Environment) (reply : Reply) → IsInsertReply s o b steps san reply
     → IsBeside s reply.state
 insert_beside s empty steps san o reply h = beside s _ reply (same_side s) h
 insert_beside s (start from) steps san o reply h = beside s _ reply (same_side s) h

@@ -7,7 +7,7 @@ use Rattle.study_moves.specs.Game.{MatesWithin}
 use Rattle.study_marks.specs.Study.{plain_study}
 use Rattle.study_marks.specs.BenchState.{BenchState, marked, IsKeptRight}
 use Rattle.study_notation.specs.declared.start.Start.{Start}
-use Rattle.study_marks.specs.Edits.{Plainly}
+use Rattle.study_marks.specs.Edits.{PlainStudy}
 use Rattle.std.specs.Option.{option_map}
 use Rattle.study_material.specs.declared.class.Class.{Class}
 use Rattle.study_prober.specs.Sources.{GivesOf}
@@ -20,10 +20,10 @@ use Rattle.study_script.specs.declared.tables.Tables.{Tables}
 use Rattle.study_reply.specs.Words.{mark_text}
 use Rattle.study_script.specs.declared.document.Document.{Document as HeldDocument}
 use Rattle.study_script.specs.declared.document.Document.TheVariants as held
-use Rattle.study_script.specs.State.{State, empty, start, study, Outside}
+use Rattle.study_script.specs.State.{State, empty, start, study, Environment}
 use Rattle.study_script.specs.Replies.{Reply, accepted, refused, holding, marked_reply, IsSolution}
-use Rattle.study_script.specs.Held.{document_seen, Holds, tables_honest, tables_held, tables_may_fail, are_paged, HoldsDocument}
-use Rattle.study_script.specs.Held.{HoldsFrom, HoldsBench, HoldsBenchFrom, Answered, BrokenOff}
+use Rattle.study_script.specs.SessionHolds.{document_seen, Holds, tables_honest, tables_held, tables_may_fail, are_paged, HoldsDocument}
+use Rattle.study_script.specs.SessionHolds.{HoldsFrom, HoldsBench, HoldsBenchFrom, Answered, BrokenOff}
 
 module _ {A : Type 0} where
   pub document_kept : (b : HeldDocument A) (s : State) → HoldsDocument b s → HoldsFrom s b s
@@ -57,7 +57,7 @@ pub bench_kept : (k : BenchState) (s : State) → HoldsBench k s → HoldsBenchF
 bench_kept k s h = record { holds = h; classes = refl; paged = refl; shelf = refl }
 
 -- an edited study is kept after an accepted edit
-pub bench_edited : (k : BenchState) (s : State) (new : Plainly) → plain_study (marked k) ≡ new → IsKeptRight k → HoldsBenchFrom s k (holding s new)
+pub bench_edited : (k : BenchState) (s : State) (new : PlainStudy) → plain_study (marked k) ≡ new → IsKeptRight k → HoldsBenchFrom s k (holding s new)
 bench_edited k s new e r = record { holds = record { document = ap study e; marks = r }; classes = refl; paged = refl; shelf = refl }
 
 -- an unchanged study is kept after a refused edit
@@ -86,7 +86,7 @@ mark_missing s steps (Some x) e = absurd cc
 
 module _ {P A : Type 0} where
   -- a study that was edited, and tables that were probed
-  pub study_edited : (honest : P → Table → ℕ → Type 0) (gives : GivesOf P) (old k : BenchState) (t u : Tables P A) (s : State) (new : Plainly)
+  pub study_edited : (honest : P → Table → ℕ → Type 0) (gives : GivesOf P) (old k : BenchState) (t u : Tables P A) (s : State) (new : PlainStudy)
       → Holds honest gives (held.Study old) t s → plain_study (marked k) ≡ new → IsKeptRight k → tables_honest honest u
       → ((c : Class) → tables_held u c ≡ tables_held t c) → are_paged u ≡ are_paged t
       → ((c : Class) (f : SourceFault) → tables_may_fail gives u c f → tables_may_fail gives t c f) → Holds honest gives (held.Study k) u (holding s new)

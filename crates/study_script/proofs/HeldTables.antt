@@ -21,7 +21,7 @@ use Rattle.study_prober.specs.WholeTables.{Whole, TablesAreRight}
 use Rattle.study_prober.proofs.HeldSources.{same_class}
 use Rattle.study_values.specs.declared.fault.SourceFault.{SourceFault}
 use Rattle.study_script.specs.declared.store.StoreFault.{StoreFault}
-use Rattle.study_script.specs.State.{State, Shelf, is_among, forgotten, forgotten_faults, written_anew}
+use Rattle.study_script.specs.State.{State, StoreKnowledge, is_among, unknown_after_write, forgotten_faults, written_anew}
 use Rattle.study_script.specs.Replies.{with_class, class_told}
 use Rattle.study_script.specs.Stores.{StoreSeen}
 use Rattle.study_script.specs.Decided.{HoldsWhole, WholeFrom}
@@ -247,17 +247,17 @@ module _ {S : Type 0} where
     is_honest = subst (λ (b : Bool). honest store b) (sym p) h.is_honest;
     known =
         record {
-          files_known = λ c. h.known.files_known c ∙ ap (λ (x : Shelf). x.files c) (sym e);
-          headers_known = λ c. h.known.headers_known c ∙ ap (λ (x : Shelf). x.headers c) (sym e);
-          faults_known = λ c f. h.known.faults_known c f ∙ ap (λ (x : Shelf). x.faults c f) (sym e);
+          files_known = λ c. h.known.files_known c ∙ ap (λ (x : StoreKnowledge). x.files c) (sym e);
+          headers_known = λ c. h.known.headers_known c ∙ ap (λ (x : StoreKnowledge). x.headers c) (sym e);
+          faults_known = λ c f. h.known.faults_known c f ∙ ap (λ (x : StoreKnowledge). x.faults c f) (sym e);
         };
   }
 
   -- a store in which the file of a class was written
   pub store_anew : (honest : S → Bool → Type 0) (files headers : S → Class → Option (Result (List ℕ) StoreFault)) (faults : S → Class → SourceFault → Bool)
       (old new : S) (s : State) (c : Class) → ((b : Bool) → honest old b → honest new b)
-      → ((d : Class) → files new d ≡ forgotten c (files old) d)
-      → ((d : Class) → headers new d ≡ forgotten c (headers old) d)
+      → ((d : Class) → files new d ≡ unknown_after_write c (files old) d)
+      → ((d : Class) → headers new d ≡ unknown_after_write c (headers old) d)
       → ((d : Class) (g : SourceFault) → faults new d g ≡ forgotten_faults c (faults old) d g) → StoreSeen honest files headers faults old s
       → StoreSeen honest files headers faults new (written_anew s c)
   store_anew honest files headers faults old new s c stays f k l h = record {

@@ -9,16 +9,16 @@ use Rattle.study_marks.specs.Study.{position_at, place_at}
 use Rattle.study_marks.specs.declared.refusal.Refusal.{Refusal as EditRefusal}
 use Rattle.study_marks.specs.Queries.{asked_at, IsOutside}
 use Rattle.study_marks.specs.Answers.{IsUndamaged}
-use Rattle.study_marks.specs.Edits.{Plainly, inserted, insert_refusal}
+use Rattle.study_marks.specs.Edits.{PlainStudy, with_insertion, insert_refusal}
 use Rattle.study_reply.specs.Names.{edit_words}
-use Rattle.study_script.specs.State.{State, is_among, Outside, study, quiet, no_path, no_room, no_room_for, unread, unopened, cut_off, file, header}
+use Rattle.study_script.specs.State.{State, is_among, Environment, study, quiet, no_path, no_room, no_room_for, unread, unopened, cut_off, file, header}
 use Rattle.study_script.specs.Replies.{Reply, refused_as, IsInserted, inserted_text, IsMoveReply, IsMoveReplyAt, IsInsertReply, IsStudyReply, IsStudyReplyAt}
 use Rattle.study_command.specs.declared.command.NodeCommand.{NodeCommand}
-use Rattle.study_script.specs.Held.{IsToldBy, TellsFailing}
+use Rattle.study_script.specs.SessionHolds.{HasNoDeviceFault, IsFailingTable}
 use Rattle.study_script.proofs.AskingEdits.{refused_outside}
 use Rattle.study_script.proofs.SilentEdits.{SameWords, same_if, same_there}
 
-pub insert_same : (A B : Type 0) (s : Plainly) (steps : List ℕ) (m : Move) → SameWords (insert_refusal {A = A} s steps m) (insert_refusal {A = B} s steps m)
+pub insert_same : (A B : Type 0) (s : PlainStudy) (steps : List ℕ) (m : Move) → SameWords (insert_refusal {A = A} s steps m) (insert_refusal {A = B} s steps m)
 insert_same A B s steps m =
     same_if (not (has_spot s.tree steps)) _ _ _ _ refl
     (same_if (not (is_legal (position_at s steps) m)) _ _ _ _ refl
@@ -39,16 +39,16 @@ module _ {T A : Type 0} where
   err_same : (r : Result T (EditRefusal A)) (e f : EditRefusal A) → r ≡ Err e → r ≡ Err f → edit_words e ≡ edit_words f
   err_same r e f is was = let both : ◌≡◌ {A = Result T (EditRefusal A)} (Err e) (Err f) = sym is ∙ was in let same : e ≡ f = cc in ap edit_words same
 
-  insert_refused_by : (s : State) (held : Class → Bool) (paged : Bool) (old : Plainly) (steps : List ℕ) (m : Move)
+  insert_refused_by : (s : State) (held : Class → Bool) (paged : Bool) (old : PlainStudy) (steps : List ℕ) (m : Move)
       (x : Option (EditRefusal A)) (y : Option (EditRefusal (Unit {0}))) → SameWords x y
       → (r : Result T (EditRefusal A)) (e : EditRefusal A) → ((c : Class) → held c ≡ is_among s.classes c)
       → paged ≡ s.paged
       → MatchOption x (IfErr r (IsOutside held (asked_at (after (position_at old steps) m)))) (λ f. r ≡ Err f)
-      → r ≡ Err e → IsToldBy paged e → IsUndamaged e
-      → TellsFailing (λ c f. s.shelf.faults c f ≡ true) (asked_at (after (position_at old steps) m)) e → (o : Outside)
+      → r ≡ Err e → HasNoDeviceFault paged e → IsUndamaged e
+      → IsFailingTable (λ c f. s.shelf.faults c f ≡ true) (asked_at (after (position_at old steps) m)) e → (o : Environment)
       × IsInserted s o old steps m y (refused_as s (edit_words e))
   insert_refused_by s held paged old steps m None None same r e h p match is told clean failing =
-      refused_outside A s held paged (asked_at (after (position_at old steps) m)) (inserted old steps m)
+      refused_outside A s held paged (asked_at (after (position_at old steps) m)) (with_insertion old steps m)
       (inserted_text old steps m) e h p
       (subst
       (λ (z : Result T (EditRefusal A)). IfErr z (IsOutside held (asked_at (after (position_at old steps) m))))
@@ -62,13 +62,13 @@ module _ {T A : Type 0} where
   )
 
   -- a refused `insert` has that reply
-  pub insert_refused : (s : State) (held : Class → Bool) (paged : Bool) (old : Plainly) (steps : List ℕ) (m : Move)
+  pub insert_refused : (s : State) (held : Class → Bool) (paged : Bool) (old : PlainStudy) (steps : List ℕ) (m : Move)
       (r : Result T (EditRefusal A)) (e : EditRefusal A) → ((c : Class) → held c ≡ is_among s.classes c)
       → paged ≡ s.paged
       → MatchOption (insert_refusal {A = A} old steps m)
       (IfErr r (IsOutside held (asked_at (after (position_at old steps) m)))) (λ f. r ≡ Err f) → r ≡ Err e
-      → IsToldBy paged e → IsUndamaged e
-      → TellsFailing (λ c f. s.shelf.faults c f ≡ true) (asked_at (after (position_at old steps) m)) e → (o : Outside)
+      → HasNoDeviceFault paged e → IsUndamaged e
+      → IsFailingTable (λ c f. s.shelf.faults c f ≡ true) (asked_at (after (position_at old steps) m)) e → (o : Environment)
       × IsInserted s o old steps m (insert_refusal {A = Unit {0}} old steps m)
       (refused_as s (edit_words e))
   insert_refused s held paged old steps m r e h p match is told clean failing =
@@ -77,7 +77,7 @@ module _ {T A : Type 0} where
 
 -- ---- a reply if there was memory for the path
 
-module _ (s : State) (old : Plainly) (steps : List ℕ) where
+module _ (s : State) (old : PlainStudy) (steps : List ℕ) where
   same_inserted : (m : Move) (y : Option (EditRefusal (Unit {0}))) (reply : Reply)
       → IsInserted s no_path old steps m y reply → IsInserted s quiet old steps m y reply
   same_inserted m None reply h = h
@@ -91,8 +91,8 @@ module _ (s : State) (old : Plainly) (steps : List ℕ) where
   same_at san true reply h = same_moved _ reply h
   same_at san false reply h = h
 
-  pub with_path : (san : List ℕ) (o : Outside) (reply : Reply)
-      → IsMoveReplyAt s o old steps san (has_spot old.tree steps) reply → (p : Outside)
+  pub with_path : (san : List ℕ) (o : Environment) (reply : Reply)
+      → IsMoveReplyAt s o old steps san (has_spot old.tree steps) reply → (p : Environment)
       × IsInsertReply s p (study old) steps san reply
   with_path san quiet reply h = (quiet, h)
   with_path san no_path reply h = (quiet, same_at san (has_spot old.tree steps) reply h)
@@ -104,7 +104,7 @@ module _ (s : State) (old : Plainly) (steps : List ℕ) where
   with_path san (file bytes) reply h = (file bytes, h)
   with_path san (header told) reply h = (header told, h)
 
-module _ (s : State) (old : Plainly) (word : NodeCommand) (steps : List ℕ) where
+module _ (s : State) (old : PlainStudy) (word : NodeCommand) (steps : List ℕ) where
   -- the same for `delete`, `promote` and `mark`
-  pub node_command_on : (o : Outside) (reply : Reply) → IsStudyReply s word old steps reply → (p : Outside) × IsStudyReplyAt s p word (study old) steps reply
+  pub node_command_on : (o : Environment) (reply : Reply) → IsStudyReply s word old steps reply → (p : Environment) × IsStudyReplyAt s p word (study old) steps reply
   node_command_on o reply h = (quiet, h)

@@ -8,11 +8,11 @@ use Rattle.study_material.specs.Class.{class_number}
 use Rattle.study_values.specs.declared.fault.SourceFault.{SourceFault}
 use Rattle.study_values.specs.declared.fault.SourceFault.TheVariants as source
 use Rattle.study_values.specs.Size.{pages_of}
-use Rattle.study_tablefile.specs.Source.{Question, of_header, of_page, IsAnswerOf}
+use Rattle.study_tablefile.specs.PageSource.{Question, of_header, of_page, IsAnswerOf}
 use Rattle.study_prober.proofs.HeldSources.{same_class}
 use Rattle.study_script.specs.declared.memory_store.MemoryFile.{MemoryFile}
 use Rattle.study_script.specs.declared.memory_store.MemoryFile.TheVariants.{Written}
-use Rattle.study_script.specs.State.{forgotten, forgotten_faults, IsQuestionOf}
+use Rattle.study_script.specs.State.{unknown_after_write, forgotten_faults, IsQuestionOf}
 use Rattle.study_script.specs.Memory.{memory_file, memory_faults, text_faults, IsHonestFile}
 use Rattle.study_script.proofs.HeldTables.{place_below, same_at, other_at}
 
@@ -26,7 +26,7 @@ module _ (files : List MemoryFile) (c : Class) (full : length files ≡ 36) wher
 
   -- the knowledge of a file that is opened to be written is dropped
   pub known_anew : {T : Type 0} (known : MemoryFile → Option T) → known Written ≡ None → (d : Class)
-      → known (memory_file (set files (class_number c) Written) d) ≡ forgotten c (λ k. known (memory_file files k)) d
+      → known (memory_file (set files (class_number c) Written) d) ≡ unknown_after_write c (λ k. known (memory_file files k)) d
   known_anew known none d = elim (same_class c d) [
     | inl e ↦ ap known (written_at d e) ∙ none ∙ sym (ap (λ b. cond b None (known (memory_file files d))) (same_at d c (sym e)))
     | inr f ↦ ap known (kept_at d f) ∙ sym (ap (λ b. cond b None (known (memory_file files d))) (other_at d c (λ e. f (ap class_number (sym e)))))

@@ -30,7 +30,7 @@ use Rattle.study_marks.specs.declared.mark.Mark.{Mark}
 use Rattle.study_marks.specs.declared.stipulation.Stipulation.{Stipulation}
 use Rattle.study_marks.specs.declared.refusal.Refusal.{Refusal as EditRefusal}
 use Rattle.study_marks.specs.Study.{Study, position_at}
-use Rattle.study_marks.specs.Edits.{Plainly, shifted, shift_refusal, insert_refusal}
+use Rattle.study_marks.specs.Edits.{PlainStudy, with_start, shift_refusal, insert_refusal}
 use Rattle.study_marks.specs.Queries.{positions_asked, AreTablesHeld, IsFirstMissing}
 use Rattle.study_marks.specs.Laws.{AnnotationsAreUnique}
 use Rattle.study_marks.proofs.OneAnnotation.{one-value}
@@ -45,7 +45,7 @@ use Rattle.study_command.specs.declared.command.TableCommand.TheVariants.{Build,
 use Rattle.study_reply.specs.declared.refusal.Refusal.{Refusal}
 use Rattle.study_reply.specs.declared.refusal.Refusal.TheVariants.{NoTable}
 use Rattle.study_command.specs.Parser.{Asked, fen_command, node_query, node_command, table_command, stipulate, insert, tag, solve, pgn, Asks, command_of}
-use Rattle.study_script.specs.State.{State, Document, empty, start, study, is_among, first_lacking, Outside, quiet}
+use Rattle.study_script.specs.State.{State, Document, empty, start, study, is_among, first_lacking, Environment, quiet}
 use Rattle.study_values.specs.declared.values.ProbeFault.TheVariants as probe
 use Rattle.study_script.specs.State.{no_path, no_room, no_room_for, unread, unopened, cut_off, file, header}
 use Rattle.std.specs.Prelude.{◌==◌, ◌%◌, ◌&&◌, codes}
@@ -53,11 +53,11 @@ use Rattle.study_notation.specs.FenSpelling.{fen_text}
 use Rattle.study_material.specs.Class.{IsOf}
 use Rattle.study_reply.specs.Words.{reply_line, built_text, solve_text}
 use Rattle.study_script.specs.Replies.{Reply, Answer, accepted, refused, with_class, IsValued, missing, found}
-use Rattle.study_script.specs.Replies.{IsAskingReply, IsAskedReply, IsPositionReply, IsShiftReply, IsStartReply, IsStipulateReply}
+use Rattle.study_script.specs.Replies.{IsProbingEdit, IsProbingEditWithMemory, IsPositionReply, IsShiftReply, IsStartReply, IsStipulateReply}
 use Rattle.study_script.specs.Replies.{IsInserted, IsMoveReply, IsMoveReplyAt, IsInsertReply, start_found}
 use Rattle.study_script.specs.Replies.{IsSolution, IsSolveReply, marked_reply, Annotated, IsStudyReply, IsStudyReplyAt}
 use Rattle.study_script.specs.Replies.{IsPgnReply, IsBuilt, built, too_far, IsBuildReply, IsLoadReply, IsOpenReply}
-use Rattle.study_script.specs.Replies.{IsLoadIn, IsTableReply, IsNamedReply, class_told, wants_whole, IsClassReplyIn}
+use Rattle.study_script.specs.Replies.{IsLoadIn, IsTableReply, IsNamedReply, class_told, needs_whole_tables, IsClassReplyIn}
 use Rattle.study_script.specs.Replies.{IsReplyTo, IsReplyWhere, IsReplyIn, kept_apart, AreReplies}
 use Rattle.study_script.specs.Laws.{AreUnique}
 
@@ -79,7 +79,7 @@ missing_once held (p ∷ ps) c d (inl m) (inr n) = absurd (true≢false (sym (n.
 missing_once held (p ∷ ps) c d (inr m) (inl n) = absurd (true≢false (sym (m.0 d n.0) ∙ n.1))
 missing_once held (p ∷ ps) c d (inr m) (inr n) = missing_once held ps c d m.1 n.1
 
-valued_once : (s : State) (asked : List Position) (new : Plainly) (text : List ℕ) (a b : Reply)
+valued_once : (s : State) (asked : List Position) (new : PlainStudy) (text : List ℕ) (a b : Reply)
     → IsValued s asked new text a → IsValued s asked new text b → a ≡ b
 valued_once s asked new text a b (missing c m e) (missing d n f) =
     e ∙ ap (λ (x : Class). refused s (NoTable x)) (missing_once (is_among s.classes) asked c d m n) ∙ sym f
@@ -87,8 +87,8 @@ valued_once s asked new text a b (missing c m e) (found all f) = absurd (missing
 valued_once s asked new text a b (found all e) (missing d n f) = absurd (missing_held (is_among s.classes) asked d n all.each)
 valued_once s asked new text a b (found all e) (found more f) = e ∙ sym f
 
-asking_once : (s : State) (o : Outside) (asked : List Position) (new : Plainly) (text : List ℕ) (a b : Reply)
-    → IsAskingReply s o asked new text a → IsAskingReply s o asked new text b → a ≡ b
+asking_once : (s : State) (o : Environment) (asked : List Position) (new : PlainStudy) (text : List ℕ) (a b : Reply)
+    → IsProbingEdit s o asked new text a → IsProbingEdit s o asked new text b → a ≡ b
 asking_once s quiet asked new text a b h k = valued_once s asked new text a b h k
 asking_once s no_path asked new text a b h k = valued_once s asked new text a b h k
 asking_once s no_room asked new text a b h k = valued_once s asked new text a b h k
@@ -101,8 +101,8 @@ asking_once s cut_off asked new text a b h k = valued_once s asked new text a b 
 asking_once s (file bytes) asked new text a b h k = valued_once s asked new text a b h k
 asking_once s (header told) asked new text a b h k = valued_once s asked new text a b h k
 
-asked_once : (s : State) (o : Outside) (asked : List Position) (new : Plainly) (text : List ℕ) (a b : Reply)
-    → IsAskedReply s o asked new text a → IsAskedReply s o asked new text b → a ≡ b
+asked_once : (s : State) (o : Environment) (asked : List Position) (new : PlainStudy) (text : List ℕ) (a b : Reply)
+    → IsProbingEditWithMemory s o asked new text a → IsProbingEditWithMemory s o asked new text b → a ≡ b
 asked_once s quiet asked new text a b h k = valued_once s asked new text a b h k
 asked_once s no_path asked new text a b h k = valued_once s asked new text a b h k
 asked_once s no_room asked new text a b h k = h ∙ sym k
@@ -115,50 +115,50 @@ asked_once s (header told) asked new text a b h k = valued_once s asked new text
 
 -- ---- starts and stipulations
 
-position_once : (s : State) (o : Outside) (at : Document) (new : Start) (a b : Reply) → IsPositionReply s o at new a → IsPositionReply s o at new b → a ≡ b
+position_once : (s : State) (o : Environment) (at : Document) (new : Start) (a b : Reply) → IsPositionReply s o at new a → IsPositionReply s o at new b → a ≡ b
 position_once s o empty new a b h k = h ∙ sym k
 position_once s o (start old) new a b h k = h ∙ sym k
 position_once s o (study old) new a b h k = asking_once s o _ _ _ a b h k
 
-shift_once : (s : State) (o : Outside) (old : Plainly) (new : Start) (r : Option (EditRefusal (Unit {0})))
+shift_once : (s : State) (o : Environment) (old : PlainStudy) (new : Start) (r : Option (EditRefusal (Unit {0})))
     (a b : Reply) → IsShiftReply s o old new r a → IsShiftReply s o old new r b → a ≡ b
 shift_once s quiet old new (Some refusal) a b h k = h ∙ sym k
 shift_once s quiet old new None a b h k =
-    asked_once s quiet (positions_asked (shifted old new)) (shifted old new) (reply_line (codes "shift ") (fen_text new)) a b h k
+    asked_once s quiet (positions_asked (with_start old new)) (with_start old new) (reply_line (codes "shift ") (fen_text new)) a b h k
 shift_once s no_path old new (Some refusal) a b h k = h ∙ sym k
 shift_once s no_path old new None a b h k =
-    asked_once s no_path (positions_asked (shifted old new)) (shifted old new) (reply_line (codes "shift ") (fen_text new))
+    asked_once s no_path (positions_asked (with_start old new)) (with_start old new) (reply_line (codes "shift ") (fen_text new))
     a b h k
 shift_once s no_room old new (Some refusal) a b h k = h ∙ sym k
 shift_once s no_room old new None a b h k =
-    asked_once s no_room (positions_asked (shifted old new)) (shifted old new) (reply_line (codes "shift ") (fen_text new))
+    asked_once s no_room (positions_asked (with_start old new)) (with_start old new) (reply_line (codes "shift ") (fen_text new))
     a b h k
 shift_once s (no_room_for bytes) old new (Some refusal) a b h k = h ∙ sym k
 shift_once s (no_room_for bytes) old new None a b h k =
-    asked_once s (no_room_for bytes) (positions_asked (shifted old new)) (shifted old new)
+    asked_once s (no_room_for bytes) (positions_asked (with_start old new)) (with_start old new)
     (reply_line (codes "shift ") (fen_text new)) a b h k
 shift_once s (unread fault) old new (Some refusal) a b h k = h ∙ sym k
 shift_once s (unread fault) old new None a b h k =
-    asked_once s (unread fault) (positions_asked (shifted old new)) (shifted old new)
+    asked_once s (unread fault) (positions_asked (with_start old new)) (with_start old new)
     (reply_line (codes "shift ") (fen_text new)) a b h k
 shift_once s (unopened fault) old new (Some refusal) a b h k = h ∙ sym k
 shift_once s (unopened fault) old new None a b h k =
-    asked_once s (unopened fault) (positions_asked (shifted old new)) (shifted old new)
+    asked_once s (unopened fault) (positions_asked (with_start old new)) (with_start old new)
     (reply_line (codes "shift ") (fen_text new)) a b h k
 shift_once s cut_off old new (Some refusal) a b h k = h ∙ sym k
 shift_once s cut_off old new None a b h k =
-    asked_once s cut_off (positions_asked (shifted old new)) (shifted old new) (reply_line (codes "shift ") (fen_text new))
+    asked_once s cut_off (positions_asked (with_start old new)) (with_start old new) (reply_line (codes "shift ") (fen_text new))
     a b h k
 shift_once s (file bytes) old new (Some refusal) a b h k = h ∙ sym k
 shift_once s (file bytes) old new None a b h k =
-    asked_once s (file bytes) (positions_asked (shifted old new)) (shifted old new)
+    asked_once s (file bytes) (positions_asked (with_start old new)) (with_start old new)
     (reply_line (codes "shift ") (fen_text new)) a b h k
 shift_once s (header told) old new (Some refusal) a b h k = h ∙ sym k
 shift_once s (header told) old new None a b h k =
-    asked_once s (header told) (positions_asked (shifted old new)) (shifted old new)
+    asked_once s (header told) (positions_asked (with_start old new)) (with_start old new)
     (reply_line (codes "shift ") (fen_text new)) a b h k
 
-start_once : (s : State) (o : Outside) (word : FenCommand) (at : Document) (read : Result Start FenFault) (a b : Reply)
+start_once : (s : State) (o : Environment) (word : FenCommand) (at : Document) (read : Result Start FenFault) (a b : Reply)
     → IsStartReply s o word at read a → IsStartReply s o word at read b → a ≡ b
 start_once s o PositionWord at (Err fault) a b h k = h ∙ sym k
 start_once s o PositionWord at (Ok new) a b h k = position_once s o at new a b h k
@@ -167,7 +167,7 @@ start_once s o Shift (study old) (Ok new) a b h k = shift_once s o old new (shif
 start_once s o Shift empty read a b h k = h ∙ sym k
 start_once s o Shift (start old) read a b h k = h ∙ sym k
 
-stipulate_once : (s : State) (o : Outside) (at : Document) (new : Stipulation) (a b : Reply)
+stipulate_once : (s : State) (o : Environment) (at : Document) (new : Stipulation) (a b : Reply)
     → IsStipulateReply s o at new a → IsStipulateReply s o at new b → a ≡ b
 stipulate_once s o empty new a b h k = h ∙ sym k
 stipulate_once s o (start from) new a b h k = asking_once s o _ _ _ a b h k
@@ -175,23 +175,23 @@ stipulate_once s o (study old) new a b h k = h ∙ sym k
 
 -- ---- nodes
 
-inserted_once : (s : State) (o : Outside) (old : Plainly) (steps : List ℕ) (m : Move)
+inserted_once : (s : State) (o : Environment) (old : PlainStudy) (steps : List ℕ) (m : Move)
     (r : Option (EditRefusal (Unit {0}))) (a b : Reply) → IsInserted s o old steps m r a
     → IsInserted s o old steps m r b → a ≡ b
 inserted_once s o old steps m (Some refusal) a b h k = h ∙ sym k
 inserted_once s o old steps m None a b h k = asked_once s o _ _ _ a b h k
 
-moved_once : (s : State) (o : Outside) (old : Plainly) (steps : List ℕ) (read : Result Move SanFault) (a b : Reply)
+moved_once : (s : State) (o : Environment) (old : PlainStudy) (steps : List ℕ) (read : Result Move SanFault) (a b : Reply)
     → IsMoveReply s o old steps read a → IsMoveReply s o old steps read b → a ≡ b
 moved_once s o old steps (Err fault) a b h k = h ∙ sym k
 moved_once s o old steps (Ok m) a b h k = inserted_once s o old steps m (insert_refusal old steps m) a b h k
 
-move_at_once : (s : State) (o : Outside) (old : Plainly) (steps san : List ℕ) (there : Bool) (a b : Reply)
+move_at_once : (s : State) (o : Environment) (old : PlainStudy) (steps san : List ℕ) (there : Bool) (a b : Reply)
     → IsMoveReplyAt s o old steps san there a → IsMoveReplyAt s o old steps san there b → a ≡ b
 move_at_once s o old steps san false a b h k = h ∙ sym k
 move_at_once s o old steps san true a b h k = moved_once s o old steps (move_of (position_at old steps) san) a b h k
 
-insert_once : (s : State) (o : Outside) (at : Document) (steps san : List ℕ) (a b : Reply)
+insert_once : (s : State) (o : Environment) (at : Document) (steps san : List ℕ) (a b : Reply)
     → IsInsertReply s o at steps san a → IsInsertReply s o at steps san b → a ≡ b
 insert_once s o empty steps san a b h k = h ∙ sym k
 insert_once s o (start from) steps san a b h k = h ∙ sym k
@@ -227,16 +227,16 @@ solve_once s count (Ok at) a b (n, x, e) (m, y, f) =
 solve_once s count (Err refusal) a b e f = e ∙ sym f
 
 module _ (one_annotation : AnnotationsAreUnique) where
-  annotated_once : (old : Plainly) (told : Study Mark → Reply) (a b : Reply) → Annotated old (λ x. a ≡ told x) → Annotated old (λ x. b ≡ told x) → a ≡ b
+  annotated_once : (old : PlainStudy) (told : Study Mark → Reply) (a b : Reply) → Annotated old (λ x. a ≡ told x) → Annotated old (λ x. b ≡ told x) → a ≡ b
   annotated_once old told a b (x, is, from, e) (y, are, same, f) = e ∙ ap told (one_annotation x y is are (from ∙ sym same)) ∙ sym f
 
-  study_once : (s : State) (word : NodeCommand) (old : Plainly) (steps : List ℕ) (a b : Reply)
+  study_once : (s : State) (word : NodeCommand) (old : PlainStudy) (steps : List ℕ) (a b : Reply)
       → IsStudyReply s word old steps a → IsStudyReply s word old steps b → a ≡ b
   study_once s Delete old steps a b h k = h ∙ sym k
   study_once s Promote old steps a b h k = h ∙ sym k
   study_once s MarkWord old steps a b h k = annotated_once old (λ x. marked_reply s steps (spot_at x.tree steps)) a b h k
 
-  study_at_once : (s : State) (o : Outside) (word : NodeCommand) (at : Document) (steps : List ℕ) (a b : Reply)
+  study_at_once : (s : State) (o : Environment) (word : NodeCommand) (at : Document) (steps : List ℕ) (a b : Reply)
       → IsStudyReplyAt s o word at steps a → IsStudyReplyAt s o word at steps b → a ≡ b
   study_at_once s o word empty steps a b h k = h ∙ sym k
   study_at_once s o word (start from) steps a b h k = h ∙ sym k
@@ -251,7 +251,7 @@ module _ (one_annotation : AnnotationsAreUnique) where
   study_at_once s (file bytes) word (study old) steps a b h k = study_once s word old steps a b h k
   study_at_once s (header told) word (study old) steps a b h k = study_once s word old steps a b h k
 
-  pgn_once : (s : State) (o : Outside) (at : Document) (a b : Reply) → IsPgnReply s o at a → IsPgnReply s o at b → a ≡ b
+  pgn_once : (s : State) (o : Environment) (at : Document) (a b : Reply) → IsPgnReply s o at a → IsPgnReply s o at b → a ≡ b
   pgn_once s o empty a b h k = h ∙ sym k
   pgn_once s o (start from) a b h k = h ∙ sym k
   pgn_once s quiet (study old) a b h k = annotated_once old (λ x. accepted s (pgn_text x)) a b h k
@@ -330,7 +330,7 @@ module _ (one_value : EachHasAtMostOneValue) where
   built_once s c a b (too_far far h) (built u y f complete good i k) = absurd (not_far c u f complete good far)
   built_once s c a b (too_far far h) (too_far more k) = h ∙ sym k
 
-  build_once : (s : State) (o : Outside) (c : Class) (holds : Bool) (lacking : Option Class) (a b : Reply)
+  build_once : (s : State) (o : Environment) (c : Class) (holds : Bool) (lacking : Option Class) (a b : Reply)
       → IsBuildReply s o c holds lacking a → IsBuildReply s o c holds lacking b → a ≡ b
   build_once s o c true lacking a b h k = h ∙ sym k
   build_once s quiet c false (Some d) a b h k = h ∙ sym k
@@ -351,7 +351,7 @@ module _ (one_value : EachHasAtMostOneValue) where
   build_once s (header told) c false (Some d) a b h k = h ∙ sym k
   build_once s (header told) c false None a b h k = built_once s c a b h k
 
-load_once : (s : State) (o : Outside) (c : Class) (holds : Bool) (lacking : Option Class) (a b : Reply)
+load_once : (s : State) (o : Environment) (c : Class) (holds : Bool) (lacking : Option Class) (a b : Reply)
     → IsLoadReply s o c holds lacking a → IsLoadReply s o c holds lacking b → a ≡ b
 load_once s o c true lacking a b h k = h ∙ sym k
 load_once s o c false (Some d) a b h k = h ∙ sym k
@@ -365,7 +365,7 @@ load_once s cut_off c false None a b h k = h.1 ∙ sym k.1
 load_once s (file bytes) c false None a b h k = h.1 ∙ sym k.1
 load_once s (header told) c false None a b h k = absurd h
 
-open_once : (s : State) (o : Outside) (c : Class) (holds : Bool) (a b : Reply) → IsOpenReply s o c holds a → IsOpenReply s o c holds b → a ≡ b
+open_once : (s : State) (o : Environment) (c : Class) (holds : Bool) (a b : Reply) → IsOpenReply s o c holds a → IsOpenReply s o c holds b → a ≡ b
 open_once s o c true a b h k = h ∙ sym k
 open_once s quiet c false a b h k = absurd h
 open_once s no_path c false a b h k = absurd h
@@ -377,47 +377,47 @@ open_once s cut_off c false a b h k = absurd h
 open_once s (file bytes) c false a b h k = absurd h
 open_once s (header told) c false a b h k = h.1 ∙ sym k.1
 
-load_in_once : (s : State) (o : Outside) (by_pages : Bool) (c : Class) (a b : Reply) → IsLoadIn s o by_pages c a → IsLoadIn s o by_pages c b → a ≡ b
+load_in_once : (s : State) (o : Environment) (by_pages : Bool) (c : Class) (a b : Reply) → IsLoadIn s o by_pages c a → IsLoadIn s o by_pages c b → a ≡ b
 load_in_once s o false c a b h k = load_once s o c (is_among s.classes c) (first_lacking s.classes c) a b h k
 load_in_once s o true c a b h k = open_once s o c (is_among s.classes c) a b h k
 
 module _ (one_value : EachHasAtMostOneValue) (one_annotation : AnnotationsAreUnique) where
-  table_once : (s : State) (o : Outside) (word : TableCommand) (c : Class) (a b : Reply) → IsTableReply s o word c a → IsTableReply s o word c b → a ≡ b
+  table_once : (s : State) (o : Environment) (word : TableCommand) (c : Class) (a b : Reply) → IsTableReply s o word c a → IsTableReply s o word c b → a ≡ b
   table_once s o Build c a b h k = build_once one_value s o c (is_among s.classes c) (first_lacking s.classes c) a b h k
   table_once s o Load c a b h k = load_in_once s o s.paged c a b h k
   table_once s o Save c a b h k = h ∙ sym k
   table_once s o Verify c a b h k = h ∙ sym k
 
-  named_once : (s : State) (o : Outside) (word : TableCommand) (named : Option Class) (a b : Reply)
+  named_once : (s : State) (o : Environment) (word : TableCommand) (named : Option Class) (a b : Reply)
       → IsNamedReply s o word named a → IsNamedReply s o word named b → a ≡ b
   named_once s o word None a b h k = h ∙ sym k
   named_once s o word (Some c) a b h k = table_once s o word c a b h k
 
-  class_once : (s : State) (o : Outside) (word : TableCommand) (name : List ℕ) (refuses : Bool) (a b : Reply)
+  class_once : (s : State) (o : Environment) (word : TableCommand) (name : List ℕ) (refuses : Bool) (a b : Reply)
       → IsClassReplyIn s o word name refuses a → IsClassReplyIn s o word name refuses b → a ≡ b
   class_once s o word name true a b h k = h ∙ sym k
   class_once s o word name false a b h k = named_once s o word (class_told name) a b h k
 
   -- ---- lines
 
-  command_once : (s : State) (o : Outside) (asked : Asked) (a b : Reply) → IsReplyTo s o asked a → IsReplyTo s o asked b → a ≡ b
+  command_once : (s : State) (o : Environment) (asked : Asked) (a b : Reply) → IsReplyTo s o asked a → IsReplyTo s o asked b → a ≡ b
   command_once s o (fen_command word fen) a b h k = start_once s o word s.document (start_of fen) a b h k
   command_once s o (node_query Moves steps) a b h k = h ∙ sym k
   command_once s o (node_query Fen steps) a b h k = h ∙ sym k
   command_once s o (node_command word steps) a b h k = study_at_once one_annotation s o word s.document steps a b h k
-  command_once s o (table_command word name) a b h k = class_once s o word name (wants_whole word && s.paged) a b h k
+  command_once s o (table_command word name) a b h k = class_once s o word name (needs_whole_tables word && s.paged) a b h k
   command_once s o (stipulate stipulation) a b h k = stipulate_once s o s.document stipulation a b h k
   command_once s o (insert steps san) a b h k = insert_once s o s.document steps san a b h k
   command_once s o (tag name text) a b h k = h ∙ sym k
   command_once s o (solve count steps) a b h k = solve_once s count (start_found o s.document steps) a b h k
   command_once s o pgn a b h k = pgn_once one_annotation s o s.document a b h k
 
-  reply_once : (s : State) (o : Outside) (asks : Asks) (a b : Reply) → IsReplyWhere s o asks a → IsReplyWhere s o asks b → a ≡ b
+  reply_once : (s : State) (o : Environment) (asks : Asks) (a b : Reply) → IsReplyWhere s o asks a → IsReplyWhere s o asks b → a ≡ b
   reply_once s o (Ok None) a b h k = h ∙ sym k
   reply_once s o (Ok (Some asked)) a b h k = command_once s o asked a b h k
   reply_once s o (Err fault) a b h k = h ∙ sym k
 
-  in_mode_once : (separate : Bool) (s : State) (o : Outside) (line : List ℕ) (a b : Reply)
+  in_mode_once : (separate : Bool) (s : State) (o : Environment) (line : List ℕ) (a b : Reply)
       → IsReplyIn separate s line o a → IsReplyIn separate s line o b → a ≡ b
   in_mode_once false s o line a b h k = reply_once s o (command_of line) a b h k
   in_mode_once true s o line a b (c, h, e) (d, k, f) = e ∙ ap (kept_apart line) (reply_once s o (command_of line) c d h k) ∙ sym f
@@ -431,14 +431,14 @@ module _ (one_value : EachHasAtMostOneValue) (one_annotation : AnnotationsAreUni
   replies-unique separate s (line ∷ lines) ((o, a) ∷ rest) ((p, b) ∷ bs) e h k =
       let outside : o ≡ p = ap (first_of o) e in
       let others : map (λ (x : Answer). x.0) rest ≡ map (λ (x : Answer). x.0) bs = ap behind e in
-      let same : a ≡ b = in_mode_once separate s o line a b h.0 (subst (λ (x : Outside). IsReplyIn separate s line x b) (sym outside) k.0) in
+      let same : a ≡ b = in_mode_once separate s o line a b h.0 (subst (λ (x : Environment). IsReplyIn separate s line x b) (sym outside) k.0) in
       let more = replies-unique separate a.state lines rest bs others h.1 (subst (λ (r : Reply). AreReplies separate r.state lines bs) (sym same) k.1) in
-      ap (λ (x : Outside). (x, a) ∷ rest) outside ∙ ap (λ (x : Reply). (p, x) ∷ rest) same ∙ ap (λ (xs : List Answer). (p, b) ∷ xs) more
+      ap (λ (x : Environment). (x, a) ∷ rest) outside ∙ ap (λ (x : Reply). (p, x) ∷ rest) same ∙ ap (λ (xs : List Answer). (p, b) ∷ xs) more
     where
-      first_of : Outside → List Outside → Outside
+      first_of : Environment → List Environment → Environment
       first_of d [] = d
       first_of d (x ∷ xs) = x
 
-      behind : List Outside → List Outside
+      behind : List Environment → List Environment
       behind [] = []
       behind (x ∷ xs) = xs

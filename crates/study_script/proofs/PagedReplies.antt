@@ -11,7 +11,7 @@ use Rattle.study_prober.specs.declared.fault.PagedFault.{PagedFault}
 use Rattle.study_prober.specs.declared.fault.PagedFault.TheVariants as fault_of
 use Rattle.study_prober.specs.declared.open_table.OpenTable.{OpenTable}
 use Rattle.study_values.specs.Size.{pages_of}
-use Rattle.study_tablefile.specs.Source.{of_page}
+use Rattle.study_tablefile.specs.PageSource.{of_page}
 use Rattle.study_prober.specs.Sources.{GivesOf, GivesRight}
 use Rattle.study_prober.specs.PagedTables.{Paged, MayFail, held_of, places_for_classes, SourcesAreRight}
 use Rattle.study_prober.specs.HeaderAnswers.{paged_fault}

@@ -6,14 +6,14 @@ use Rattle.std.specs.Prelude.{if◌then◌else◌}
 use Rattle.study_board.specs.Position.{Position}
 use Rattle.study_moves.specs.declared.moves.Move.{Move}
 use Rattle.study_notation.specs.declared.start.Start.{Start}
-use Rattle.study_notation.specs.Played.{start_after}
-use Rattle.study_notation.specs.Written.{move_text}
+use Rattle.study_notation.specs.StartAfter.{start_after}
+use Rattle.study_notation.specs.SanSpelling.{move_text}
 use Rattle.study_tree.specs.Forest.{Forest, none, more}
 use Rattle.study_tree.specs.Edits.{has_node, children_at}
 use Rattle.study_tree.specs.Tree.{has_spot}
 use Rattle.study_marks.specs.Study.{Study, mapped, plain_study, moves_to, position_after, start_along, position_at}
 use Rattle.study_marks.specs.Bench.{start_at}
-use Rattle.study_marks.specs.Edits.{Plainly}
+use Rattle.study_marks.specs.Edits.{PlainStudy}
 use Rattle.study_command.specs.declared.command.NodeCommand.{NodeCommand}
 use Rattle.study_reply.specs.declared.refusal.Refusal.{Refusal}
 use Rattle.study_reply.specs.declared.refusal.Refusal.TheVariants.{NoSuchNode, OutOfMemory}
@@ -113,16 +113,16 @@ pub no_path_start : (from : Start) (ks : List ℕ) → (ks ≡ [] → ⊥) → �
 no_path_start from [] some = absurd (some refl)
 no_path_start from (k ∷ ks) some = refl
 
-pub no_path_study : (old : Plainly) (ks : List ℕ) → (ks ≡ [] → ⊥) → ◌≡◌ {A = Result Start Refusal} (Err OutOfMemory) (start_found no_path (study old) ks)
+pub no_path_study : (old : PlainStudy) (ks : List ℕ) → (ks ≡ [] → ⊥) → ◌≡◌ {A = Result Start Refusal} (Err OutOfMemory) (start_found no_path (study old) ks)
 no_path_study old [] some = absurd (some refl)
 no_path_study old (k ∷ ks) some = refl
 
-pub no_path_word : (s : State) (word : NodeCommand) (old : Plainly) (ks : List ℕ) → (ks ≡ [] → ⊥)
+pub no_path_word : (s : State) (word : NodeCommand) (old : PlainStudy) (ks : List ℕ) → (ks ≡ [] → ⊥)
     → IsStudyReplyAt s no_path word (study old) ks (refused s OutOfMemory)
 no_path_word s word old [] some = absurd (some refl)
 no_path_word s word old (k ∷ ks) some = refl
 
-pub no_path_insert : (s : State) (old : Plainly) (ks san : List ℕ) → (ks ≡ [] → ⊥)
+pub no_path_insert : (s : State) (old : PlainStudy) (ks san : List ℕ) → (ks ≡ [] → ⊥)
     → IsInsertReply s no_path (study old) ks san (refused s OutOfMemory)
 no_path_insert s old [] san some = absurd (some refl)
 no_path_insert s old (k ∷ ks) san some = refl

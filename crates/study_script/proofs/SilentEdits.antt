@@ -5,7 +5,7 @@ use mathlib.Core.Bool.{true≢false}
 use Rattle.study_tree.specs.Edits.{last_place}
 use Rattle.study_tree.specs.Tree.{has_spot}
 use Rattle.study_marks.specs.declared.refusal.Refusal.{Refusal as EditRefusal}
-use Rattle.study_marks.specs.Edits.{Plainly, there, is_tag_text, delete_refusal, promote_refusal, tag_refusal}
+use Rattle.study_marks.specs.Edits.{PlainStudy, there, is_tag_text, delete_refusal, promote_refusal, tag_refusal}
 use Rattle.study_reply.specs.Names.{edit_words}
 use Rattle.study_script.specs.State.{State}
 use Rattle.study_script.specs.Replies.{accepted, refused_as, holding, edit_reply}
@@ -38,18 +38,18 @@ module _ {T A B : Type 0} where
   accepted_same (Some a) (Some b) same r v m is = absurd (true≢false (sym (subst IsOk m (subst IsOk (sym is) refl))))
 
 -- a refused edit has the reply of the definition
-reply_refused : (s : State) (y : Option (EditRefusal (Unit {0}))) (words : List ℕ) (new : Plainly) (text : List ℕ)
+reply_refused : (s : State) (y : Option (EditRefusal (Unit {0}))) (words : List ℕ) (new : PlainStudy) (text : List ℕ)
     → MatchOption y (⊥) (λ f. words ≡ edit_words f) → refused_as s words ≡ edit_reply s y new text
 reply_refused s None words new text m = absurd m
 reply_refused s (Some f) words new text m = ap (refused_as s) m
 
 module _ {T A : Type 0} where
-  pub edit_refused : (s : State) (x : Option (EditRefusal A)) (y : Option (EditRefusal (Unit {0}))) (new : Plainly)
+  pub edit_refused : (s : State) (x : Option (EditRefusal A)) (y : Option (EditRefusal (Unit {0}))) (new : PlainStudy)
       (text : List ℕ) → SameWords x y → (r : Result T (EditRefusal A)) (e : EditRefusal A)
       → MatchOption x (IsOk r) (λ f. r ≡ Err f) → r ≡ Err e → refused_as s (edit_words e) ≡ edit_reply s y new text
   edit_refused s x y new text same r e m is = reply_refused s y (edit_words e) new text (refused_same s x y same r e m is)
 
-  pub edit_accepted : (s : State) (x : Option (EditRefusal A)) (y : Option (EditRefusal (Unit {0}))) (new : Plainly)
+  pub edit_accepted : (s : State) (x : Option (EditRefusal A)) (y : Option (EditRefusal (Unit {0}))) (new : PlainStudy)
       (text : List ℕ) → SameWords x y → (r : Result T (EditRefusal A)) (v : T)
       → MatchOption x (IsOk r) (λ f. r ≡ Err f) → r ≡ Ok v → accepted (holding s new) text ≡ edit_reply s y new text
   edit_accepted s x y new text same r v m is = ap (λ z. edit_reply s z new text) (sym (accepted_same x y same r v m is))
@@ -66,11 +66,11 @@ module _ {A B : Type 0} where
   same_there None x y p = p
   same_there (Some k) x y p = refl
 
-pub delete_same : (A B : Type 0) (s : Plainly) (steps : List ℕ) → SameWords (delete_refusal {A = A} s steps) (delete_refusal {A = B} s steps)
+pub delete_same : (A B : Type 0) (s : PlainStudy) (steps : List ℕ) → SameWords (delete_refusal {A = A} s steps) (delete_refusal {A = B} s steps)
 delete_same A B s [] = refl
 delete_same A B s (k ∷ ks) = same_if (not (has_spot s.tree (k ∷ ks))) _ _ _ _ refl tt
 
-pub promote_same : (A B : Type 0) (s : Plainly) (steps : List ℕ) → SameWords (promote_refusal {A = A} s steps) (promote_refusal {A = B} s steps)
+pub promote_same : (A B : Type 0) (s : PlainStudy) (steps : List ℕ) → SameWords (promote_refusal {A = A} s steps) (promote_refusal {A = B} s steps)
 promote_same A B s [] = refl
 promote_same A B s (k ∷ ks) = same_if (not (has_spot s.tree (k ∷ ks))) _ _ _ _ refl (same_if (nat_eq (last_place k ks) 0) _ _ _ _ refl tt)
 

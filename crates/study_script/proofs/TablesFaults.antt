@@ -3,7 +3,7 @@ use Rattle.std.proofs.Common.{◌≡◌, ℕ, Bool, false, List, [], ◌∷◌, 
 use Rattle.study_board.specs.Position.{Position}
 use Rattle.study_material.specs.declared.class.Class.{Class}
 use Rattle.study_values.specs.declared.fault.SourceFault.{SourceFault}
-use Rattle.study_tablefile.specs.Source.{Question}
+use Rattle.study_tablefile.specs.PageSource.{Question}
 use Rattle.study_values.specs.Values.{ProbeAnswer}
 use Rattle.study_prober.specs.declared.open_table.OpenTable.{OpenTable}
 use Rattle.study_values.specs.declared.values.ProbeFault.{ProbeFault}
@@ -16,7 +16,7 @@ use Rattle.study_marks.specs.Answers.{IsFirstFault, TellsFirstFault}
 use Rattle.study_script.specs.declared.tables.Tables.{Tables}
 use Rattle.study_script.specs.declared.tables.Tables.TheVariants as held
 use Rattle.study_script.specs.Replies.{MayFailAmong}
-use Rattle.study_script.specs.Held.{tables_give, tables_may_fail, tables_asked, tables_held, TellsFailing}
+use Rattle.study_script.specs.SessionHolds.{tables_give, tables_may_fail, tables_asked, tables_held, IsFailingTable}
 
 module _ {P : Type 0} (gives : P → Question → Result (List ℕ) SourceFault → Type 0) where
   whole_first : (A : Type 0) (old new : Whole) (ps : List Position) (f : ProbeFault)
@@ -129,7 +129,7 @@ module _ {V : Type 0} (gives : V → Position → ProbeAnswer → Type 0) (may_f
 
   pub failing_known : {A : Type 0} (old new : V) (asked : List Position) (r : EditRefusal A)
       → ((c : Class) (g : SourceFault) → may_fail old c g → known c g)
-      → TellsFirstFault gives may_fail asked_of old asked new r → TellsFailing known asked r
+      → TellsFirstFault gives may_fail asked_of old asked new r → IsFailingTable known asked r
   failing_known old new asked (edit.TableRead (probe.TableRead f)) knows h = failing-among old new asked f knows h
   failing_known old new asked (edit.TableRead (probe.NoTable c)) knows h = tt
   failing_known old new asked (edit.TableRead (probe.PageDamaged c n)) knows h = tt

@@ -15,7 +15,7 @@ use Rattle.study_values.specs.declared.fault.FileFault.{FileFault}
 use Rattle.study_tablefile.specs.Reading.{table_read, HasHeader}
 use Rattle.study_script.specs.declared.store.StoreFault.{StoreFault}
 use Rattle.study_reply.specs.declared.refusal.Refusal.TheVariants.{Device, OutOfMemory, File}
-use Rattle.study_script.specs.State.{State, Outside, is_among, IsGiven, IsOpened}
+use Rattle.study_script.specs.State.{State, Environment, is_among, IsGiven, IsOpened}
 use Rattle.study_script.specs.Replies.{Reply}
 
 -- the reply with this state after it
@@ -23,8 +23,8 @@ abbrev pub decided_reply : State → Result TableReply Refusal → Reply
 decided_reply s told = record { text = decided_text told; state = s; refused = is_err told }
 
 -- the reply to this outcome has the property, in some environment, and the code is then in the state after it
-abbrev pub Decided : (Outside → Reply → Type 0) → (State → Type 0) → Result TableReply Refusal → Type 0
-Decided IsIt HoldsIt told = (o : Outside) × (t : State) × IsIt o (decided_reply t told) × HoldsIt t
+abbrev pub Decided : (Environment → Reply → Type 0) → (State → Type 0) → Result TableReply Refusal → Type 0
+Decided IsIt HoldsIt told = (o : Environment) × (t : State) × IsIt o (decided_reply t told) × HoldsIt t
 
 -- these whole tables are those of the state, and they are right
 pub record HoldsWhole (w : Whole) (s : State) : Type 0 where

@@ -2,7 +2,7 @@ pub mod State
 pub mod Stores
 pub mod StoreRefusals
 pub mod Replies
-pub mod Held
+pub mod SessionHolds
 pub mod Memory
 pub mod Decided
 pub mod Session

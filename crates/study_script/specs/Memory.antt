@@ -6,7 +6,7 @@ use Rattle.study_table.specs.Table.{Table, IsComplete}
 use Rattle.study_table.specs.Sound.{IsRight}
 use Rattle.study_values.specs.declared.fault.SourceFault.{SourceFault}
 use Rattle.study_values.specs.declared.fault.SourceFault.TheVariants as source
-use Rattle.study_tablefile.specs.File.{IsVersionOf, table_text}
+use Rattle.study_tablefile.specs.Format.{IsVersionOf, table_text}
 use Rattle.study_values.specs.Size.{pages_of}
 use Rattle.study_script.specs.declared.store.StoreFault.{StoreFault}
 use Rattle.study_script.specs.declared.store.StoreFault.TheVariants.{NoFile, Device}

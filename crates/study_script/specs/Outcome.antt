@@ -8,12 +8,12 @@ use Rattle.study_script.specs.declared.running.Summary.{Summary}
 use Rattle.study_script.specs.declared.running.RunFault.{RunFault}
 use Rattle.study_script.specs.declared.running.RunFault.TheVariants.{ReadDevice, WriteDevice, LineTooLong, TooManyLines, OutOfMemory}
 use Rattle.study_command.specs.Lines.{script_lines, GaveFeeds}
-use Rattle.study_script.specs.State.{State, empty, Shelf, Outside}
+use Rattle.study_script.specs.State.{State, empty, StoreKnowledge, Environment}
 use Rattle.study_script.specs.Replies.{Reply, Answer, IsReplyIn, AreReplies, replies_text}
 
 -- the state before the first line: no document and no table
-abbrev pub begun_state : Shelf → Bool → State
-begun_state shelf paged = record { document = empty; classes = []; paged = paged; shelf = shelf }
+abbrev pub initial_state : StoreKnowledge → Bool → State
+initial_state shelf paged = record { document = empty; classes = []; paged = paged; shelf = shelf }
 
 -- no line has more than 1,024 bytes
 abbrev pub AreShort : List (List ℕ) → Type 0
@@ -38,7 +38,7 @@ abbrev pub AreBrokenOff : Bool → State → List (List ℕ) → List ℕ → Op
 AreBrokenOff separate first lines line old new =
     AreShort lines × (length line ≤ 1024) × (replies : List Answer) × AreReplies separate first lines replies
     × (mid : Option (List ℕ)) × Appends old mid (replies_text replies)
-    × (o : Outside) × (reply : Reply) × IsReplyIn separate (state_after first replies) line o reply × TakesPrefix mid new reply.text
+    × (o : Environment) × (reply : Reply) × IsReplyIn separate (state_after first replies) line o reply × TakesPrefix mid new reply.text
 
 -- these lines are left in a reader
 abbrev pub AreLeft : Option (List ℕ) → List (List ℕ) → Type 0

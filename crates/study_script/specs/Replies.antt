@@ -27,7 +27,7 @@ use Rattle.study_notation.specs.declared.fault.SanFault.{SanFault}
 use Rattle.study_notation.specs.Fen.{start_of}
 use Rattle.study_notation.specs.FenSpelling.{fen_text}
 use Rattle.study_notation.specs.Matching.{move_of}
-use Rattle.study_notation.specs.Written.{move_text}
+use Rattle.study_notation.specs.SanSpelling.{move_text}
 use Rattle.study_tree.specs.Forest.{none}
 use Rattle.study_tree.specs.Edits.{children_at}
 use Rattle.study_tree.specs.Tree.{Spot, has_spot, spot_at}
@@ -37,7 +37,7 @@ use Rattle.study_marks.specs.declared.tag.TagName.{TagName}
 use Rattle.study_marks.specs.declared.refusal.Refusal.{Refusal as EditRefusal}
 use Rattle.study_marks.specs.Study.{Study, plain_study, position_at, tag_name}
 use Rattle.study_marks.specs.Annotated.{IsAnnotated}
-use Rattle.study_marks.specs.Edits.{Plainly, positioned, shifted, stipulated, inserted, deleted, promoted, tagged}
+use Rattle.study_marks.specs.Edits.{PlainStudy, with_position, with_start, with_stipulation, with_insertion, with_deletion, with_promotion, with_tag}
 use Rattle.study_marks.specs.Edits.{insert_refusal, delete_refusal, promote_refusal, shift_refusal, tag_refusal}
 use Rattle.study_marks.specs.Queries.{asked_at, positions_asked, IsFirstMissing, IsFirstUnread, AllHeld}
 use Rattle.study_marks.specs.Bench.{start_at}
@@ -60,7 +60,7 @@ use Rattle.study_reply.specs.declared.refusal.Refusal.TheVariants.{Device, File,
 use Rattle.study_reply.specs.Names.{words_of, edit_words, of_probe}
 use Rattle.study_script.specs.StoreRefusals.{refusal_of_paged, refusal_of_store}
 use Rattle.study_script.specs.State.{Document, empty, start, study, State, is_among, first_lacking}
-use Rattle.study_script.specs.State.{IsGiven, IsOpened, IsGivenAs, written_anew, Outside, no_path, no_room}
+use Rattle.study_script.specs.State.{IsGiven, IsOpened, IsGivenAs, written_anew, Environment, no_path, no_room}
 use Rattle.study_script.specs.State.{no_room_for, unread, unopened, cut_off, file, header}
 use Rattle.study_reply.specs.Words.{reply_line, stipulation_words, mark_text, moves_text, solve_text}
 use Rattle.study_reply.specs.Words.{raised, insert_text, built_text, loaded_text, saved_text, verified_text}
@@ -82,18 +82,18 @@ abbrev pub refused : State → Refusal → Reply
 refused s refusal = refused_as s (words_of refusal)
 
 -- the state with another study
-abbrev pub holding : State → Plainly → State
+abbrev pub holding : State → PlainStudy → State
 holding s new = record s { document = study new }
 
 -- ---- edits
 
 -- an edit that probes no value: the first reason to refuse it, or the study after it
-abbrev pub edit_reply : State → Option (EditRefusal (Unit {0})) → Plainly → List ℕ → Reply
+abbrev pub edit_reply : State → Option (EditRefusal (Unit {0})) → PlainStudy → List ℕ → Reply
 edit_reply s None new text = accepted (holding s new) text
 edit_reply s (Some refusal) new text = refused_as s (edit_words refusal)
 
 -- the values of these positions are probed: a table is missing, or the study is the new one
-pub data IsValued (s : State) (asked : List Position) (new : Plainly) (text : List ℕ) (reply : Reply) : Type 0 where
+pub data IsValued (s : State) (asked : List Position) (new : PlainStudy) (text : List ℕ) (reply : Reply) : Type 0 where
   missing : (c : Class) → IsFirstMissing (is_among s.classes) asked c → reply ≡ refused s (NoTable c) → IsValued s asked new text reply
   found : AllHeld (is_among s.classes) asked → reply ≡ accepted (holding s new) text → IsValued s asked new text reply
 
@@ -104,32 +104,32 @@ MayFailAmong may (p ∷ ps) f = ((c : Class) → IsOf c p → may c f) ⊎ MayFa
 
 -- an edit that probes the values of these positions; a page is read, and a device may fail, only if tables are read by pages. No page is damaged: each loaded
 -- table is right; and the fault is a possible one of the source of a probed class
-abbrev pub IsAskingReply : State → Outside → List Position → Plainly → List ℕ → Reply → Type 0
-IsAskingReply s (unread (probe.TableRead f)) asked new text reply =
+abbrev pub IsProbingEdit : State → Environment → List Position → PlainStudy → List ℕ → Reply → Type 0
+IsProbingEdit s (unread (probe.TableRead f)) asked new text reply =
     (s.paged ≡ true) × IsFirstUnread (is_among s.classes) asked (probe.TableRead f)
     × MayFailAmong (λ c g. s.shelf.faults c g ≡ true) asked f × (reply ≡ refused s (of_probe (probe.TableRead f)))
-IsAskingReply s (unread (probe.PageDamaged c n)) asked new text reply = ⊥
-IsAskingReply s (unread (probe.NoTable c)) asked new text reply = ⊥
-IsAskingReply s _ asked new text reply = IsValued s asked new text reply
+IsProbingEdit s (unread (probe.PageDamaged c n)) asked new text reply = ⊥
+IsProbingEdit s (unread (probe.NoTable c)) asked new text reply = ⊥
+IsProbingEdit s _ asked new text reply = IsValued s asked new text reply
 
 -- an edit that probes the values of these positions, if memory is allocated first
-abbrev pub IsAskedReply : State → Outside → List Position → Plainly → List ℕ → Reply → Type 0
-IsAskedReply s no_room asked new text reply = reply ≡ refused s OutOfMemory
-IsAskedReply s o asked new text reply = IsAskingReply s o asked new text reply
+abbrev pub IsProbingEditWithMemory : State → Environment → List Position → PlainStudy → List ℕ → Reply → Type 0
+IsProbingEditWithMemory s no_room asked new text reply = reply ≡ refused s OutOfMemory
+IsProbingEditWithMemory s o asked new text reply = IsProbingEdit s o asked new text reply
 
 -- `position`: without a study only the start is set, and no table is probed
-abbrev pub IsPositionReply : State → Outside → Document → Start → Reply → Type 0
+abbrev pub IsPositionReply : State → Environment → Document → Start → Reply → Type 0
 IsPositionReply s o empty new reply = reply ≡ accepted (record s { document = start new }) (reply_line (codes "position ") (fen_text new))
 IsPositionReply s o (start old) new reply = reply ≡ accepted (record s { document = start new }) (reply_line (codes "position ") (fen_text new))
-IsPositionReply s o (study old) new reply = IsAskingReply s o (asked_at new.position) (positioned old new) (reply_line (codes "position ") (fen_text new)) reply
+IsPositionReply s o (study old) new reply = IsProbingEdit s o (asked_at new.position) (with_position old new) (reply_line (codes "position ") (fen_text new)) reply
 
 -- `shift`: a move of the tree is not legal, which may also be reported as want of memory for its path
-abbrev pub IsShiftReply : State → Outside → Plainly → Start → Option (EditRefusal (Unit {0})) → Reply → Type 0
+abbrev pub IsShiftReply : State → Environment → PlainStudy → Start → Option (EditRefusal (Unit {0})) → Reply → Type 0
 IsShiftReply s no_room old new (Some refusal) reply = reply ≡ refused s OutOfMemory
 IsShiftReply s _ old new (Some refusal) reply = reply ≡ refused_as s (edit_words refusal)
-IsShiftReply s o old new None reply = IsAskedReply s o (positions_asked (shifted old new)) (shifted old new) (reply_line (codes "shift ") (fen_text new)) reply
+IsShiftReply s o old new None reply = IsProbingEditWithMemory s o (positions_asked (with_start old new)) (with_start old new) (reply_line (codes "shift ") (fen_text new)) reply
 
-abbrev pub IsStartReply : State → Outside → FenCommand → Document → Result Start FenFault → Reply → Type 0
+abbrev pub IsStartReply : State → Environment → FenCommand → Document → Result Start FenFault → Reply → Type 0
 IsStartReply s o PositionWord document (Err fault) reply = reply ≡ refused s (Fen fault)
 IsStartReply s o PositionWord document (Ok new) reply = IsPositionReply s o document new reply
 IsStartReply s o Shift (study old) (Err fault) reply = reply ≡ refused s (Fen fault)
@@ -138,7 +138,7 @@ IsStartReply s o Shift empty read reply = reply ≡ refused s NoStudy
 IsStartReply s o Shift (start old) read reply = reply ≡ refused s NoStudy
 
 -- a study with the root alone, and no tags
-abbrev pub new_study : Start → Stipulation → Plainly
+abbrev pub new_study : Start → Stipulation → PlainStudy
 new_study from stipulation = record {
   start = from;
   stipulation = stipulation;
@@ -147,34 +147,34 @@ new_study from stipulation = record {
 }
 
 -- `stipulate` makes the study, or changes its stipulation
-abbrev pub IsStipulateReply : State → Outside → Document → Stipulation → Reply → Type 0
+abbrev pub IsStipulateReply : State → Environment → Document → Stipulation → Reply → Type 0
 IsStipulateReply s o empty new reply = reply ≡ refused s NoPosition
-IsStipulateReply s o (start from) new reply = IsAskingReply s o (asked_at from.position) (new_study from new) (stipulation_words new) reply
-IsStipulateReply s o (study old) new reply = reply ≡ accepted (holding s (stipulated old new)) (stipulation_words new)
+IsStipulateReply s o (start from) new reply = IsProbingEdit s o (asked_at from.position) (new_study from new) (stipulation_words new) reply
+IsStipulateReply s o (study old) new reply = reply ≡ accepted (holding s (with_stipulation old new)) (stipulation_words new)
 
 -- `tag`
 abbrev pub tag_reply : State → Document → TagName → List ℕ → Reply
 tag_reply s empty name text = refused s NoStudy
 tag_reply s (start from) name text = refused s NoStudy
-tag_reply s (study old) name text = edit_reply s (tag_refusal text) (tagged old name text) (reply_line (codes "tag ") (tag_name name))
+tag_reply s (study old) name text = edit_reply s (tag_refusal text) (with_tag old name text) (reply_line (codes "tag ") (tag_name name))
 
 -- `insert`: the node is checked, then the move, then the edit; the reply has the path of the new node
-abbrev pub inserted_text : Plainly → List ℕ → Move → List ℕ
+abbrev pub inserted_text : PlainStudy → List ℕ → Move → List ℕ
 inserted_text old steps m = insert_text (steps ++ children_at old.tree.below steps ∷ []) (move_text (position_at old steps) m)
 
-abbrev pub IsInserted : State → Outside → Plainly → List ℕ → Move → Option (EditRefusal (Unit {0})) → Reply → Type 0
+abbrev pub IsInserted : State → Environment → PlainStudy → List ℕ → Move → Option (EditRefusal (Unit {0})) → Reply → Type 0
 IsInserted s o old steps m (Some refusal) reply = reply ≡ refused_as s (edit_words refusal)
-IsInserted s o old steps m None reply = IsAskedReply s o (asked_at (after (position_at old steps) m)) (inserted old steps m) (inserted_text old steps m) reply
+IsInserted s o old steps m None reply = IsProbingEditWithMemory s o (asked_at (after (position_at old steps) m)) (with_insertion old steps m) (inserted_text old steps m) reply
 
-abbrev pub IsMoveReply : State → Outside → Plainly → List ℕ → Result Move SanFault → Reply → Type 0
+abbrev pub IsMoveReply : State → Environment → PlainStudy → List ℕ → Result Move SanFault → Reply → Type 0
 IsMoveReply s o old steps (Err fault) reply = reply ≡ refused s (San fault)
 IsMoveReply s o old steps (Ok m) reply = IsInserted s o old steps m (insert_refusal old steps m) reply
 
-abbrev pub IsMoveReplyAt : State → Outside → Plainly → List ℕ → List ℕ → Bool → Reply → Type 0
+abbrev pub IsMoveReplyAt : State → Environment → PlainStudy → List ℕ → List ℕ → Bool → Reply → Type 0
 IsMoveReplyAt s o old steps san false reply = reply ≡ refused s NoSuchNode
 IsMoveReplyAt s o old steps san true reply = IsMoveReply s o old steps (move_of (position_at old steps) san) reply
 
-abbrev pub IsInsertReply : State → Outside → Document → List ℕ → List ℕ → Reply → Type 0
+abbrev pub IsInsertReply : State → Environment → Document → List ℕ → List ℕ → Reply → Type 0
 IsInsertReply s o empty steps san reply = reply ≡ refused s NoStudy
 IsInsertReply s o (start from) steps san reply = reply ≡ refused s NoStudy
 IsInsertReply s no_path (study old) [] san reply = IsMoveReplyAt s no_path old [] san (has_spot old.tree []) reply
@@ -195,7 +195,7 @@ start_of_node (start from) (k ∷ ks) = Err NoSuchNode
 start_of_node (study old) steps = named (start_at old steps)
 
 -- `start_of_node`, if there may be no memory for the path; the root's needs none, and without a position no path is read
-abbrev pub start_found : Outside → Document → List ℕ → Result Start Refusal
+abbrev pub start_found : Environment → Document → List ℕ → Result Start Refusal
 start_found o empty steps = Err NoPosition
 start_found no_path (start from) [] = Ok from
 start_found no_path (start from) (k ∷ ks) = Err OutOfMemory
@@ -223,7 +223,7 @@ IsSolveReply s count (Ok at) reply = (plies : Option ℕ) × IsSolution at.posit
 IsSolveReply s count (Err refusal) reply = reply ≡ refused s refusal
 
 -- a study has the property with its marks, which are those of annotating it from scratch
-abbrev pub Annotated : Plainly → (Study Mark → Type 0) → Type 0
+abbrev pub Annotated : PlainStudy → (Study Mark → Type 0) → Type 0
 Annotated old P = (annotated : Study Mark) × IsAnnotated annotated × (plain_study annotated ≡ old) × P annotated
 
 -- `mark`, of a study that is annotated from scratch
@@ -231,30 +231,30 @@ abbrev pub marked_reply : State → List ℕ → Option (Spot Mark) → Reply
 marked_reply s steps None = refused s NoSuchNode
 marked_reply s steps (Some spot) = accepted s (mark_text steps spot.label)
 
-abbrev pub IsMarkReply : State → Plainly → List ℕ → Reply → Type 0
+abbrev pub IsMarkReply : State → PlainStudy → List ℕ → Reply → Type 0
 IsMarkReply s old steps reply = Annotated old (λ annotated. reply ≡ marked_reply s steps (spot_at annotated.tree steps))
 
 -- `delete`, `promote` and `mark`
-abbrev pub IsStudyReply : State → NodeCommand → Plainly → List ℕ → Reply → Type 0
+abbrev pub IsStudyReply : State → NodeCommand → PlainStudy → List ℕ → Reply → Type 0
 IsStudyReply s Delete old steps reply =
-    reply ≡ edit_reply s (delete_refusal old steps) (deleted old steps) (reply_line (codes "delete ") (path_text steps))
+    reply ≡ edit_reply s (delete_refusal old steps) (with_deletion old steps) (reply_line (codes "delete ") (path_text steps))
 IsStudyReply s Promote old steps reply =
-    reply ≡ edit_reply s (promote_refusal old steps) (promoted old steps) (reply_line (codes "promote ") (path_text (raised steps)))
+    reply ≡ edit_reply s (promote_refusal old steps) (with_promotion old steps) (reply_line (codes "promote ") (path_text (raised steps)))
 IsStudyReply s MarkWord old steps reply = IsMarkReply s old steps reply
 
-abbrev pub IsStudyReplyAt : State → Outside → NodeCommand → Document → List ℕ → Reply → Type 0
+abbrev pub IsStudyReplyAt : State → Environment → NodeCommand → Document → List ℕ → Reply → Type 0
 IsStudyReplyAt s o word empty steps reply = reply ≡ refused s NoStudy
 IsStudyReplyAt s o word (start from) steps reply = reply ≡ refused s NoStudy
 IsStudyReplyAt s no_path word (study old) [] reply = IsStudyReply s word old [] reply
 IsStudyReplyAt s no_path word (study old) (k ∷ ks) reply = reply ≡ refused s OutOfMemory
 IsStudyReplyAt s _ word (study old) steps reply = IsStudyReply s word old steps reply
 
-abbrev pub IsNodeReply : State → Outside → NodeQuery → List ℕ → Reply → Type 0
+abbrev pub IsNodeReply : State → Environment → NodeQuery → List ℕ → Reply → Type 0
 IsNodeReply s o Moves steps reply = reply ≡ moves_reply s (start_found o s.document steps)
 IsNodeReply s o FenAt steps reply = reply ≡ fen_reply s (start_found o s.document steps)
 
 -- `pgn`, of a study that is annotated from scratch
-abbrev pub IsPgnReply : State → Outside → Document → Reply → Type 0
+abbrev pub IsPgnReply : State → Environment → Document → Reply → Type 0
 IsPgnReply s o empty reply = reply ≡ refused s NoStudy
 IsPgnReply s o (start from) reply = reply ≡ refused s NoStudy
 IsPgnReply s no_room (study old) reply = reply ≡ refused s OutOfMemory
@@ -273,7 +273,7 @@ pub data IsBuilt (s : State) (c : Class) (reply : Reply) : Type 0 where
   too_far : HasFarPosition c → reply ≡ refused s DistanceTooLarge → IsBuilt s c reply
 
 -- `build`: whether the class is loaded, and the first needed class that is missing
-abbrev pub IsBuildReply : State → Outside → Class → Bool → Option Class → Reply → Type 0
+abbrev pub IsBuildReply : State → Environment → Class → Bool → Option Class → Reply → Type 0
 IsBuildReply s o c true lacking reply = reply ≡ refused s (AlreadyHeld c)
 IsBuildReply s no_room c false lacking reply = reply ≡ refused s OutOfMemory
 IsBuildReply s _ c false (Some d) reply = reply ≡ refused s (MissingTable d)
@@ -284,7 +284,7 @@ abbrev pub loaded : State → Class → Result Table FileFault → Reply
 loaded s c (Err fault) = refused s (File fault)
 loaded s c (Ok t) = if class_number t.class == class_number c then accepted (with_class s c) (loaded_text c) else refused s (OtherClass t.class)
 
-abbrev pub IsLoadReply : State → Outside → Class → Bool → Option Class → Reply → Type 0
+abbrev pub IsLoadReply : State → Environment → Class → Bool → Option Class → Reply → Type 0
 IsLoadReply s o c true lacking reply = reply ≡ refused s (AlreadyHeld c)
 IsLoadReply s o c false (Some d) reply = reply ≡ refused s (MissingTable d)
 IsLoadReply s (unopened fault) c false None reply = IsGiven (s.shelf.files c) (Err fault) × (reply ≡ refused s (refusal_of_store fault))
@@ -298,7 +298,7 @@ abbrev pub opened : State → Class → Option PagedFault → Reply
 opened s c None = accepted (with_class s c) (loaded_text c)
 opened s c (Some fault) = refused s (refusal_of_paged fault)
 
-abbrev pub IsOpenReply : State → Outside → Class → Bool → Reply → Type 0
+abbrev pub IsOpenReply : State → Environment → Class → Bool → Reply → Type 0
 IsOpenReply s o c true reply = reply ≡ refused s (AlreadyHeld c)
 IsOpenReply s (unopened fault) c false reply = IsGiven (s.shelf.headers c) (Err fault) × (reply ≡ refused s (refusal_of_store fault))
 IsOpenReply s (no_room_for bytes) c false reply =
@@ -307,7 +307,7 @@ IsOpenReply s (header told) c false reply = IsGivenAs (s.shelf.headers c) (s.she
 IsOpenReply s _ c false reply = ⊥
 
 -- `save`: every fault of the store is reported as one of its device; the file is unknown from then on
-abbrev pub save_reply : State → Outside → Class → Bool → Reply
+abbrev pub save_reply : State → Environment → Class → Bool → Reply
 save_reply s o c false = refused s (NoTable c)
 save_reply s (unopened fault) c true = refused (written_anew s c) Device
 save_reply s cut_off c true = refused (written_anew s c) Device
@@ -319,17 +319,17 @@ verify_reply s c false = refused s (NoTable c)
 verify_reply s c true = accepted s (verified_text c)
 
 -- `load`, whole or by pages
-abbrev pub IsLoadIn : State → Outside → Bool → Class → Reply → Type 0
+abbrev pub IsLoadIn : State → Environment → Bool → Class → Reply → Type 0
 IsLoadIn s o false c reply = IsLoadReply s o c (is_among s.classes c) (first_lacking s.classes c) reply
 IsLoadIn s o true c reply = IsOpenReply s o c (is_among s.classes c) reply
 
-abbrev pub IsTableReply : State → Outside → TableCommand → Class → Reply → Type 0
+abbrev pub IsTableReply : State → Environment → TableCommand → Class → Reply → Type 0
 IsTableReply s o Build c reply = IsBuildReply s o c (is_among s.classes c) (first_lacking s.classes c) reply
 IsTableReply s o Load c reply = IsLoadIn s o s.paged c reply
 IsTableReply s o Save c reply = reply ≡ save_reply s o c (is_among s.classes c)
 IsTableReply s o Verify c reply = reply ≡ verify_reply s c (is_among s.classes c)
 
-abbrev pub IsNamedReply : State → Outside → TableCommand → Option Class → Reply → Type 0
+abbrev pub IsNamedReply : State → Environment → TableCommand → Option Class → Reply → Type 0
 IsNamedReply s o word None reply = reply ≡ refused s NotAClass
 IsNamedReply s o word (Some c) reply = IsTableReply s o word c reply
 
@@ -338,21 +338,21 @@ unfoldable pub class_told : List ℕ → Option Class
 class_told name = find (λ c. bytes_eq name (name_of c)) class_list
 
 -- all of these except `load` need whole tables
-abbrev pub wants_whole : TableCommand → Bool
-wants_whole Load = false
-wants_whole _ = true
+abbrev pub needs_whole_tables : TableCommand → Bool
+needs_whole_tables Load = false
+needs_whole_tables _ = true
 
-abbrev pub IsClassReplyIn : State → Outside → TableCommand → List ℕ → Bool → Reply → Type 0
+abbrev pub IsClassReplyIn : State → Environment → TableCommand → List ℕ → Bool → Reply → Type 0
 IsClassReplyIn s o word name true reply = reply ≡ refused s PagedMode
 IsClassReplyIn s o word name false reply = IsNamedReply s o word (class_told name) reply
 
-abbrev pub IsClassReply : State → Outside → TableCommand → List ℕ → Reply → Type 0
-IsClassReply s o word name reply = IsClassReplyIn s o word name (wants_whole word && s.paged) reply
+abbrev pub IsClassReply : State → Environment → TableCommand → List ℕ → Reply → Type 0
+IsClassReply s o word name reply = IsClassReplyIn s o word name (needs_whole_tables word && s.paged) reply
 
 -- ---- the lines
 
 -- the reply to a command
-abbrev pub IsReplyTo : State → Outside → Asked → Reply → Type 0
+abbrev pub IsReplyTo : State → Environment → Asked → Reply → Type 0
 IsReplyTo s o (fen_command word fen) reply = IsStartReply s o word s.document (start_of fen) reply
 IsReplyTo s o (node_query word steps) reply = IsNodeReply s o word steps reply
 IsReplyTo s o (node_command word steps) reply = IsStudyReplyAt s o word s.document steps reply
@@ -363,13 +363,13 @@ IsReplyTo s o (tag name text) reply = reply ≡ tag_reply s s.document name text
 IsReplyTo s o (solve count steps) reply = IsSolveReply s count (start_found o s.document steps) reply
 IsReplyTo s o pgn reply = IsPgnReply s o s.document reply
 
-abbrev pub IsReplyWhere : State → Outside → Asks → Reply → Type 0
+abbrev pub IsReplyWhere : State → Environment → Asks → Reply → Type 0
 IsReplyWhere s o (Ok None) reply = reply ≡ accepted s []
 IsReplyWhere s o (Ok (Some asked)) reply = IsReplyTo s o asked reply
 IsReplyWhere s o (Err fault) reply = reply ≡ refused s (Form fault)
 
 -- the reply to a line, given its environment
-abbrev pub IsReply : State → List ℕ → Outside → Reply → Type 0
+abbrev pub IsReply : State → List ℕ → Environment → Reply → Type 0
 IsReply s line o reply = IsReplyWhere s o (command_of line) reply
 
 -- ---- studies that are kept apart
@@ -396,7 +396,7 @@ kept_apart line reply = record {
 }
 
 -- the reply to a line, whether studies are kept apart or not
-abbrev pub IsReplyIn : Bool → State → List ℕ → Outside → Reply → Type 0
+abbrev pub IsReplyIn : Bool → State → List ℕ → Environment → Reply → Type 0
 IsReplyIn false s line o reply = IsReply s line o reply
 IsReplyIn true s line o reply = (plain : Reply) × IsReply s line o plain × (reply ≡ kept_apart line plain)
 
@@ -404,7 +404,7 @@ IsReplyIn true s line o reply = (plain : Reply) × IsReply s line o plain × (re
 
 -- a line's reply, and the environment of the line
 abbrev pub Answer : Type 0
-Answer = Outside × Reply
+Answer = Environment × Reply
 
 -- the replies to lines, one for each; each line starts from the state after the line before it
 abbrev pub AreReplies : Bool → State → List (List ℕ) → List Answer → Type 0

@@ -8,7 +8,7 @@ use Rattle.study_script.specs.declared.store.StoreFault.{StoreFault}
 use Rattle.study_script.specs.declared.document.Document.{Document as HeldDocument}
 use Rattle.study_script.specs.declared.tables.Tables.{Tables}
 use Rattle.study_script.specs.State.{State}
-use Rattle.study_script.specs.Held.{Holds}
+use Rattle.study_script.specs.SessionHolds.{Holds}
 use Rattle.study_script.specs.Stores.{StoreSeen}
 
 -- the answers of each store for each class, as far as they are known

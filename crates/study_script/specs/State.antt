@@ -6,38 +6,38 @@ use Rattle.study_material.specs.Needs.{needs_of}
 use Rattle.study_material.specs.Class.{class_number}
 use Rattle.study_values.specs.declared.fault.SourceFault.{SourceFault}
 use Rattle.study_values.specs.Size.{pages_of}
-use Rattle.study_tablefile.specs.Source.{Question, of_header, of_page}
+use Rattle.study_tablefile.specs.PageSource.{Question, of_header, of_page}
 use Rattle.study_values.specs.declared.values.ProbeFault.{ProbeFault}
 use Rattle.study_notation.specs.declared.start.Start.{Start}
-use Rattle.study_marks.specs.Edits.{Plainly}
+use Rattle.study_marks.specs.Edits.{PlainStudy}
 use Rattle.study_script.specs.declared.store.StoreFault.{StoreFault}
 
 -- nothing, a start, or a study, which has no marks here: they are computed anew at each line
 pub data Document : Type 0 where
   empty : Document
   start : Start → Document
-  study : Plainly → Document
+  study : PlainStudy → Document
 
 -- What is known of a store for each class: the bytes of its file, read from front to back, or the fault of opening it; and the header that its source of
 -- pages returns, or the fault of opening it. For a store in memory all is known except for a file that was opened to be written, for a real one nothing. For
 -- the sources of pages: the faults for which reading may fail.
-pub record Shelf : Type 0 where
+pub record StoreKnowledge : Type 0 where
   pub files : Class → Option (Result (List ℕ) StoreFault)
   pub headers : Class → Option (Result (List ℕ) StoreFault)
   pub faults : Class → SourceFault → Bool
 
 -- nothing is known of a class whose file may have been written
-abbrev pub forgotten : {T : Type 0} → Class → (Class → Option T) → Class → Option T
-forgotten c known d = if class_number d == class_number c then None else known d
+abbrev pub unknown_after_write : {T : Type 0} → Class → (Class → Option T) → Class → Option T
+unknown_after_write c known d = if class_number d == class_number c then None else known d
 
 -- the source of such a class may fail in any way
 abbrev pub forgotten_faults : Class → (Class → SourceFault → Bool) → Class → SourceFault → Bool
 forgotten_faults c faults d f = if class_number d == class_number c then true else faults d f
 
-abbrev pub shelf_without : Shelf → Class → Shelf
-shelf_without shelf c = record {
-  files = forgotten c shelf.files;
-  headers = forgotten c shelf.headers;
+abbrev pub without_class : StoreKnowledge → Class → StoreKnowledge
+without_class shelf c = record {
+  files = unknown_after_write c shelf.files;
+  headers = unknown_after_write c shelf.headers;
   faults = forgotten_faults c shelf.faults;
 }
 
@@ -51,7 +51,7 @@ pub record State : Type 0 where
   pub document : Document
   pub classes : List Class
   pub paged : Bool
-  pub shelf : Shelf
+  pub shelf : StoreKnowledge
 
 -- a store with a known answer gives that answer
 abbrev pub IsGiven : {T : Type 0} → Option (Result T StoreFault) → Result T StoreFault → Type 0
@@ -71,7 +71,7 @@ IsGivenAs known faults (Err fault) = IsOpened known × (faults fault ≡ true)
 
 -- the file of the class is written: its contents are unknown from then on
 abbrev pub written_anew : State → Class → State
-written_anew s c = record s { shelf = shelf_without s.shelf c }
+written_anew s c = record s { shelf = without_class s.shelf c }
 
 abbrev pub is_among : List Class → Class → Bool
 is_among cs c = list_any (λ d. class_number d == class_number c) cs
@@ -81,19 +81,19 @@ abbrev pub first_lacking : List Class → Class → Option Class
 first_lacking cs c = find (λ d. not (is_among cs d)) (needs_of c)
 
 -- the environment of a line: the events that the line does not determine
-pub data Outside : Type 0 where
-  quiet : Outside
+pub data Environment : Type 0 where
+  quiet : Environment
   -- an allocation is refused: for the path of the line, or for its command
-  no_path no_room : Outside
+  no_path no_room : Environment
   -- an allocation is refused after the header of a file, which begins with these bytes, or has them as its header
-  no_room_for : (bytes : List ℕ) → Outside
+  no_room_for : (bytes : List ℕ) → Environment
   -- a page of a table is not read, or is damaged
-  unread : (fault : ProbeFault) → Outside
+  unread : (fault : ProbeFault) → Environment
   -- the store cannot open the file
-  unopened : (fault : StoreFault) → Outside
+  unopened : (fault : StoreFault) → Environment
   -- the device of an open file fails
-  cut_off : Outside
+  cut_off : Environment
   -- the bytes of a file that is read from front to back
-  file : (bytes : List ℕ) → Outside
+  file : (bytes : List ℕ) → Environment
   -- the answer of a source of pages to the request for its header
-  header : (told : Result (List ℕ) SourceFault) → Outside
+  header : (told : Result (List ℕ) SourceFault) → Environment

@@ -5,10 +5,10 @@ use Rattle.study_script.specs.declared.store.StoreFault.{StoreFault}
 use Rattle.study_values.specs.declared.fault.SourceFault.{SourceFault}
 use Rattle.study_table.specs.Table.{Table, IsComplete}
 use Rattle.study_table.specs.Sound.{IsRight}
-use Rattle.study_tablefile.specs.File.{IsVersionOf}
+use Rattle.study_tablefile.specs.Format.{IsVersionOf}
 use Rattle.study_tablefile.specs.Reading.{table_read}
-use Rattle.study_script.specs.State.{State, Shelf}
-use Rattle.study_script.specs.Held.{KnowsStore}
+use Rattle.study_script.specs.State.{State, StoreKnowledge}
+use Rattle.study_script.specs.SessionHolds.{KnowsStore}
 use Rattle.study_command.specs.declared.command.TableCommand.{TableCommand}
 use Rattle.study_command.specs.declared.command.TableCommand.TheVariants.{Load}
 use Rattle.std.specs.List.{AllByRecursion}
@@ -45,7 +45,7 @@ module _ {S : Type 0} where
 
   -- the knowledge of a store
   abbrev pub shelf_of : (S → Class → Option (Result (List ℕ) StoreFault)) → (S → Class → Option (Result (List ℕ) StoreFault))
-      → (S → Class → SourceFault → Bool) → S → Shelf
+      → (S → Class → SourceFault → Bool) → S → StoreKnowledge
   shelf_of files headers faults store = record { files = files store; headers = headers store; faults = faults store }
 
 -- ---- trust: which classes' files are right

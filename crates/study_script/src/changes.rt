@@ -9,7 +9,7 @@ ghost use Rattle.study_command.specs.Paths.{steps_of, is_path_word};
 ghost use Rattle.study_script.specs.State.{State, study};
 ghost use Rattle.study_script.specs.Replies.{IsInsertReply, IsMoveReply, IsMoveReplyAt, IsStudyReply, IsStudyReplyAt, tag_reply};
 ghost use Rattle.study_script.specs.declared.document.Document.TheVariants as held;
-ghost use Rattle.study_script.specs.Held.{Holds, HoldsDocument, HoldsFrom, HoldsBench, HoldsBenchFrom};
+ghost use Rattle.study_script.specs.SessionHolds.{Holds, HoldsDocument, HoldsFrom, HoldsBench, HoldsBenchFrom};
 ghost use Rattle.study_script.specs.Executed.{Executed};
 
 use crate::document::Document;
@@ -21,7 +21,7 @@ use study_command::{NodeCommand, read_path};
 use study_marks::{Bench, TagName};
 use study_moves::Move;
 use study_notation::{Start, read_san, write_san};
-use study_reply::{Answer, Refusal, Refused, Reply};
+use study_reply::{Answer, LineRefusal, Refusal, Reply};
 use study_tablefile::PageSource;
 use study_tree::Path;
 
@@ -38,8 +38,8 @@ pub fn node_command<'a, A: Allocator>(
 {
     match document {
         Document::Study(bench) => node_command_on(alloc, bench, word, path),
-        Document::Empty => Err(Refused::Line(Refusal::NoStudy)),
-        Document::Start(_) => Err(Refused::Line(Refusal::NoStudy)),
+        Document::Empty => Err(LineRefusal::Line(Refusal::NoStudy)),
+        Document::Start(_) => Err(LineRefusal::Line(Refusal::NoStudy)),
     }
 }
 
@@ -56,7 +56,7 @@ fn node_command_on<'a, A: Allocator>(
 {
     match read_path(alloc, path) {
         Ok(path) => node_command_at(bench, word, path),
-        Err(_) => Err(Refused::Line(Refusal::OutOfMemory)),
+        Err(_) => Err(LineRefusal::Line(Refusal::OutOfMemory)),
     }
 }
 
@@ -81,7 +81,7 @@ fn delete<'a, A: Allocator>(bench: &mut Bench<'a, A>, path: Path<'a, A>) -> Answ
 {
     match bench.delete(&path) {
         Ok(()) => Ok(Reply::Deleted(path)),
-        Err(refusal) => Err(Refused::Edit(refusal)),
+        Err(refusal) => Err(LineRefusal::Edit(refusal)),
     }
 }
 
@@ -91,7 +91,7 @@ fn promote<'a, A: Allocator>(bench: &mut Bench<'a, A>, path: Path<'a, A>) -> Ans
 {
     match bench.promote(&path) {
         Ok(()) => Ok(Reply::Promoted(path)),
-        Err(refusal) => Err(Refused::Edit(refusal)),
+        Err(refusal) => Err(LineRefusal::Edit(refusal)),
     }
 }
 
@@ -106,8 +106,8 @@ pub fn set_tag<'a, A: Allocator>(
 {
     match document {
         Document::Study(bench) => set_study_tag(bench, name, text),
-        Document::Empty => Err(Refused::Line(Refusal::NoStudy)),
-        Document::Start(_) => Err(Refused::Line(Refusal::NoStudy)),
+        Document::Empty => Err(LineRefusal::Line(Refusal::NoStudy)),
+        Document::Start(_) => Err(LineRefusal::Line(Refusal::NoStudy)),
     }
 }
 
@@ -121,7 +121,7 @@ fn set_study_tag<'a, A: Allocator>(
 {
     match bench.set_tag(name, text) {
         Ok(()) => Ok(Reply::Tagged(name)),
-        Err(refusal) => Err(Refused::Edit(refusal)),
+        Err(refusal) => Err(LineRefusal::Edit(refusal)),
     }
 }
 
@@ -139,8 +139,8 @@ pub fn insert<'a, P: PageSource, A: Allocator>(
 {
     match document {
         Document::Study(bench) => insert_in_study(alloc, bench, tables, path, san),
-        Document::Empty => Err(Refused::Line(Refusal::NoStudy)),
-        Document::Start(_) => Err(Refused::Line(Refusal::NoStudy)),
+        Document::Empty => Err(LineRefusal::Line(Refusal::NoStudy)),
+        Document::Start(_) => Err(LineRefusal::Line(Refusal::NoStudy)),
     }
 }
 
@@ -158,7 +158,7 @@ fn insert_in_study<'a, P: PageSource, A: Allocator>(
 {
     match read_path(alloc, path) {
         Ok(path) => insert_at(bench, tables, path, san),
-        Err(_) => Err(Refused::Line(Refusal::OutOfMemory)),
+        Err(_) => Err(LineRefusal::Line(Refusal::OutOfMemory)),
     }
 }
 
@@ -174,7 +174,7 @@ fn insert_at<'a, P: PageSource, A: Allocator>(
 {
     match bench.start_at(&path) {
         Some(start) => insert_san(bench, tables, path, &start, san),
-        None => Err(Refused::Line(Refusal::NoSuchNode)),
+        None => Err(LineRefusal::Line(Refusal::NoSuchNode)),
     }
 }
 
@@ -192,7 +192,7 @@ fn insert_san<'a, P: PageSource, A: Allocator>(
 {
     match read_san(&start.position, san) {
         Ok(by) => insert_move(bench, tables, path, start, &by),
-        Err(fault) => Err(Refused::Line(Refusal::San(fault))),
+        Err(fault) => Err(LineRefusal::Line(Refusal::San(fault))),
     }
 }
 
@@ -214,6 +214,6 @@ fn insert_move<'a, P: PageSource, A: Allocator>(
             let san = write_san(&start.position, *by);
             Ok(Reply::Inserted(path, place, san))
         }
-        Err(refusal) => Err(Refused::Edit(refusal)),
+        Err(refusal) => Err(LineRefusal::Edit(refusal)),
     }
 }

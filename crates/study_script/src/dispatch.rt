@@ -4,7 +4,7 @@ ghost use Rattle.study_command.specs.Parser.{command_seen};
 ghost use Rattle.study_script.specs.State.{State};
 ghost use Rattle.study_script.specs.Replies.{IsReply, IsReplyTo, IsReplyIn, begins_position};
 ghost use Rattle.study_script.specs.declared.document.Document.TheVariants as held;
-ghost use Rattle.study_script.specs.Held.{Answered, BrokenOff};
+ghost use Rattle.study_script.specs.SessionHolds.{Answered, BrokenOff};
 ghost use Rattle.study_script.specs.Executed.{Executed};
 ghost use Rattle.study_script.specs.Session.{SessionHolds};
 ghost use Rattle.study_material.specs.declared.class.Class.{Class as AClass};
@@ -21,7 +21,7 @@ use crate::tables::Tables;
 use std::alloc::Allocator;
 use std::io::Write;
 use study_command::{Command, read_command};
-use study_reply::{Answer, Refusal, refuse, write_reply};
+use study_reply::{Answer, Refusal, write_refusal, write_reply};
 use study_text::{DeviceFailed, next_word};
 
 /// Writes the reply to a line, keeps the state after it, and returns whether the line was refused.
@@ -51,7 +51,7 @@ pub fn answer<'a, W: Write, S: TableStore, A: Allocator>(
             write_reply(out, answer)
         }
         Err(fault) => {
-            refuse(out, Refusal::Form(fault))?;
+            write_refusal(out, Refusal::Form(fault))?;
             Ok(true)
         }
     }

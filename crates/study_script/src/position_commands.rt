@@ -1,14 +1,14 @@
 //! Starts and stipulations: `position`, `shift` and `stipulate`.
 ghost use Rattle.std.specs.Prelude.{◌≡◌};
 ghost use Rattle.study_reply.specs.declared.reply.Reply.TheVariants as reply;
-ghost use Rattle.study_marks.specs.Edits.{shift_refusal, stipulated};
+ghost use Rattle.study_marks.specs.Edits.{shift_refusal, with_stipulation};
 ghost use Rattle.study_script.specs.State.{State, study, start as begun};
 ghost use Rattle.study_script.specs.Replies.{IsStartReply, IsPositionReply, IsShiftReply, IsStipulateReply};
 ghost use Rattle.study_notation.specs.Fen.{start_of};
 ghost use Rattle.study_script.specs.declared.document.Document.TheVariants as held;
 ghost use Rattle.study_marks.specs.Study.{plain_study};
 ghost use Rattle.study_marks.specs.BenchState.{marked, IsKeptRight};
-ghost use Rattle.study_script.specs.Held.{Holds};
+ghost use Rattle.study_script.specs.SessionHolds.{Holds};
 ghost use Rattle.study_script.specs.Executed.{Executed};
 
 use crate::document::Document;
@@ -18,7 +18,7 @@ use std::alloc::Allocator;
 use study_command::FenCommand;
 use study_marks::{Bench, Stipulation};
 use study_notation::{Start, read_fen};
-use study_reply::{Answer, Refusal, Refused, Reply};
+use study_reply::{Answer, LineRefusal, Refusal, Reply};
 use study_tablefile::PageSource;
 
 /// `position` and `shift`.
@@ -47,7 +47,7 @@ fn read_position<'a, P: PageSource, A: Allocator>(
 {
     match read_fen(fen) {
         Ok(start) => set_position(document, tables, start),
-        Err(fault) => Err(Refused::Line(Refusal::Fen(fault))),
+        Err(fault) => Err(LineRefusal::Line(Refusal::Fen(fault))),
     }
 }
 
@@ -61,8 +61,8 @@ fn shift_document<'a, P: PageSource, A: Allocator>(
 {
     match document {
         Document::Study(bench) => shift_study(bench, tables, fen),
-        Document::Empty => Err(Refused::Line(Refusal::NoStudy)),
-        Document::Start(_) => Err(Refused::Line(Refusal::NoStudy)),
+        Document::Empty => Err(LineRefusal::Line(Refusal::NoStudy)),
+        Document::Start(_) => Err(LineRefusal::Line(Refusal::NoStudy)),
     }
 }
 
@@ -77,7 +77,7 @@ fn shift_study<'a, P: PageSource, A: Allocator>(
 {
     match read_fen(fen) {
         Ok(start) => shift(bench, tables, start),
-        Err(fault) => Err(Refused::Line(Refusal::Fen(fault))),
+        Err(fault) => Err(LineRefusal::Line(Refusal::Fen(fault))),
     }
 }
 
@@ -117,7 +117,7 @@ fn reposition<'a, P: PageSource, A: Allocator>(
 {
     match table_edits::set_position(bench, start.copied(), tables) {
         Ok(()) => Ok(Reply::Position(start)),
-        Err(refusal) => Err(Refused::Edit(refusal)),
+        Err(refusal) => Err(LineRefusal::Edit(refusal)),
     }
 }
 
@@ -132,7 +132,7 @@ fn shift<'a, P: PageSource, A: Allocator>(
 {
     match table_edits::shift_position(bench, start.copied(), tables) {
         Ok(()) => Ok(Reply::Shift(start)),
-        Err(refusal) => Err(Refused::Edit(refusal)),
+        Err(refusal) => Err(LineRefusal::Edit(refusal)),
     }
 }
 
@@ -148,7 +148,7 @@ pub fn stipulate<'a, P: PageSource, A: Allocator>(
 {
     match document {
         Document::Study(bench) => Ok(restipulate(bench, stipulation)),
-        Document::Empty => Err(Refused::Line(Refusal::NoPosition)),
+        Document::Empty => Err(LineRefusal::Line(Refusal::NoPosition)),
         Document::Start(start) => {
             let start = start.copied();
             make_study(alloc, document, tables, start, stipulation)
@@ -160,7 +160,7 @@ fn restipulate<'a, A: Allocator>(
     bench: &mut Bench<'a, A>,
     stipulation: &Stipulation,
 ) -> Reply<'a, A>
-    ensures edited { plain_study (marked bench.new) ≡ stipulated (plain_study (marked bench.old)) stipulation.now }
+    ensures edited { plain_study (marked bench.new) ≡ with_stipulation (plain_study (marked bench.old)) stipulation.now }
     ensures right { IsKeptRight bench.old → IsKeptRight bench.new }
     ensures reply { result ≡ reply.Stipulated stipulation.now }
 {
@@ -183,6 +183,6 @@ fn make_study<'a, P: PageSource, A: Allocator>(
             *document = Document::Study(bench);
             Ok(Reply::Stipulated(*stipulation))
         }
-        Err(refusal) => Err(Refused::Edit(refusal)),
+        Err(refusal) => Err(LineRefusal::Edit(refusal)),
     }
 }

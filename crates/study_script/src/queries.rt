@@ -3,20 +3,20 @@ ghost use Rattle.std.specs.Prelude.{◌≡◌, true};
 ghost use Rattle.study_marks.specs.Study.{plain_study};
 ghost use Rattle.study_marks.specs.BenchState.{marked};
 ghost use Rattle.study_command.specs.Paths.{steps_of, is_path_word};
-ghost use Rattle.study_script.specs.State.{State, Outside, study, start as begun};
+ghost use Rattle.study_script.specs.State.{State, Environment, study, start as begun};
 ghost use Rattle.study_script.specs.Replies.{IsNodeReply, IsSolveReply, IsPgnReply, IsMarkReply};
 ghost use Rattle.study_script.specs.Replies.{start_found, moves_reply, fen_reply};
-ghost use Rattle.study_script.specs.Held.{HoldsDocument, HoldsFrom, HoldsBench, HoldsBenchFrom};
+ghost use Rattle.study_script.specs.SessionHolds.{HoldsDocument, HoldsFrom, HoldsBench, HoldsBenchFrom};
 ghost use Rattle.study_script.specs.Executed.{Executed};
 
 use crate::document::Document;
 use std::alloc::Allocator;
-use study_command::{MoveCount, NodeQuery, read_path};
+use study_command::{NodeQuery, SolveDepth, read_path};
 use study_marks::Bench;
 use study_moves::solve;
 use study_notation::Start;
 use study_pgn::write_pgn;
-use study_reply::{Answer, Game, Refusal, Refused, Reply};
+use study_reply::{Answer, Game, LineRefusal, Refusal, Reply};
 use study_tree::Path;
 
 /// Commands whose only argument is a node, and that need no study.
@@ -47,7 +47,7 @@ fn moves_at<'a, A: Allocator>(
 {
     match start_at(alloc, document, path) {
         Ok(start) => Ok(Reply::Moves(start)),
-        Err(refusal) => Err(Refused::Line(refusal)),
+        Err(refusal) => Err(LineRefusal::Line(refusal)),
     }
 }
 
@@ -58,7 +58,7 @@ fn fen_at<'a, A: Allocator>(alloc: &'a A, document: &Document<'a, A>, path: &[u8
 {
     match start_at(alloc, document, path) {
         Ok(start) => Ok(Reply::Fen(start)),
-        Err(refusal) => Err(Refused::Line(refusal)),
+        Err(refusal) => Err(LineRefusal::Line(refusal)),
     }
 }
 
@@ -66,7 +66,7 @@ fn fen_at<'a, A: Allocator>(alloc: &'a A, document: &Document<'a, A>, path: &[u8
 pub fn solve_at<'a, A: Allocator>(
     alloc: &'a A,
     document: &Document<'a, A>,
-    count: MoveCount,
+    count: SolveDepth,
     path: &[u8],
 ) -> Answer<'a, A>
     requires { is_path_word path.now ≡ true }
@@ -75,7 +75,7 @@ pub fn solve_at<'a, A: Allocator>(
 {
     match start_at(alloc, document, path) {
         Ok(start) => Ok(Reply::Solved(solve(&start.position, count.number))),
-        Err(refusal) => Err(Refused::Line(refusal)),
+        Err(refusal) => Err(LineRefusal::Line(refusal)),
     }
 }
 
@@ -86,7 +86,7 @@ fn start_at<'a, A: Allocator>(
     path: &[u8],
 ) -> Result<Start, Refusal>
     requires { is_path_word path.now ≡ true }
-    ensures { (s : State) → HoldsDocument document.now s → (o : Outside) × (result ≡ start_found o s.document (steps_of path.now)) }
+    ensures { (s : State) → HoldsDocument document.now s → (o : Environment) × (result ≡ start_found o s.document (steps_of path.now)) }
 {
     match document {
         Document::Empty => Err(Refusal::NoPosition),
@@ -97,7 +97,7 @@ fn start_at<'a, A: Allocator>(
 
 fn root_start<'a, A: Allocator>(alloc: &'a A, start: &Start, path: &[u8]) -> Result<Start, Refusal>
     requires { is_path_word path.now ≡ true }
-    ensures { (o : Outside) × (result ≡ start_found o (begun start.now) (steps_of path.now)) }
+    ensures { (o : Environment) × (result ≡ start_found o (begun start.now) (steps_of path.now)) }
 {
     match read_path(alloc, path) {
         Ok(path) => {
@@ -117,7 +117,7 @@ fn node_start<'a, A: Allocator>(
     path: &[u8],
 ) -> Result<Start, Refusal>
     requires { is_path_word path.now ≡ true }
-    ensures { (o : Outside) × (result ≡ start_found o (study (plain_study (marked bench.now))) (steps_of path.now)) }
+    ensures { (o : Environment) × (result ≡ start_found o (study (plain_study (marked bench.now))) (steps_of path.now)) }
 {
     match read_path(alloc, path) {
         Ok(path) => bench.start_at(&path).ok_or(Refusal::NoSuchNode),
@@ -132,7 +132,7 @@ pub fn mark_at<'a, A: Allocator>(bench: &Bench<'a, A>, path: Path<'a, A>) -> Ans
 {
     match bench.mark(&path) {
         Some(mark) => Ok(Reply::Mark(path, mark)),
-        None => Err(Refused::Line(Refusal::NoSuchNode)),
+        None => Err(LineRefusal::Line(Refusal::NoSuchNode)),
     }
 }
 
@@ -141,19 +141,19 @@ pub fn pgn<'a, A: Allocator>(alloc: &'a A, document: &Document<'a, A>) -> Answer
     ensures { (s : State) → HoldsDocument document.now s → Executed (λ o. IsPgnReply s o s.document) (HoldsFrom s document.now) result }
 {
     match document {
-        Document::Study(bench) => pgn_of(alloc, bench),
-        Document::Empty => Err(Refused::Line(Refusal::NoStudy)),
-        Document::Start(_) => Err(Refused::Line(Refusal::NoStudy)),
+        Document::Study(bench) => document_pgn(alloc, bench),
+        Document::Empty => Err(LineRefusal::Line(Refusal::NoStudy)),
+        Document::Start(_) => Err(LineRefusal::Line(Refusal::NoStudy)),
     }
 }
 
-fn pgn_of<'a, A: Allocator>(alloc: &'a A, bench: &Bench<'a, A>) -> Answer<'a, A>
+fn document_pgn<'a, A: Allocator>(alloc: &'a A, bench: &Bench<'a, A>) -> Answer<'a, A>
     ensures { (s : State) → HoldsBench bench.now s
         → Executed (λ o. IsPgnReply s o (study (plain_study (marked bench.now)))) (HoldsBenchFrom s bench.now) result }
 {
     let mut text = Vec::new(alloc);
     match write_pgn(alloc, bench, &mut text) {
         Ok(()) => Ok(Reply::Pgn(Game { text })),
-        Err(_) => Err(Refused::Line(Refusal::OutOfMemory)),
+        Err(_) => Err(LineRefusal::Line(Refusal::OutOfMemory)),
     }
 }

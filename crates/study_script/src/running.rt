@@ -1,7 +1,7 @@
 //! A run over a whole script.
 ghost use Rattle.std.specs.Prelude.{◌≡◌, ◌≤◌, Err, is_some, IfOk, IfSome, Bool};
-ghost use Rattle.study_script.specs.Held.{Begun, are_paged};
-ghost use Rattle.study_script.specs.Outcome.{Outcome, Shape, begun_state};
+ghost use Rattle.study_script.specs.SessionHolds.{Begun, are_paged};
+ghost use Rattle.study_script.specs.Outcome.{Outcome, Shape, initial_state};
 ghost use Rattle.study_material.specs.declared.class.Class.{Class as AClass};
 ghost use Rattle.study_script.specs.Stores.{shelf_of, HonestOn, AreTrusted};
 ghost use Rattle.study_script.specs.State.{State};
@@ -69,7 +69,7 @@ pub fn run<'a, R: Read, W: Write, S: TableStore, A: Allocator>(
     ensures outcome { (trusted : AClass → Bool) → HonestOn trusted S.honest store.old (is_some settings.pages)
         → IfSome (R.remaining script.old)
         (λ bytes. AreTrusted trusted bytes → Outcome settings.separate
-        (begun_state (shelf_of S.files S.headers S.faults store.old) (is_some settings.pages)) bytes
+        (initial_state (shelf_of S.files S.headers S.faults store.old) (is_some settings.pages)) bytes
         (R.remaining script.new) (W.contents out.old) (W.contents out.new) result) }
     ensures fits { IfSome (R.remaining script.old)
         (λ bytes. Fits bytes (R.remaining script.new) (W.contents out.old) (W.contents out.new) result) }

@@ -3,7 +3,7 @@ ghost use Rattle.std.specs.Prelude.{◌≡◌, Bool, true, IfOk, OnErr};
 ghost use Rattle.study_material.specs.declared.class.Class.{Class as AClass};
 ghost use Rattle.study_script.specs.State.{State as AState};
 ghost use Rattle.study_script.specs.Replies.{IsReplyIn};
-ghost use Rattle.study_script.specs.Held.{Answered, BrokenOff};
+ghost use Rattle.study_script.specs.SessionHolds.{Answered, BrokenOff};
 ghost use Rattle.study_script.specs.Session.{SessionHolds};
 ghost use Rattle.study_script.specs.Stores.{HonestOn, IsTrusted};
 ghost use Rattle.study_script.specs.Written.{IsWritten, IsCutOff};

@@ -2,9 +2,9 @@
 ghost use Rattle.std.specs.Prelude.{◌≡◌, ℕ, Bool, true, false, List, Option, Result, Ok, Err, IsOk, IfOk, MatchResult};
 ghost use Rattle.study_material.specs.declared.class.Class.{Class as AClass};
 ghost use Rattle.study_values.specs.declared.fault.SourceFault.{SourceFault as ASourceFault};
-ghost use Rattle.study_tablefile.specs.Source.{Question, of_header};
+ghost use Rattle.study_tablefile.specs.PageSource.{Question, of_header};
 ghost use Rattle.study_script.specs.declared.store.StoreFault.{StoreFault as AStoreFault};
-ghost use Rattle.study_script.specs.State.{IsGiven, IsOpened, IsQuestionOf, forgotten, forgotten_faults};
+ghost use Rattle.study_script.specs.State.{IsGiven, IsOpened, IsQuestionOf, unknown_after_write, forgotten_faults};
 ghost use Rattle.study_script.specs.Stores.{IsRightFile, IsRightSource, GivesBytes};
 
 use std::io::{Read, Write};
@@ -54,8 +54,8 @@ pub trait TableStore {
     /// Opens a file to be written from its beginning. The class's file and source are unknown from then on.
     fn writer(&mut self, class: Class) -> Result<Self::Writer, StoreFault>
         ensures stays { (by_pages : Bool) (c : AClass) → honest self.old by_pages c → honest self.new by_pages c }
-        ensures files { (c : AClass) → files self.new c ≡ forgotten class (files self.old) c }
-        ensures headers { (c : AClass) → headers self.new c ≡ forgotten class (headers self.old) c }
+        ensures files { (c : AClass) → files self.new c ≡ unknown_after_write class (files self.old) c }
+        ensures headers { (c : AClass) → headers self.new c ≡ unknown_after_write class (headers self.old) c }
         ensures faults { (c : AClass) (f : ASourceFault) → faults self.new c f ≡ forgotten_faults class (faults self.old) c f };
 
     /// Opens a file to be read by pages.

@@ -9,7 +9,7 @@ ghost use Rattle.study_script.specs.State.{State, is_among, first_lacking, IsGiv
 ghost use Rattle.study_script.specs.StoreRefusals.{refusal_of_store, refusal_of_paged};
 ghost use Rattle.study_script.specs.Replies.{IsClassReply, IsNamedReply, IsBuildReply, IsLoadReply};
 ghost use Rattle.study_script.specs.Replies.{IsOpenReply, save_reply, verify_reply, refused, class_told};
-ghost use Rattle.study_script.specs.Held.{HoldsTables, TablesFrom};
+ghost use Rattle.study_script.specs.SessionHolds.{HoldsTables, TablesFrom};
 ghost use Rattle.study_material.specs.declared.class.Class.{Class as AClass};
 ghost use Rattle.study_script.specs.Stores.{StoreSeen, HonestOn, IsTrustedClass};
 ghost use Rattle.study_script.specs.Executed.{Executed};
@@ -22,7 +22,7 @@ use std::io::Write;
 use study_command::TableCommand;
 use study_material::Class;
 use study_prober::{PagedFault, PagedTables, WholeTables};
-use study_reply::{Answer, Refusal, Refused, Reply, TableReply};
+use study_reply::{Answer, LineRefusal, Refusal, Reply, TableReply};
 use study_retro::{BuildFault, BuildRoom, build, verify};
 use study_table::Table;
 use study_tablefile::{read_table, write_table};
@@ -44,7 +44,7 @@ pub fn table_command<'a, S: TableStore, A: Allocator>(
 {
     match in_tables(alloc, tables, store, word, name) {
         Ok(told) => Ok(Reply::Table(told)),
-        Err(refusal) => Err(Refused::Line(refusal)),
+        Err(refusal) => Err(LineRefusal::Line(refusal)),
     }
 }
 
@@ -62,13 +62,13 @@ fn in_tables<'a, S: TableStore, A: Allocator>(
         result }
 {
     match tables {
-        Tables::Whole(whole) => in_whole(alloc, whole, store, word, name),
-        Tables::Paged(paged) => in_pages(paged, store, word, name),
+        Tables::Whole(whole) => whole_command(alloc, whole, store, word, name),
+        Tables::Paged(paged) => paged_command(paged, store, word, name),
     }
 }
 
 /// Runs the command over whole tables.
-fn in_whole<'a, S: TableStore, A: Allocator>(
+fn whole_command<'a, S: TableStore, A: Allocator>(
     alloc: &'a A,
     tables: &mut WholeTables<'a, A>,
     store: &mut S,
@@ -90,7 +90,7 @@ fn in_whole<'a, S: TableStore, A: Allocator>(
 }
 
 /// Runs the command over tables that are read by pages; these cannot be built or written.
-fn in_pages<'a, S: TableStore, A: Allocator>(
+fn paged_command<'a, S: TableStore, A: Allocator>(
     tables: &mut PagedTables<'a, S::Pages, A>,
     store: &mut S,
     word: TableCommand,

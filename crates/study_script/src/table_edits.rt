@@ -10,9 +10,9 @@ ghost use Rattle.study_marks.specs.Study.{position_at};
 ghost use Rattle.study_marks.specs.Queries.{asked_at, positions_asked, is_of_tables, AllHeld, IsOutside};
 ghost use Rattle.study_marks.specs.EditLists.{IsShiftRefusal};
 ghost use Rattle.study_marks.specs.Answers.{IsUndamaged, TellsFirstFault};
-ghost use Rattle.study_marks.specs.Edits.{broken_from, positioned, shifted, inserted, shift_refusal, insert_refusal};
+ghost use Rattle.study_marks.specs.Edits.{first_illegal_from, with_position, with_start, with_insertion, shift_refusal, insert_refusal};
 ghost use Rattle.study_script.specs.Replies.{new_study};
-ghost use Rattle.study_script.specs.Held.{tables_held, tables_honest, tables_give, tables_may_fail, tables_asked, are_paged, IsToldBy};
+ghost use Rattle.study_script.specs.SessionHolds.{tables_held, tables_honest, tables_give, tables_may_fail, tables_asked, are_paged, HasNoDeviceFault};
 
 use crate::tables::Tables;
 use std::alloc::Allocator;
@@ -29,13 +29,13 @@ pub fn set_position<'a, P: PageSource, A: Allocator>(
     tables: &mut Tables<'a, P, A>,
 ) -> Result<(), Refusal<'a, A>>
     ensures refusal { IfErr result (IsOutside (tables_held tables.old) (asked_at start.position)) }
-    ensures device { IfErr result (IsToldBy (are_paged tables.old)) }
+    ensures device { IfErr result (HasNoDeviceFault (are_paged tables.old)) }
     ensures takes_no_memory { IfErr result (λ e. is_of_tables e ≡ true) }
     ensures first { IfErr result (TellsFirstFault (tables_give P.gives) (tables_may_fail P.gives) tables_asked tables.old
         (asked_at start.position) tables.new) }
     ensures no_damage { tables_honest P.honest tables.old → IfErr result IsUndamaged }
     ensures found { OnOk result (AllHeld (tables_held tables.old) (asked_at start.position)) }
-    ensures edited { OnOk result (plain_study (marked bench.new) ≡ positioned (plain_study (marked bench.old)) start) }
+    ensures edited { OnOk result (plain_study (marked bench.new) ≡ with_position (plain_study (marked bench.old)) start) }
     ensures right { tables_honest P.honest tables.old → OnOk result (IsKeptRight bench.new) }
     ensures same { OnErr result (bench.new ≡ bench.old) }
     ensures honest { tables_honest P.honest tables.old → tables_honest P.honest tables.new }
@@ -55,15 +55,15 @@ pub fn shift_position<'a, P: PageSource, A: Allocator>(
     start: Start,
     tables: &mut Tables<'a, P, A>,
 ) -> Result<(), Refusal<'a, A>>
-    ensures refusal { IfErr result (IsShiftRefusal (tables_held tables.old) (positions_asked (shifted (plain_study (marked bench.old)) start))
+    ensures refusal { IfErr result (IsShiftRefusal (tables_held tables.old) (positions_asked (with_start (plain_study (marked bench.old)) start))
         (shift_refusal (plain_study (marked bench.old)) start)) }
-    ensures broken { OnOk result (broken_from 0 start.position (marked bench.old).tree.below ≡ None) }
-    ensures device { IfErr result (IsToldBy (are_paged tables.old)) }
+    ensures broken { OnOk result (first_illegal_from 0 start.position (marked bench.old).tree.below ≡ None) }
+    ensures device { IfErr result (HasNoDeviceFault (are_paged tables.old)) }
     ensures first { IfErr result (TellsFirstFault (tables_give P.gives) (tables_may_fail P.gives) tables_asked tables.old
-        (positions_asked (shifted (plain_study (marked bench.old)) start)) tables.new) }
+        (positions_asked (with_start (plain_study (marked bench.old)) start)) tables.new) }
     ensures no_damage { tables_honest P.honest tables.old → IfErr result IsUndamaged }
-    ensures found { OnOk result (AllHeld (tables_held tables.old) (positions_asked (shifted (plain_study (marked bench.old)) start))) }
-    ensures edited { OnOk result (plain_study (marked bench.new) ≡ shifted (plain_study (marked bench.old)) start) }
+    ensures found { OnOk result (AllHeld (tables_held tables.old) (positions_asked (with_start (plain_study (marked bench.old)) start))) }
+    ensures edited { OnOk result (plain_study (marked bench.new) ≡ with_start (plain_study (marked bench.old)) start) }
     ensures right { tables_honest P.honest tables.old → OnOk result (IsKeptRight bench.new) }
     ensures same { OnErr result (bench.new ≡ bench.old) }
     ensures honest { tables_honest P.honest tables.old → tables_honest P.honest tables.new }
@@ -87,12 +87,12 @@ pub fn insert_move<'a, P: PageSource, A: Allocator>(
     ensures refusal { MatchOption (insert_refusal (plain_study (marked bench.old)) path.now m)
         (IfErr result (IsOutside (tables_held tables.old) (asked_at (after (position_at (marked bench.old) path.now) m))))
         (λ fault. result ≡ Err fault) }
-    ensures device { IfErr result (IsToldBy (are_paged tables.old)) }
+    ensures device { IfErr result (HasNoDeviceFault (are_paged tables.old)) }
     ensures first { IfErr result (TellsFirstFault (tables_give P.gives) (tables_may_fail P.gives) tables_asked tables.old
         (asked_at (after (position_at (marked bench.old) path.now) m)) tables.new) }
     ensures no_damage { tables_honest P.honest tables.old → IfErr result IsUndamaged }
     ensures found { OnOk result (AllHeld (tables_held tables.old) (asked_at (after (position_at (marked bench.old) path.now) m))) }
-    ensures edited { OnOk result (plain_study (marked bench.new) ≡ inserted (plain_study (marked bench.old)) path.now m) }
+    ensures edited { OnOk result (plain_study (marked bench.new) ≡ with_insertion (plain_study (marked bench.old)) path.now m) }
     ensures place { IfOk result (λ k. k ≡ children_at (marked bench.old).tree.below path.now) }
     ensures right { tables_honest P.honest tables.old → IsKeptRight bench.old → OnOk result (IsKeptRight bench.new) }
     ensures same { OnErr result (bench.new ≡ bench.old) }
@@ -115,7 +115,7 @@ pub fn new_bench<'a, P: PageSource, A: Allocator>(
     tables: &mut Tables<'a, P, A>,
 ) -> Result<Bench<'a, A>, Refusal<'a, A>>
     ensures refusal { IfErr result (IsOutside (tables_held tables.old) (asked_at start.position)) }
-    ensures device { IfErr result (IsToldBy (are_paged tables.old)) }
+    ensures device { IfErr result (HasNoDeviceFault (are_paged tables.old)) }
     ensures takes_no_memory { IfErr result (λ e. is_of_tables e ≡ true) }
     ensures first { IfErr result (TellsFirstFault (tables_give P.gives) (tables_may_fail P.gives) tables_asked tables.old
         (asked_at start.position) tables.new) }

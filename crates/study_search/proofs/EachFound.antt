@@ -12,7 +12,7 @@ use Rattle.study_board.specs.Symmetry.{image, admits, turned_side}
 use Rattle.study_board.specs.Images.{differ}
 use Rattle.study_board.proofs.ImagesValid.{valid_image}
 use Rattle.study_board.proofs.ImagesOfImages.{IsTurnable-from_valid}
-use Rattle.study_moves.specs.EnPassant.{has_legal_en_passant, bare, without_passed}
+use Rattle.study_moves.specs.EnPassant.{has_legal_en_passant, without_idle_passed_square, without_passed}
 use Rattle.study_moves.specs.Laws.{AllAgreeWithBare}
 use Rattle.study_material.specs.Class.{IsOf, lists_of}
 use Rattle.study_material.specs.Lists.{Lists, lists, ordered, lists_exchanged, is_exchanged, is_swapped, comes_before}
@@ -39,14 +39,14 @@ same-flag false true f = absurd (false≢true (sym f))
 same-flag true false f = absurd (false≢true (sym f))
 same-flag true true f = refl
 
-bare-men : (p : Position) → (bare p).men ≡ p.men
+bare-men : (p : Position) → (without_idle_passed_square p).men ≡ p.men
 bare-men p = by_live (has_legal_en_passant p)
   where
     by_live : (b : Bool) → (if b then p else without_passed p).men ≡ p.men
     by_live true = refl
     by_live false = refl
 
-bare-side : (p : Position) → (bare p).to_move ≡ p.to_move
+bare-side : (p : Position) → (without_idle_passed_square p).to_move ≡ p.to_move
 bare-side p = by_live (has_legal_en_passant p)
   where
     by_live : (b : Bool) → (if b then p else without_passed p).to_move ≡ p.to_move
@@ -63,23 +63,23 @@ module _ (law : AllAgreeWithBare) (s : Search) (p : Position) (valid : IsValid p
       let e = entry c n q r.1 in
       let alike = alike_back c q p r.2 in
       let by = alike.alike.images.by in
-      let is : q ≡ image by (bare p) = sym e.is_bare ∙ alike.alike.images.is in
-      let keeps : (lists (bare p).men).white ≡ (lists (bare p).men).black → by.colours ≡ false =
+      let is : q ≡ image by (without_idle_passed_square p) = sym e.is_bare ∙ alike.alike.images.is in
+      let keeps : (lists (without_idle_passed_square p).men).white ≡ (lists (without_idle_passed_square p).men).black → by.colours ≡ false =
       (λ same. alike.kept (ap (λ l. l.white) home ∙ ordered-same (lists p.men) (subst (λ xs. (lists xs).white ≡ (lists xs).black) (bare-men p) same)
       ∙ sym (ap (λ l. l.black) home))) in
-      let colours : by.colours ≡ is_swapped (bare p).men =
-      same-flag by.colours (is_swapped (bare p).men) (sym (swapped-image by (bare p).men keeps) ∙ sym (ap (λ x. is_swapped x.men) is) ∙ e.in_order) in
+      let colours : by.colours ≡ is_swapped (without_idle_passed_square p).men =
+      same-flag by.colours (is_swapped (without_idle_passed_square p).men) (sym (swapped-image by (without_idle_passed_square p).men keeps) ∙ sym (ap (λ x. is_swapped x.men) is) ∙ e.in_order) in
       let to_move : q.to_move ≡ turned_side (is_swapped p.men) p.to_move =
-      ap (λ x. x.to_move) is ∙ ap (λ b. turned_side b (bare p).to_move) (colours ∙ ap (λ xs. is_swapped xs) (bare-men p))
+      ap (λ x. x.to_move) is ∙ ap (λ b. turned_side b (without_idle_passed_square p).to_move) (colours ∙ ap (λ xs. is_swapped xs) (bare-men p))
       ∙ ap (λ x. turned_side (is_swapped p.men) x) (bare-side p) in
-      let turnable = IsTurnable-from_valid by (bare p) (law p valid).valid alike.alike.images.admitted in
+      let turnable = IsTurnable-from_valid by (without_idle_passed_square p) (law p valid).valid alike.alike.images.admitted in
       record {
         found = (
           q,
           decoded_told c n q r.1,
           (
             ap (λ x. is_for s.side x) to_move ∙ side,
-            subst (HasTheme s.theme) (sym is) (theme-image s.theme by (bare p) turnable (theme-bare law p valid s.theme h)),
+            subst (HasTheme s.theme) (sym is) (theme-image s.theme by (without_idle_passed_square p) turnable (theme-bare law p valid s.theme h)),
           ),
         );
         once = λ m x told alike.

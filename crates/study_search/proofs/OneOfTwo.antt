@@ -7,7 +7,7 @@ use Rattle.study_board.specs.Men.{other_side}
 use Rattle.study_board.specs.Position.{Position, IsValid}
 use Rattle.study_board.specs.Symmetry.{image}
 use Rattle.study_board.proofs.ImagesOfImages.{IsTurnable, IsTurnable-from_valid, image_back}
-use Rattle.study_moves.specs.EnPassant.{has_legal_en_passant, bare, without_passed}
+use Rattle.study_moves.specs.EnPassant.{has_legal_en_passant, without_idle_passed_square, without_passed}
 use Rattle.study_moves.specs.Game.{IsDrawn}
 use Rattle.study_moves.specs.Laws.{AllAgreeWithBare, EachHasAtMostOneValue}
 use Rattle.study_values.specs.Number.{with_bit}
@@ -51,7 +51,7 @@ quiet-index : (p : Position) → has_legal_en_passant p ≡ false → index_of (
 unfolding index_of least_number
 quiet-index p e = ap (λ b. with_bit b (least_number p)) (sym e)
 
-bare-quiet : (p : Position) → has_legal_en_passant p ≡ false → bare p ≡ without_passed p
+bare-quiet : (p : Position) → has_legal_en_passant p ≡ false → without_idle_passed_square p ≡ without_passed p
 bare-quiet p e = go (has_legal_en_passant p) e
   where
     go : (b : Bool) → b ≡ false → cond b p (without_passed p) ≡ without_passed p

@@ -17,8 +17,8 @@ use Rattle.study_board.specs.Symmetry.{turned_man}
 use Rattle.study_board.specs.Position.{Position, IsValid}
 use Rattle.study_moves.specs.EnPassant.{has_legal_en_passant}
 use Rattle.study_material.specs.declared.class.Class.{Class}
-use Rattle.study_values.specs.Number.{place, number, listed_count, side_number, append_squares, has_bit, without_bit, with_bit, numbers_of, cells_of, has_both_pawns}
-use Rattle.study_values.specs.Canonical.{turned_number, last_two_exchanged, are_like, descends, least, least_by, least_of, canonical_symmetry}
+use Rattle.study_values.specs.Number.{place, number, king_places, side_number, append_squares, has_bit, without_bit, with_bit, numbers_of, cells_of, has_both_pawns}
+use Rattle.study_values.specs.Canonical.{turned_number, last_two_exchanged, are_like, descends, least, least_by, canonical_number, canonical_symmetry}
 use Rattle.study_values.specs.Index.{index_of}
 use Rattle.study_values.specs.Size.{pages_of}
 use Rattle.study_material.specs.Class.{lists_of}
@@ -64,8 +64,8 @@ three_without : (q a b c : ℕ) → (((1 * 10 + q) * 64 + a) * 64 + b) * 64 + c 
 three_without q a b c = omega arith
 
 appended : (pawns : Bool) (q : ℕ) (rest : List Man) → length rest ≤ 3
-    → append_squares (side_number Black * listed_count pawns + q) rest
-    ≡ append_squares (side_number White * listed_count pawns + q) rest + listed_count pawns * 64 ^ length rest
+    → append_squares (side_number Black * king_places pawns + q) rest
+    ≡ append_squares (side_number White * king_places pawns + q) rest + king_places pawns * 64 ^ length rest
 appended true q [] few = none_with_pawn q
 appended true q (a ∷ []) few = one_with_pawn q a.at
 appended true q (a ∷ b ∷ []) few = two_with_pawn q a.at b.at
@@ -77,12 +77,12 @@ appended false q (a ∷ b ∷ c ∷ []) few = three_without q a.at b.at c.at
 appended pawns q (a ∷ b ∷ c ∷ d ∷ xs) few = absurd (omega (arith, few))
 
 number-raised : (pawns : Bool) (k : Man) (rest : List Man) → length rest ≤ 3
-    → number pawns Black (k ∷ rest) ≡ raised (listed_count pawns * 64 ^ length rest) (number pawns White (k ∷ rest))
+    → number pawns Black (k ∷ rest) ≡ raised (king_places pawns * 64 ^ length rest) (number pawns White (k ∷ rest))
 unfolding number
 number-raised pawns k rest few = by_place (place pawns k.at)
   where
-    by_place : (o : Option ℕ) → option_map (λ q. append_squares (side_number Black * listed_count pawns + q) rest) o
-        ≡ raised (listed_count pawns * 64 ^ length rest) (option_map (λ q. append_squares (side_number White * listed_count pawns + q) rest) o)
+    by_place : (o : Option ℕ) → option_map (λ q. append_squares (side_number Black * king_places pawns + q) rest) o
+        ≡ raised (king_places pawns * 64 ^ length rest) (option_map (λ q. append_squares (side_number White * king_places pawns + q) rest) o)
     by_place None = refl
     by_place (Some q) = ap (λ (m : ℕ). Some m) (appended pawns q rest few)
 
@@ -94,7 +94,7 @@ either-raised d true false x y z w e f = f
 either-raised d false b x y z w e f = f
 
 by-raised : (pawns : Bool) (t : Symmetry) (xs : List Man) → length xs ≤ 4
-    → least_by pawns Black t xs ≡ raised (listed_count pawns * 64 ^ (length xs - 1)) (least_by pawns White t xs)
+    → least_by pawns Black t xs ≡ raised (king_places pawns * 64 ^ (length xs - 1)) (least_by pawns White t xs)
 unfolding least_by turned_number number
 by-raised pawns t [] few = refl
 by-raised pawns t (k ∷ []) few = number-raised pawns (turned_man t k) [] (omega arith)
@@ -125,14 +125,14 @@ least-both : (x y z w : Option ℕ) → x ≡ z → y ≡ w → least x y ≡ le
 least-both x y z w e f = rw (e, f) refl
 
 of-raised : (pawns : Bool) (xs : List Man) → length xs ≤ 4
-    → least_of pawns Black false xs ≡ raised (listed_count pawns * 64 ^ (length xs - 1)) (least_of pawns White false xs)
-unfolding least_of
+    → canonical_number pawns Black false xs ≡ raised (king_places pawns * 64 ^ (length xs - 1)) (canonical_number pawns White false xs)
+unfolding canonical_number
 of-raised pawns [] few = refl
 of-raised true (k ∷ rest) few = by-raised true (canonical_symmetry true false false k.at) (k ∷ rest) few
 of-raised false (k ∷ rest) few =
     least-both _ _ _ _ (by-raised false (canonical_symmetry false false false k.at) (k ∷ rest) few)
     (by-raised false (canonical_symmetry false true false k.at) (k ∷ rest) few)
-    ∙ least-raised (listed_count false * 64 ^ (length (k ∷ rest) - 1)) (least_by false White (canonical_symmetry false false false k.at) (k ∷ rest))
+    ∙ least-raised (king_places false * 64 ^ (length (k ∷ rest) - 1)) (least_by false White (canonical_symmetry false false false k.at) (k ∷ rest))
     (least_by false White (canonical_symmetry false true false k.at) (k ∷ rest))
 
 -- ---- the side to move of a number
@@ -146,7 +146,7 @@ few-slots (k ∷ []) s = absurd s
 few-slots (k ∷ b ∷ x ∷ y ∷ z ∷ fs) s = absurd s
 
 abbrev step_of : Bool → List Slot → ℕ
-step_of pawns slots = listed_count pawns * 64 ^ (length slots - 1)
+step_of pawns slots = king_places pawns * 64 ^ (length slots - 1)
 
 step-low : (pawns : Bool) (slots : List Slot) → AreSlots slots → step_of pawns slots ≤ 8388608
 step-low true (k ∷ b ∷ []) s = (let l : 2048 ≤ 8388608 = omega arith in l)
@@ -169,7 +169,7 @@ is-white m e = ap (λ (k : ℕ). side_numbered k) e
 is-black : (m : ℕ) → 1 ≤ m → side_numbered m ≡ Black
 is-black m l = let e : (m == 0) ≡ false = grind (arith, nat_tests) in ap (λ (b : Bool). cond b White Black) e
 
-white-below : (pawns : Bool) (slots : List Slot) (n : ℕ) → AreSlots slots → n < step_of pawns slots → side_numbered (head slots n / listed_count pawns) ≡ White
+white-below : (pawns : Bool) (slots : List Slot) (n : ℕ) → AreSlots slots → n < step_of pawns slots → side_numbered (head slots n / king_places pawns) ≡ White
 white-below true (k ∷ b ∷ []) n s l = (let m : n < 2048 = l in is-white (n / 64 / 32) (omega (arith, m)))
 white-below true (k ∷ b ∷ x ∷ []) n s l = (let m : n < 131072 = l in is-white (n / 64 / 64 / 32) (omega (arith, m)))
 white-below true (k ∷ b ∷ x ∷ y ∷ []) n s l = (let m : n < 8388608 = l in is-white (n / 64 / 64 / 64 / 32) (omega (arith, m)))
@@ -180,7 +180,7 @@ white-below pawns [] n s l = absurd s
 white-below pawns (k ∷ []) n s l = absurd s
 white-below pawns (k ∷ b ∷ x ∷ y ∷ z ∷ fs) n s l = absurd s
 
-black-above : (pawns : Bool) (slots : List Slot) (n : ℕ) → AreSlots slots → step_of pawns slots ≤ n → side_numbered (head slots n / listed_count pawns) ≡ Black
+black-above : (pawns : Bool) (slots : List Slot) (n : ℕ) → AreSlots slots → step_of pawns slots ≤ n → side_numbered (head slots n / king_places pawns) ≡ Black
 black-above true (k ∷ b ∷ []) n s l = (let m : 2048 ≤ n = l in is-black (n / 64 / 32) (omega (arith, m)))
 black-above true (k ∷ b ∷ x ∷ []) n s l = (let m : 131072 ≤ n = l in is-black (n / 64 / 64 / 32) (omega (arith, m)))
 black-above true (k ∷ b ∷ x ∷ y ∷ []) n s l = (let m : 8388608 ≤ n = l in is-black (n / 64 / 64 / 64 / 32) (omega (arith, m)))
@@ -201,7 +201,7 @@ black-told c n l = black-above (slots_have_pawn (slots_of c)) (slots_of c) n (Ar
 
 -- ---- the numbers of a class are twice as many
 
-cell-below : (pawns : Bool) (slots : List Slot) (n : ℕ) → AreSlots slots → nat_lt (head slots n / listed_count pawns) 2 ≡ true → n < 2 * step_of pawns slots
+cell-below : (pawns : Bool) (slots : List Slot) (n : ℕ) → AreSlots slots → nat_lt (head slots n / king_places pawns) 2 ≡ true → n < 2 * step_of pawns slots
 cell-below true (k ∷ b ∷ []) n s e = (let l = ltb-true (n / 64 / 32) 2 e in let m : n < 4096 = omega (arith, l) in m)
 cell-below true (k ∷ b ∷ x ∷ []) n s e = (let l = ltb-true (n / 64 / 64 / 32) 2 e in let m : n < 262144 = omega (arith, l) in m)
 cell-below true (k ∷ b ∷ x ∷ y ∷ []) n s e = (let l = ltb-true (n / 64 / 64 / 64 / 32) 2 e in let m : n < 16777216 = omega (arith, l) in m)
@@ -216,7 +216,7 @@ pub told-below : (c : Class) (n : ℕ) → is_cell (slots_of c) n ≡ true → n
 unfolding side_step
 told-below c n e = cell-below (slots_have_pawn (slots_of c)) (slots_of c) n (AreSlots-class c) e
 
-cell-there : (pawns : Bool) (slots : List Slot) (n : ℕ) → AreSlots slots → n < 2 * step_of pawns slots → nat_lt (head slots n / listed_count pawns) 2 ≡ true
+cell-there : (pawns : Bool) (slots : List Slot) (n : ℕ) → AreSlots slots → n < 2 * step_of pawns slots → nat_lt (head slots n / king_places pawns) 2 ≡ true
 cell-there true (k ∷ b ∷ []) n s l = (let m : n < 4096 = l in lt-ltb (n / 64 / 32) 2 (omega (arith, m)))
 cell-there true (k ∷ b ∷ x ∷ []) n s l = (let m : n < 262144 = l in lt-ltb (n / 64 / 64 / 32) 2 (omega (arith, m)))
 cell-there true (k ∷ b ∷ x ∷ y ∷ []) n s l = (let m : n < 16777216 = l in lt-ltb (n / 64 / 64 / 64 / 32) 2 (omega (arith, m)))
@@ -283,15 +283,15 @@ other-number c n p d small valid =
     let back : IsPermutation p.men men = IsPermutation-sym men p.men t.same_men in
     let filled : map slot_filled men ≡ slots = filled-men_of pawns slots n s in
     let in_slots = IsInSlots-men_of pawns slots n s in
-    let own = least_index c p men side (least_of pawns side false men) d.valid back filled in_slots t.same_side (quiet c n p d small) refl in
-    let other = least_index c (handed_on p) men (other_side side) (least_of pawns (other_side side) false men) valid back filled in_slots
+    let own = least_index c p men side (canonical_number pawns side false men) d.valid back filled in_slots t.same_side (quiet c n p d small) refl in
+    let other = least_index c (handed_on p) men (other_side side) (canonical_number pawns (other_side side) false men) valid back filled in_slots
     (ap (λ x. other_side x) t.same_side) refl refl in
     let long : length men ≡ length slots = sym (length-map men slot_filled) ∙ ap (λ (xs : List Slot). length xs) filled in
     let few : length men ≤ 4 = subst (λ (m : ℕ). m ≤ 4) (sym long) (few-slots slots s) in
-    let higher : least_of pawns Black false men ≡ raised (side_step c) (least_of pawns White false men) =
-    subst (λ (m : ℕ). least_of pawns Black false men ≡ raised (listed_count pawns * 64 ^ (m - 1)) (least_of pawns White false men)) long
+    let higher : canonical_number pawns Black false men ≡ raised (side_step c) (canonical_number pawns White false men) =
+    subst (λ (m : ℕ). canonical_number pawns Black false men ≡ raised (king_places pawns * 64 ^ (m - 1)) (canonical_number pawns White false men)) long
     (of-raised pawns men few) in
-    let both = by-side (λ x. least_of pawns x false men) side (index_of p) (index_of (handed_on p)) (side_step c) higher own other in
+    let both = by-side (λ x. canonical_number pawns x false men) side (index_of p) (index_of (handed_on p)) (side_step c) higher own other in
     let index : index_of p ≡ n = sym (index_of-only p n d.valid d.index) in (
       (λ e. both.0 e ∙ ap (λ (m : ℕ). m + side_step c) index),
       (λ e. both.1 e ∙ index),

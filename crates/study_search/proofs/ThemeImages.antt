@@ -12,7 +12,7 @@ use Rattle.study_board.proofs.Coordinates.{KeepsPawns}
 use Rattle.study_board.proofs.ImagesValid.{Each, IsSeated, valid_image}
 use Rattle.study_board.proofs.ImagesOfImages.{IsTurnable, IsTurnable-image, IsTurnable-back, image_back}
 use Rattle.study_moves.specs.declared.moves.Move.{Move}
-use Rattle.study_moves.specs.EnPassant.{has_legal_en_passant, bare, without_passed}
+use Rattle.study_moves.specs.EnPassant.{has_legal_en_passant, without_idle_passed_square, without_passed}
 use Rattle.study_moves.specs.Rules.{is_legal, after}
 use Rattle.study_moves.specs.Symmetry.{image_move}
 use Rattle.study_moves.specs.Game.{IsLegal, IsWon, IsLost, IsDrawn}
@@ -188,7 +188,7 @@ value-along p q h (values.Win n) i = (h.won n).0 i
 value-along p q h (values.Loss n) i = (h.lost n).0 i
 value-along p q h values.Draw i = h.drawn.0 i
 
-handed-bare : (p : Position) → handed_on (bare p) ≡ handed_on p
+handed-bare : (p : Position) → handed_on (without_idle_passed_square p) ≡ handed_on p
 handed-bare p = by_live (has_legal_en_passant p)
   where
     by_live : (b : Bool) → handed_on (cond b p (without_passed p)) ≡ handed_on p
@@ -196,17 +196,17 @@ handed-bare p = by_live (has_legal_en_passant p)
     by_live false = refl
 
 module _ (law : AllAgreeWithBare) (p : Position) (valid : IsValid p) where
-  Has-bare : (o : Outcome) → Has o p → Has o (bare p)
+  Has-bare : (o : Outcome) → Has o p → Has o (without_idle_passed_square p)
   Has-bare Win h = (h.0, ((law p valid).value.won h.0).0 h.1)
   Has-bare Draw h = (law p valid).value.drawn.0 h
 
-  ends-bare : (m : Move) → IsLegal p m → after p m ≡ after (bare p) m
+  ends-bare : (m : Move) → IsLegal p m → after p m ≡ after (without_idle_passed_square p) m
   ends-bare m l = sym ((law p valid).after m l)
 
-  legal-bare : (m : Move) → IsLegal p m → IsLegal (bare p) m
+  legal-bare : (m : Move) → IsLegal p m → IsLegal (without_idle_passed_square p) m
   legal-bare m l = (law p valid).legal m ∙ l
 
-  only-bare : (o : Outcome) (m : Move) → IsOnlyMove o p m → IsOnlyMove o (bare p) m
+  only-bare : (o : Outcome) (m : Move) → IsOnlyMove o p m → IsOnlyMove o (without_idle_passed_square p) m
   only-bare o m y = record {
     legal = legal-bare m y.legal;
     holds = subst (Holds o) (ends-bare m y.legal) y.holds;
@@ -215,10 +215,10 @@ module _ (law : AllAgreeWithBare) (p : Position) (valid : IsValid p) where
         y.alone k legal (subst (Holds o) ((law p valid).after k legal) h);
   }
 
-  key-bare : (o : Outcome) (m : Move) → IsKey o p m → IsKey o (bare p) m
+  key-bare : (o : Outcome) (m : Move) → IsKey o p m → IsKey o (without_idle_passed_square p) m
   key-bare o m k = (Has-bare o k.0, only-bare o m k.1)
 
-  line-bare : (o : Outcome) (n : ℕ) → HasOnlyMoves o n p → HasOnlyMoves o n (bare p)
+  line-bare : (o : Outcome) (n : ℕ) → HasOnlyMoves o n p → HasOnlyMoves o n (without_idle_passed_square p)
   line-bare o zero a = Has-bare o a
   line-bare o (suc n) a = (
     Has-bare o a.0,
@@ -229,7 +229,7 @@ module _ (law : AllAgreeWithBare) (p : Position) (valid : IsValid p) where
     ),
   )
 
-  zugzwang-bare : IsZugzwang p → IsZugzwang (bare p)
+  zugzwang-bare : IsZugzwang p → IsZugzwang (without_idle_passed_square p)
   zugzwang-bare z =
       let same = sym (handed-bare p) in
       record {
@@ -238,19 +238,19 @@ module _ (law : AllAgreeWithBare) (p : Position) (valid : IsValid p) where
         less = (
           z.less.0,
           z.less.1,
-          ((z.less.2).0, value-along p (bare p) (law p valid).value (z.less.2).0 (z.less.2).1, (z.less.2).2),
+          ((z.less.2).0, value-along p (without_idle_passed_square p) (law p valid).value (z.less.2).0 (z.less.2).1, (z.less.2).2),
           subst (λ (q : Position). Scores q z.less.1) same z.less.3,
           z.less.4,
         );
       }
 
-  underpromotes-bare : (o : Outcome) → Underpromotes o p → Underpromotes o (bare p)
+  underpromotes-bare : (o : Outcome) → Underpromotes o p → Underpromotes o (without_idle_passed_square p)
   underpromotes-bare o u = (u.0, key-bare o u.0 u.1, u.2)
 
-  into-bare : (o : Outcome) → LeadsIntoZugzwang o p → LeadsIntoZugzwang o (bare p)
+  into-bare : (o : Outcome) → LeadsIntoZugzwang o p → LeadsIntoZugzwang o (without_idle_passed_square p)
   into-bare o u = (u.0, key-bare o u.0 u.1, subst (λ (q : Position). IsZugzwang q) (ends-bare u.0 u.1.1.legal) u.2)
 
-  pub theme-bare : (x : Theme) → HasTheme x p → HasTheme x (bare p)
+  pub theme-bare : (x : Theme) → HasTheme x p → HasTheme x (without_idle_passed_square p)
   theme-bare theme.Zugzwang h = zugzwang-bare h
   theme-bare (theme.OnlyMoves o n) h = line-bare o n h
   theme-bare theme.Underpromotion (inl h) = inl (underpromotes-bare Win h)

@@ -3,7 +3,7 @@ use Rattle.std.specs.Prelude.{◌≡◌, ℕ, ◌+◌, ◌-◌, ◌*◌, ◌/◌
 use Rattle.study_board.specs.Position.{Position, IsValid}
 use Rattle.study_material.specs.declared.class.Class.{Class}
 use Rattle.study_values.specs.Cells.{value_of}
-use Rattle.study_values.specs.Number.{listed_count}
+use Rattle.study_values.specs.Number.{king_places}
 use Rattle.study_index.specs.Computed.{position_numbered}
 use Rattle.study_index.specs.Decoded.{slots_of, slots_have_pawn}
 use Rattle.study_zugzwang.specs.Zugzwang.{half_points, handed_on, IsZugzwang}
@@ -12,7 +12,7 @@ use Rattle.study_search.specs.Finding.{IsFound}
 
 -- what the number of men with Black to move exceeds that with White to move by: the numbers with White to move come first
 unfoldable pub side_step : Class → ℕ
-side_step c = listed_count (slots_have_pawn (slots_of c)) * 64 ^ (length (slots_of c) - 1)
+side_step c = king_places (slots_have_pawn (slots_of c)) * 64 ^ (length (slots_of c) - 1)
 
 -- the number reads as a mutual zugzwang
 abbrev pub IsZugzwangAt : Class → ℕ → Type 0

@@ -12,7 +12,7 @@ use crate::by_cells::{is_by_cells, next_zugzwang};
 use crate::only_moves::{Outcome, has_only_moves};
 use crate::themes::{Theme, has_theme};
 use study_board::{Position, Side};
-use study_index::{decode, told};
+use study_index::{decode, decode_men};
 use study_material::Class;
 use study_prober::CellPages;
 use study_values::{ProbeFault, Values};
@@ -40,7 +40,7 @@ pub fn is_for(wanted: Option<Side>, to_move: Side) -> bool
 pub fn side_at(class: Class, number: u32) -> Side
     ensures { result ≡ told_side (slots_of class) (without_bit number) }
 {
-    let setup = told(class, number);
+    let setup = decode_men(class, number);
     setup.to_move
 }
 

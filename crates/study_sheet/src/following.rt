@@ -2,10 +2,10 @@
 ghost use Rattle.std.specs.Prelude.{◌≡◌, List, IfSome};
 ghost use Rattle.study_material.specs.declared.class.Class.{Class as AClass};
 ghost use Rattle.study_script.specs.State.{is_among};
-ghost use Rattle.study_script.specs.Held.{tables_honest, tables_held, are_paged};
+ghost use Rattle.study_script.specs.SessionHolds.{tables_honest, tables_held, are_paged};
 ghost use Rattle.study_report.specs.Outcome.{over_tables};
 ghost use Rattle.study_html.specs.Frame.{closing};
-ghost use Rattle.study_print.specs.Pages.{is_broken, IsEnded, FileShape};
+ghost use Rattle.study_print.specs.Pages.{writer_failed, IsEnded, FileShape};
 ghost use Rattle.study_sheet.specs.Sheet.{IsSheet, SheetFits};
 
 use crate::sheet::Sheet;
@@ -17,8 +17,8 @@ use study_script::{RunFault, Summary, Tables};
 use study_tablefile::PageSource;
 
 /// Whether the writer failed.
-fn is_broken(ran: &Result<Summary, RunFault>) -> bool
-    ensures { result ≡ is_broken ran.now }
+fn writer_failed(ran: &Result<Summary, RunFault>) -> bool
+    ensures { result ≡ writer_failed ran.now }
 {
     match ran {
         Err(RunFault::WriteDevice) => true,
@@ -30,7 +30,7 @@ fn is_broken(ran: &Result<Summary, RunFault>) -> bool
 fn write_end<W: Write>(ran: Result<Summary, RunFault>, out: &mut W) -> Result<Summary, RunFault>
     ensures { IsEnded closing (W.contents out.old) (W.contents out.new) ran result }
 {
-    if is_broken(&ran) {
+    if writer_failed(&ran) {
         return ran;
     }
     match write_closing(out) {

@@ -3,8 +3,8 @@ use std::alloc::Allocator;
 use std::io::Write;
 use study_marks::Bench;
 use study_page::{PageFault, write_place, write_refusal};
-use study_print::{reason_of, refusal_in};
-use study_report::{NotTold, Report, ReviewFault};
+use study_print::{reason_of, refusal_name};
+use study_report::{Report, ReviewFault, WriteFault};
 use study_values::Values;
 
 /// Studies as places on a sheet, and a line for each refused line. No value is probed.
@@ -50,12 +50,12 @@ impl Report for Sheet {
         line: &[u8],
         reply: &[u8],
         out: &mut W,
-    ) -> Result<(), NotTold> {
-        let refusal = refusal_in(reply);
+    ) -> Result<(), WriteFault> {
+        let refusal = refusal_name(reply);
         match write_refusal(alloc, number, line, refusal, reason_of(refusal), out) {
             Ok(()) => Ok(()),
-            Err(PageFault::OutOfMemory) => Err(NotTold::OutOfMemory),
-            Err(PageFault::Device) => Err(NotTold::Device),
+            Err(PageFault::OutOfMemory) => Err(WriteFault::OutOfMemory),
+            Err(PageFault::Device) => Err(WriteFault::Device),
         }
     }
 
@@ -64,7 +64,7 @@ impl Report for Sheet {
         _alloc: &'a A,
         _line: &[u8],
         _out: &mut W,
-    ) -> Result<(), NotTold> {
+    ) -> Result<(), WriteFault> {
         Ok(())
     }
 }

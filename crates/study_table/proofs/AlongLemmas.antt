@@ -2,7 +2,7 @@
 use Rattle.std.proofs.Common.{◌≡◌, ℕ, zero, suc, inl, inr, sym, ◌∙◌}
 use Rattle.study_values.specs.declared.value.Value.{Value}
 use Rattle.study_values.specs.declared.value.Value.TheVariants.{Win, Loss, Draw}
-use Rattle.study_table.specs.Forced.{Mated, Mates, IsGame, Gives, IsRightBelow}
+use Rattle.study_table.specs.Forced.{Mated, Mates, IsGame, GivesValue, IsRightBelow}
 
 -- a relation that keeps moves and mates, both ways
 pub record KeepsMoves {P : Type 0} (leads : P → P → Type 0) (mate : P → Type 0) (Alike : P → P → Type 0) : Type 0 where
@@ -38,7 +38,7 @@ module _ {P : Type 0} (leads : P → P → Type 0) (mate : P → Type 0) (Alike 
   -- labels that are alike if positions are, for the known positions after the moves
   module _ (known : P → Type 0) (labels : P → Value) (alike : (p q : P) → known p → Alike p q → labels p ≡ labels q) where
     pub Gives-along : (p q : P) (v : Value) → ((p' : P) → leads p p' → known p')
-        → ((q' : P) → leads q q' → known q') → Alike p q → Gives leads mate labels p v → Gives leads mate labels q v
+        → ((q' : P) → leads q q' → known q') → Alike p q → GivesValue leads mate labels p v → GivesValue leads mate labels q v
     Gives-along p q (Win zero) kp kq r g = g
     Gives-along p q (Win (suc n)) kp kq r g =
         let m = keeps.move p q g.to r g.move in

@@ -1,7 +1,7 @@
 -- The values in a class's cells, for all its positions.
 use Rattle.std.proofs.Common.{◌≡◌, ℕ, ◌<◌, ◌⊎◌, inl, inr, sym, ◌∙◌, ap, subst, refl, List, slice_index, Option, Some, None, Bool, true, false, if◌then◌else◌}
 use Rattle.study_values.specs.declared.value.Value.{Value}
-use Rattle.study_table.specs.Forced.{IsGame, Gives}
+use Rattle.study_table.specs.Forced.{IsGame, GivesValue}
 use Rattle.study_values.specs.Cells.{value_of, label_of}
 use Rattle.study_table.specs.Right.{IsRightCell, AreRight, IsRightOutside, IsGivenCell, IsOtherCell}
 use Rattle.study_table.specs.Class.{IsClass}
@@ -60,7 +60,7 @@ module _ {P : Type 0} {leads : P → P → Type 0} {mate : P → Type 0} {known 
 
   -- the value that right cells give a position is right
   pub given-right : IsRightOutside leads mate known home outside → AreRight leads mate position size cells
-      → (p : P) (v : Value) → known p → home p ≡ true → Gives leads mate Labels p v → IsGame leads mate p v
+      → (p : P) (v : Value) → known p → home p ≡ true → GivesValue leads mate Labels p v → IsGame leads mate p v
   given-right outer right p v k e g = IsGame-Gives leads mate laws.stuck Labels p v (λ q l. labels-right outer right q (laws.closed p q k e l)) g
 
   -- among right cells none encodes another value than they give
@@ -101,7 +101,7 @@ module _ {P : Type 0} {leads : P → P → Type 0} {mate : P → Type 0} {known 
       from_number : (p q : P) → known p → home p ≡ true → position (index p) ≡ Some q → image q p
           → IsRightCell leads mate (position (index p)) (slice_index cells (index p))
           ⊎ IsGivenCell leads mate Labels (position (index p)) (slice_index cells (index p))
-          → IsGame leads mate p (Labels p) ⊎ Gives leads mate Labels p (Labels p) × ((q : P) → leads p q → known q)
+          → IsGame leads mate p (Labels p) ⊎ GivesValue leads mate Labels p (Labels p) × ((q : P) → leads p q → known q)
       from_number p q k e s r (inl h) =
           let at = subst (λ (o : Option P). IsRightCell leads mate o (slice_index cells (index p))) s h in
           inl (subst (IsGame leads mate p) (sym (label-home p e)) (IsGame-along leads mate image image_keeps q p (value_of (slice_index cells (index p))) r at))
@@ -109,14 +109,14 @@ module _ {P : Type 0} {leads : P → P → Type 0} {mate : P → Type 0} {known 
           let at = subst (λ (o : Option P). IsGivenCell leads mate Labels o (slice_index cells (index p))) s h in
           let d = laws.decoded (index p) q s in
           inr (
-            subst (Gives leads mate Labels p) (sym (label-home p e))
+            subst (GivesValue leads mate Labels p) (sym (label-home p e))
                 (Gives-along leads mate image image_keeps known Labels (same_label outer) q p
                 (value_of (slice_index cells (index p))) (λ q' l. laws.closed q q' d.0 d.1 l)
                 (λ q' l. laws.closed p q' k e l) r at),
             λ q' l. laws.closed p q' k e l,
           )
 
-      known_each : (p : P) → known p → IsGame leads mate p (Labels p) ⊎ Gives leads mate Labels p (Labels p) × ((q : P) → leads p q → known q)
+      known_each : (p : P) → known p → IsGame leads mate p (Labels p) ⊎ GivesValue leads mate Labels p (Labels p) × ((q : P) → leads p q → known q)
       known_each p k = elim (true_or_false (home p)) [
         | inl e ↦ (let m = laws.numbered p k e in from_number p m.0 k e m.1 m.2 (each (index p) (laws.below (index p) m.0 m.1)))
         | inr e ↦ inl (subst (IsGame leads mate p) (sym (label-outside p e)) (outer p k e))

@@ -2,7 +2,7 @@
 use Rattle.std.proofs.Common.{◌≡◌, ℕ, zero, suc, ◌<◌, ◌≤◌, ◌⊎◌, inl, inr, arith, subst, refl, ap}
 use Rattle.study_values.specs.declared.value.Value.{Value}
 use Rattle.study_values.specs.declared.value.Value.TheVariants.{Win, Loss, Draw}
-use Rattle.study_table.specs.Forced.{Mated, Mates, IsGame, HasLoss, HasOnlyWins, HasDraw, Gives, IsRightBelow}
+use Rattle.study_table.specs.Forced.{Mated, Mates, IsGame, HasLoss, HasOnlyWins, HasDraw, GivesValue, IsRightBelow}
 use Rattle.study_values.specs.Cells.{distance_of}
 
 at_most_suc : (n m : ℕ) → n ≤ suc m → (n ≤ m) ⊎ (n ≡ suc m)
@@ -124,7 +124,7 @@ module _ {P : Type 0} (leads : P → P → Type 0) (mate : P → Type 0) (stuck 
         stale unmated none (suc m) (inl y) = unmated y
         stale unmated none (suc m) (inr y) = none y.0.0 y.0.1
 
-    pub Gives-below : (w : Value) → Gives leads mate labels p w → IsRightBelow leads mate (suc k) p w
+    pub Gives-below : (w : Value) → GivesValue leads mate labels p w → IsRightBelow leads mate (suc k) p w
     Gives-below (Win zero) g = absurd g
     Gives-below (Win (suc n)) g = record {
       wins = λ m b x. (suc n, refl, wins_by n g m b x);
@@ -205,7 +205,7 @@ module _ {P : Type 0} (leads : P → P → Type 0) (mate : P → Type 0) (stuck 
 
   -- the value that right labels give is right
   pub IsGame-Gives : (labels : P → Value) (p : P) (w : Value)
-      → ((q : P) → leads p q → IsGame leads mate q (labels q)) → Gives leads mate labels p w → IsGame leads mate p w
+      → ((q : P) → leads p q → IsGame leads mate q (labels q)) → GivesValue leads mate labels p w → IsGame leads mate p w
   IsGame-Gives labels p w after g =
       IsGame-from_below p w
       (λ k. below-less (suc k) k p w (omega arith)
@@ -213,7 +213,7 @@ module _ {P : Type 0} (leads : P → P → Type 0) (mate : P → Type 0) (stuck 
 
   -- labels are right on a set of positions if each is right, or is the value that the labels after its moves give
   module _ (inside : P → Type 0) (labels : P → Value)
-      (each : (p : P) → inside p → IsGame leads mate p (labels p) ⊎ Gives leads mate labels p (labels p) × ((q : P) → leads p q → inside q)) where
+      (each : (p : P) → inside p → IsGame leads mate p (labels p) ⊎ GivesValue leads mate labels p (labels p) × ((q : P) → leads p q → inside q)) where
     pub settled-below : (k : ℕ) (p : P) → inside p → IsRightBelow leads mate k p (labels p)
     settled-below zero p i = record {
       wins = λ m b x. absurd (omega arith);

@@ -3,7 +3,7 @@ use Rattle.std.proofs.Common.{◌≡◌, ◌≢◌, ℕ, zero, suc, ◌-◌, ◌
 use Rattle.std.proofs.Common.{refl, arith, List, slice_index, Option, Some, None, Bool, true}
 use Rattle.study_values.specs.declared.value.Value.{Value}
 use Rattle.study_values.specs.declared.value.Value.TheVariants.{Win, Loss, Draw}
-use Rattle.study_table.specs.Forced.{IsGame, Gives, IsRightBelow}
+use Rattle.study_table.specs.Forced.{IsGame, GivesValue, IsRightBelow}
 use Rattle.study_values.specs.Cells.{distance_of, value_of, label_of}
 use Rattle.study_table.specs.Right.{IsRightCell, IsRightOutside, IsOtherCell, IsRightBelowCell, AreRightBelow, AreNear, HasFar}
 use Rattle.study_table.specs.Class.{IsClass}
@@ -25,7 +25,7 @@ distance-byte c h = elim (zero_or_not c) [
 module _ {P : Type 0} (leads : P → P → Type 0) (mate : P → Type 0) where
   -- a value from labels of small distances has at most one ply more
   Gives-distance : (labels : P → Value) (p : P) (b : ℕ) → ((q : P) → leads p q → distance_of (labels q) < b)
-      → (w : Value) → Gives leads mate labels p w → distance_of w ≤ b
+      → (w : Value) → GivesValue leads mate labels p w → distance_of w ≤ b
   Gives-distance labels p b near (Win zero) g = omega arith
   Gives-distance labels p b near (Win (suc n)) g = let h = near g.to g.move in let e : distance_of (labels g.to) ≡ n = ap distance_of g.is in omega arith
   Gives-distance labels p b near (Loss zero) g = omega arith
@@ -66,7 +66,7 @@ module _ {P : Type 0} {leads : P → P → Type 0} {mate : P → Type 0} {known 
 
   -- and give values that are right below one more
   pub given-below : (k : ℕ) → AreRightBelow leads mate k position size cells → (p : P) (v : Value) → known p
-      → home p ≡ true → Gives leads mate Labels p v → IsRightBelow leads mate (suc k) p v
+      → home p ≡ true → GivesValue leads mate Labels p v → IsRightBelow leads mate (suc k) p v
   given-below k right p v kn e g = Gives-below leads mate laws.stuck Labels k p (λ q l. labels-below k right q (laws.closed p q kn e l)) v g
 
   -- a cell that has a mate in fewer than k plies is right
@@ -80,7 +80,7 @@ module _ {P : Type 0} {leads : P → P → Type 0} {mate : P → Type 0} {known 
 
   -- if a far value is given at a cell of 0, the position is mate in that many plies
   pub far-witness : (k : ℕ) → AreRightBelow leads mate k position size cells → (p : P) (v : Value) → known p
-      → home p ≡ true → Gives leads mate Labels p v → v ≢ Draw → distance_of v ≤ k → IsGame leads mate p v
+      → home p ≡ true → GivesValue leads mate Labels p v → v ≢ Draw → distance_of v ≤ k → IsGame leads mate p v
   far-witness k right p v kn e g mated near = IsGame-from_near leads mate laws.stuck (suc k) p v mated (omega arith) (given-below k right p v kn e g)
 
   labels-near : (p : P) → known p → distance_of (Labels p) < 255 ⊎ (home p ≡ true)
@@ -128,7 +128,7 @@ module _ {P : Type 0} {leads : P → P → Type 0} {mate : P → Type 0} {known 
         ]
   ]
     where
-      from_zero : (p : P) (w : Value) → known p → home p ≡ true → Gives leads mate Labels p w → w ≢ Draw
+      from_zero : (p : P) (w : Value) → known p → home p ≡ true → GivesValue leads mate Labels p w → w ≢ Draw
           → distance_of w ≤ 255 → IsRightBelow leads mate 255 p Draw → HasFar leads mate known home
       from_zero p w kn e g mated near is =
           let game = far-witness 255 right p w kn e g mated near in

@@ -55,12 +55,12 @@ pub record HasDraw {P : Type 0} (leads : P → P → Type 0) (mate : P → Type 
   pub holds : ((q : P) × leads p q × (labels q ≡ Draw)) ⊎ ((mate p → ⊥) × ((q : P) → leads p q → ⊥))
 
 -- v is the value of p, from the labels of the positions after p's moves
-abbrev pub Gives : {P : Type 0} → (P → P → Type 0) → (P → Type 0) → (P → Value) → P → Value → Type 0
-Gives leads mate labels p (Win zero) = ⊥
-Gives leads mate labels p (Win (suc n)) = HasLoss leads labels p n
-Gives leads mate labels p (Loss zero) = mate p
-Gives leads mate labels p (Loss (suc n)) = HasOnlyWins leads labels p n
-Gives leads mate labels p Draw = HasDraw leads mate labels p
+abbrev pub GivesValue : {P : Type 0} → (P → P → Type 0) → (P → Type 0) → (P → Value) → P → Value → Type 0
+GivesValue leads mate labels p (Win zero) = ⊥
+GivesValue leads mate labels p (Win (suc n)) = HasLoss leads labels p n
+GivesValue leads mate labels p (Loss zero) = mate p
+GivesValue leads mate labels p (Loss (suc n)) = HasOnlyWins leads labels p n
+GivesValue leads mate labels p Draw = HasDraw leads mate labels p
 
 -- v is right about every forced mate in fewer than k plies
 pub record IsRightBelow {P : Type 0} (leads : P → P → Type 0) (mate : P → Type 0) (k : ℕ) (p : P) (v : Value) : Type 0 where
@@ -75,4 +75,4 @@ LeadsBy {P} {M} legal after p q = (m : M) × legal p m × (after p m ≡ q)
 
 -- v is the value of p, from the moves that leave the class alone
 abbrev pub GivesOutside : {P : Type 0} → (P → P → Type 0) → (P → Bool) → (P → Value) → P → Value → Type 0
-GivesOutside leads home labels p v = Gives (λ a b. leads a b × (home b ≡ false)) (λ a. ⊥) labels p v
+GivesOutside leads home labels p v = GivesValue (λ a b. leads a b × (home b ≡ false)) (λ a. ⊥) labels p v

@@ -1,6 +1,6 @@
 -- Not part of any public contract: when the cells of such a game are right.
 use Rattle.std.specs.Prelude.{◌≡◌, ◌≢◌, ℕ, ◌<◌, ◌≤◌, List, slice_index, Option, Some, None, Bool, true, false}
-use Rattle.study_table.specs.Forced.{IsGame, Gives, IsRightBelow}
+use Rattle.study_table.specs.Forced.{IsGame, GivesValue, IsRightBelow}
 use Rattle.study_values.specs.Cells.{distance_of, value_of}
 use Rattle.study_values.specs.declared.value.Value.{Value}
 
@@ -20,12 +20,12 @@ IsRightOutside {P} leads mate known home outside = (p : P) → known p → home 
 -- a cell encodes the value that the labels after its position's moves give
 abbrev pub IsGivenCell : {P : Type 0} → (P → P → Type 0) → (P → Type 0) → (P → Value) → Option P → ℕ → Type 0
 IsGivenCell leads mate labels None cell = cell ≡ 0
-IsGivenCell leads mate labels (Some p) cell = Gives leads mate labels p (value_of cell)
+IsGivenCell leads mate labels (Some p) cell = GivesValue leads mate labels p (value_of cell)
 
 -- a cell encodes another value than the labels after its position's moves give
 abbrev pub IsOtherCell : {P : Type 0} → (P → P → Type 0) → (P → Type 0) → (P → Value) → Option P → ℕ → Type 0
 IsOtherCell leads mate labels None cell = cell ≢ 0
-IsOtherCell leads mate labels (Some p) cell = (v : Value) × Gives leads mate labels p v × (v ≢ value_of cell)
+IsOtherCell leads mate labels (Some p) cell = (v : Value) × GivesValue leads mate labels p v × (v ≢ value_of cell)
 
 -- a cell is not wrong about mates in fewer than k plies
 abbrev pub IsRightBelowCell : {P : Type 0} → (P → P → Type 0) → (P → Type 0) → ℕ → Option P → ℕ → Type 0

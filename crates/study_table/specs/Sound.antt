@@ -26,11 +26,11 @@ pub record NeedsAreRight (held : List (Option Table)) (c : Class) : Type 0 where
   pub right : (d : Class) (t : Table) → Contains (needs_of c) d → table_of held d ≡ Some t → IsRight t
 
 -- a valid position of the class whose distance to mate is above 254 plies
-pub record IsFar (c : Class) (p : Position) (v : Value) : Type 0 where
+pub record IsBeyondMaxDistance (c : Class) (p : Position) (v : Value) : Type 0 where
   pub valid : IsValid p
   pub of_class : IsOf c p
   pub value : IsValueOf p v
   pub far : 254 < distance_of v
 
 abbrev pub HasFarPosition : Class → Type 0
-HasFarPosition c = (p : Position) × ((v : Value) × IsFar c p v)
+HasFarPosition c = (p : Position) × ((v : Value) × IsBeyondMaxDistance c p v)

@@ -10,7 +10,7 @@ use Rattle.study_material.specs.declared.class.Class.{Class}
 use Rattle.study_material.specs.Class.{class_list}
 use Rattle.study_values.specs.declared.fault.FileFault.{FileFault}
 use Rattle.study_values.specs.declared.fault.FileFault.TheVariants.{PageDamaged}
-use Rattle.study_tablefile.specs.File.{class_field, is_known_version, fields_text, page_digest}
+use Rattle.study_tablefile.specs.Format.{class_field, is_known_version, fields_text, page_digest}
 use Rattle.study_tablefile.specs.Reading.{class_named, version_of, class_read, page_fault, pages_read, table_behind, table_read, unless, IsShort}
 
 -- ---- lists

@@ -2,7 +2,7 @@
 use Rattle.std.proofs.Common.{◌≡◌, ℕ, inl, inr, ◌-◌, ◌≤◌, min, List, ◌++◌, length, take, drop, replicate, refl, sym, ap, ◌∙◌, arith}
 use Rattle.std.proofs.lemmas.List.{take_all, drop_all, length-take-le, drop-replicate}
 use Rattle.std.proofs.lemmas.Bool.{cases_lt}
-use Rattle.study_tablefile.specs.File.{page_cells_of}
+use Rattle.study_tablefile.specs.Format.{page_cells_of}
 
 pub padded_front : (xs : List ℕ) → length xs ≤ 4096 → xs ++ drop (length xs) (replicate 4096 0) ≡ page_cells_of xs
 unfolding page_cells_of

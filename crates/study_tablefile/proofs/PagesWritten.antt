@@ -5,7 +5,7 @@ use Rattle.study_material.specs.declared.class.Class.{Class}
 use Rattle.study_table.specs.Table.{Table}
 use Rattle.study_values.specs.Number.{cells_of}
 use Rattle.study_text.specs.Taken.{TakesPrefix}
-use Rattle.study_tablefile.specs.File.{written_version, fields_text, header_text, page_cells_of, page_text, pages_text, table_text}
+use Rattle.study_tablefile.specs.Format.{written_version, fields_text, header_text, page_cells_of, page_text, pages_text, table_text}
 use Rattle.study_values.specs.Size.{pages_of}
 use Rattle.study_text.proofs.TextTaken.{Wrote, Wrote-first, Wrote-cut, Wrote-all, Wrote-stops_at, stops_first}
 use Rattle.study_values.proofs.ClassBounds.{pages_hold, pages_full, few_pages}

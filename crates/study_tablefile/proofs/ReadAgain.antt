@@ -20,12 +20,12 @@ use Rattle.study_material.specs.Class.{name_of}
 use Rattle.study_values.specs.Number.{cells_of}
 use Rattle.study_table.specs.Table.{Table, IsComplete}
 use Rattle.study_values.specs.declared.fault.FileFault.{FileFault}
-use Rattle.study_tablefile.specs.File.{class_field, is_version, is_known_version, IsVersionOf, fields_text, header_text}
-use Rattle.study_tablefile.specs.File.{page_cells_of, page_digest, page_text, pages_text, table_text}
+use Rattle.study_tablefile.specs.Format.{class_field, is_version, is_known_version, IsVersionOf, fields_text, header_text}
+use Rattle.study_tablefile.specs.Format.{page_cells_of, page_digest, page_text, pages_text, table_text}
 use Rattle.study_values.specs.Size.{pages_of}
 use Rattle.study_tablefile.specs.Reading.{class_named, class_checked, version_of, class_read, page_fault, pages_read, table_end, table_read, unless}
 use Rattle.study_values.specs.declared.fault.SourceFault.{SourceFault}
-use Rattle.study_tablefile.specs.Source.{is_whole_page, page_of, IsAnswerOf, of_page}
+use Rattle.study_tablefile.specs.PageSource.{is_whole_page, page_of, IsAnswerOf, of_page}
 use Rattle.study_values.proofs.ClassBounds.{pages_hold, pages_full}
 use Rattle.study_tablefile.proofs.BytesGiven.{long_enough, page_told}
 

@@ -14,8 +14,8 @@ use Rattle.study_values.specs.Number.{cells_of}
 use Rattle.study_table.specs.Table.{Table, IsComplete}
 use Rattle.study_values.specs.declared.fault.FileFault.{FileFault}
 use Rattle.study_values.specs.declared.fault.FileFault.TheVariants.{Cut, NotATable, Version, HeaderDamaged, PageDamaged, Padding, TrailingBytes}
-use Rattle.study_tablefile.specs.File.{is_version, IsVersionOf, fields_text, header_text, page_cells_of}
-use Rattle.study_tablefile.specs.File.{page_digest, page_text, pages_text, table_text}
+use Rattle.study_tablefile.specs.Format.{is_version, IsVersionOf, fields_text, header_text, page_cells_of}
+use Rattle.study_tablefile.specs.Format.{page_digest, page_text, pages_text, table_text}
 use Rattle.study_values.specs.Size.{pages_of}
 use Rattle.study_tablefile.specs.Reading.{class_named, class_checked, version_of, class_read, page_fault}
 use Rattle.study_tablefile.specs.Reading.{pages_read, table_behind, table_end, table_read, unless}

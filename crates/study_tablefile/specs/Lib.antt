@@ -1,3 +1,3 @@
-pub mod File
+pub mod Format
 pub mod Reading
-pub mod Source
+pub mod PageSource

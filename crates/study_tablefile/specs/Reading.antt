@@ -12,7 +12,7 @@ use Rattle.study_values.specs.declared.fault.FileFault.{FileFault}
 use Rattle.study_values.specs.declared.fault.FileFault.TheVariants.{Cut, NotATable, Version, ClassUnknown}
 use Rattle.study_values.specs.declared.fault.FileFault.TheVariants.{HeaderDamaged, PageDamaged, Padding}
 use Rattle.study_values.specs.declared.fault.FileFault.TheVariants.{TrailingBytes, OutOfMemory, Device}
-use Rattle.study_tablefile.specs.File.{class_field, is_version, is_known_version, fields_text, page_digest}
+use Rattle.study_tablefile.specs.Format.{class_field, is_version, is_known_version, fields_text, page_digest}
 use Rattle.study_values.specs.Size.{pages_of}
 
 -- the class whose name is in the 8 bytes, among the classes of files of the version

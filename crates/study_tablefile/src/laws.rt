@@ -2,9 +2,9 @@
 ghost use Rattle.std.specs.Prelude.{◌≡◌, ◌<◌, ℕ, List, true, Ok, All};
 ghost use Rattle.study_values.specs.Number.{cells_of};
 ghost use Rattle.study_table.specs.Table.{Table as Seen, IsComplete};
-ghost use Rattle.study_tablefile.specs.File.{IsVersionOf, fields_text, table_text};
+ghost use Rattle.study_tablefile.specs.Format.{IsVersionOf, fields_text, table_text};
 ghost use Rattle.study_tablefile.specs.Reading.{table_read};
-ghost use Rattle.study_tablefile.specs.Source.{is_whole_page, page_of};
+ghost use Rattle.study_tablefile.specs.PageSource.{is_whole_page, page_of};
 
 /// `read_table` reads the text of a table, in each version that its files can have, as that table.
 pub fn tables_are_read_again()

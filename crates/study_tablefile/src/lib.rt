@@ -5,15 +5,15 @@
 //! else is read as a table. `PageSource` returns a file page by page; `MemorySource` is a source in memory, which fails at a request that a test sets.
 #![tactic(auto)]
 
+mod format;
 mod laws;
 mod memory_source;
-mod reading;
-mod source;
-mod text;
+mod page_source;
+mod reader;
 
+pub use format::{file_bytes, write_table};
 pub use laws::{only_texts_are_read, pages_are_whole, tables_are_read_again};
 pub use memory_source::MemorySource;
-pub use reading::read_table;
-pub use source::{Header, PageSource, page_cells, read_header};
+pub use page_source::{Header, PageSource, page_cells, read_header};
+pub use reader::read_table;
 pub use study_values::{FileFault, HEADER_BYTES, PAGE_BYTES, PAGE_CELLS, SourceFault};
-pub use text::{file_bytes, write_table};

@@ -3,12 +3,12 @@ ghost use Rattle.std.specs.Prelude.{◌≡◌, ℕ, ◌<◌, ◌↔◌, Some, Ok
 ghost use Rattle.std.specs.Prelude.{drop, ◌≤◌, IsErrOf, IfErr};
 ghost use Rattle.std.specs.Prelude.{OnOk, OnErr, ◌≢◌, ◌+◌, ◌-◌, ◌*◌};
 ghost use Rattle.study_text.specs.Counts.{counted};
-ghost use Rattle.study_tablefile.specs.Source.{page_of, IsAnswerOf, of_header, of_page};
-ghost use Rattle.study_tablefile.specs.File.{header_text, table_text};
+ghost use Rattle.study_tablefile.specs.PageSource.{page_of, IsAnswerOf, of_header, of_page};
+ghost use Rattle.study_tablefile.specs.Format.{header_text, table_text};
 ghost use Rattle.study_values.specs.Size.{pages_of};
 ghost use Rattle.study_table.specs.Table.{Table as Seen};
 
-use crate::source::PageSource;
+use crate::page_source::PageSource;
 use study_values::{HEADER_BYTES, PAGE_BYTES, SourceFault};
 
 /// The pages of a text in memory, which fail at a request that a test sets.

@@ -9,12 +9,12 @@ use study_moves::Move;
 
 /// A borrowed node, and all nodes below it, seen as a tree of its own.
 #[derive(Drop)]
-pub struct Branch<'t, 'a, L, A: Allocator> {
+pub struct Subtree<'t, 'a, L, A: Allocator> {
     pub(crate) label: &'t L,
     pub(crate) children: &'t [Node<'a, L, A>],
 }
 
-impl<'t, 'a, L, A: Allocator> Model for Branch<'t, 'a, L, A> {
+impl<'t, 'a, L, A: Allocator> Model for Subtree<'t, 'a, L, A> {
     ghost use Rattle.std.specs.Prelude.{◌<◌};
     ghost use Rattle.study_tree.specs.Forest.{forest_of, nodes_in};
     ghost use Rattle.study_tree.specs.Edits.{plain};
@@ -34,10 +34,10 @@ impl<'t, 'a, L, A: Allocator> Model for Branch<'t, 'a, L, A> {
 #[derive(Drop)]
 pub struct Child<'t, 'a, L, A: Allocator> {
     pub played: Move,
-    pub node: Branch<'t, 'a, L, A>,
+    pub node: Subtree<'t, 'a, L, A>,
 }
 
-impl<'t, 'a, L, A: Allocator> Branch<'t, 'a, L, A> {
+impl<'t, 'a, L, A: Allocator> Subtree<'t, 'a, L, A> {
     /// The node's label.
     pub fn label(&self) -> &'t L
         ensures { result.now ≡ self.now.label }
@@ -61,7 +61,7 @@ impl<'t, 'a, L, A: Allocator> Branch<'t, 'a, L, A> {
             None => None,
             Some(node) => Some(Child {
                 played: node.played,
-                node: Branch {
+                node: Subtree {
                     label: &node.label,
                     children: &node.children,
                 },

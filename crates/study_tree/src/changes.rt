@@ -37,7 +37,7 @@ pub trait Rewriting<L> {
 }
 
 /// Changes the labels along the path, from these siblings, which are at this depth: the label of the one at place `first`, and then along the rest.
-pub fn change_below<'a, L, A: Allocator, C: LabelChange<L>>(
+pub fn update_below<'a, L, A: Allocator, C: LabelChange<L>>(
     children: &mut Vec<Node<'a, L, A>, &'a A>,
     depth: usize,
     first: u16,
@@ -52,7 +52,7 @@ pub fn change_below<'a, L, A: Allocator, C: LabelChange<L>>(
     let child = &mut children[first as usize];
     change.change(depth, &mut child.label);
     if let Some((next, rest)) = rest.split_first() {
-        change_below(&mut child.children, depth + 1, *next, rest, change);
+        update_below(&mut child.children, depth + 1, *next, rest, change);
     }
 }
 

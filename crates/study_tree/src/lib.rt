@@ -11,7 +11,7 @@ mod node;
 mod path;
 mod tree;
 
-pub use branch::{Branch, Child};
+pub use branch::{Child, Subtree};
 pub use changes::{LabelChange, Rewriting};
 pub use fault::TreeFault;
 pub use laws::{edits_in_rows, nodes_in_rows, places_are_shown, rows_are_written};

@@ -8,8 +8,8 @@ ghost use Rattle.study_tree.specs.Tree.{with_child, with_label, without, moved_u
 ghost use Rattle.study_tree.specs.Changes.{counted_by, with_changes, rewritten_tree};
 ghost use Rattle.study_tree.specs.Tree.{removal_refusal, move_up_refusal, label_refusal};
 
-use crate::branch::Branch;
-use crate::changes::{LabelChange, Rewriting, change_below, rewrite_below};
+use crate::branch::Subtree;
+use crate::changes::{LabelChange, Rewriting, rewrite_below, update_below};
 use crate::fault::TreeFault;
 use crate::node::{
     Node, add_below, count_in, move_up_below, node_in, relabel_below, remove_below, reserve_below,
@@ -128,10 +128,10 @@ impl<'a, L, A: Allocator> Tree<'a, L, A> {
     }
 
     /// The root, from which all nodes can be reached child by child.
-    pub fn root(&self) -> Branch<'_, 'a, L, A>
+    pub fn root(&self) -> Subtree<'_, 'a, L, A>
         ensures { result ≡ plain_tree self.now }
     {
-        Branch {
+        Subtree {
             label: &self.label,
             children: &self.children,
         }
@@ -224,7 +224,7 @@ impl<'a, L: Drop, A: Allocator> Tree<'a, L, A> {
         }
         change.change(0, &mut self.label);
         if let Some((first, rest)) = steps.split_first() {
-            change_below(&mut self.children, 1, *first, rest, change);
+            update_below(&mut self.children, 1, *first, rest, change);
         }
         self.relabelled = self.relabelled.saturating_add(steps.len() as u64 + 1);
         Ok(())

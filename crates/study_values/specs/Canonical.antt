@@ -6,7 +6,7 @@ use Rattle.study_board.specs.declared.symmetry.Symmetry.{Symmetry}
 use Rattle.study_board.specs.Geometry.{file_of, rank_of}
 use Rattle.study_board.specs.Symmetry.{turned_square, turned_man}
 use Rattle.study_board.specs.Images.{differ}
-use Rattle.study_values.specs.Filling.{man_slot_number}
+use Rattle.study_values.specs.Slots.{man_slot_number}
 use Rattle.study_values.specs.Number.{number}
 
 -- the symmetry that brings a square to a listed one, if there is one
@@ -49,9 +49,9 @@ least_by pawns to_move t men =
     else turned_number pawns to_move t men
 
 -- the least number by the symmetries that bring the first man, the white king, to a listed square
-unfoldable pub least_of : Bool → Side → Bool → List Man → Option ℕ
-least_of pawns to_move colours [] = None
-least_of pawns to_move colours (k ∷ rest) =
+unfoldable pub canonical_number : Bool → Side → Bool → List Man → Option ℕ
+canonical_number pawns to_move colours [] = None
+canonical_number pawns to_move colours (k ∷ rest) =
     if pawns then least_by pawns to_move (canonical_symmetry pawns false colours k.at) (k ∷ rest)
     else least (least_by pawns to_move (canonical_symmetry pawns false colours k.at) (k ∷ rest))
     (least_by pawns to_move (canonical_symmetry pawns true colours k.at) (k ∷ rest))

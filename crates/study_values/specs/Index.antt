@@ -5,9 +5,9 @@ use Rattle.study_board.specs.Position.{Position}
 use Rattle.study_board.specs.Symmetry.{turned_side}
 use Rattle.study_moves.specs.EnPassant.{has_legal_en_passant}
 use Rattle.study_material.specs.Lists.{is_swapped}
-use Rattle.study_values.specs.Filling.{man_slot_number}
+use Rattle.study_values.specs.Slots.{man_slot_number}
 use Rattle.study_values.specs.Number.{has_pawn, with_bit}
-use Rattle.study_values.specs.Canonical.{least_of}
+use Rattle.study_values.specs.Canonical.{canonical_number}
 
 -- a man inserted after those of no later slot
 unfoldable pub put : Bool → Man → List Man → List Man
@@ -21,7 +21,7 @@ sorted c (m ∷ ms) = put c m (sorted c ms)
 
 -- the least number of a valid position
 unfoldable pub least_number : Position → ℕ
-least_number p = unwrap_or (least_of (has_pawn p.men) (turned_side (is_swapped p.men) p.to_move) (is_swapped p.men) (sorted (is_swapped p.men) p.men)) 0
+least_number p = unwrap_or (canonical_number (has_pawn p.men) (turned_side (is_swapped p.men) p.to_move) (is_swapped p.men) (sorted (is_swapped p.men) p.men)) 0
 
 -- the index of a valid position
 unfoldable pub index_of : Position → ℕ

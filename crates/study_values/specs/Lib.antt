@@ -1,4 +1,4 @@
-pub mod Filling
+pub mod Slots
 pub mod Number
 pub mod Canonical
 pub mod Index

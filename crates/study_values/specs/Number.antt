@@ -17,7 +17,7 @@ use Rattle.study_material.specs.declared.class.Class.{Class}
 use Rattle.study_moves.specs.EnPassant.{has_legal_en_passant}
 use Rattle.study_material.specs.Lists.{Lists, is_swapped}
 use Rattle.study_material.specs.Class.{lists_of}
-use Rattle.study_values.specs.Filling.{IsFilling}
+use Rattle.study_values.specs.Slots.{IsFilling}
 
 abbrev pub has_pawn : List Man → Bool
 has_pawn men = list_any is_pawn men
@@ -34,9 +34,9 @@ place false s =
     if nat_lt (file_of s) 4 && not (nat_lt (file_of s) (rank_of s)) then Some (places_before (rank_of s) + file_of s) else None
 
 -- the number of listed squares
-abbrev pub listed_count : Bool → ℕ
-listed_count true = 32
-listed_count false = 10
+abbrev pub king_places : Bool → ℕ
+king_places true = 32
+king_places false = 10
 
 abbrev pub side_number : Side → ℕ
 side_number White = 0
@@ -51,7 +51,7 @@ append_squares n (x ∷ xs) = append_squares (n * 64 + x.at) xs
 unfoldable pub number : Bool → Side → List Man → Option ℕ
 number pawns to_move [] = None
 number pawns to_move (k ∷ rest) =
-    option_map (λ q. append_squares (side_number to_move * listed_count pawns + q) rest) (place pawns k.at)
+    option_map (λ q. append_squares (side_number to_move * king_places pawns + q) rest) (place pawns k.at)
 
 -- a number of the position: the number of a filling with the men of an image, the colours swapped if the class requires it
 pub record IsNumber (p : Position) (n : ℕ) : Type 0 where
@@ -96,7 +96,7 @@ has_both_pawns l = kinds_have_pawn l.white && kinds_have_pawn l.black
 
 -- two sides to move, the white king's places, 64 squares for each further man
 abbrev pub numbers_of : Class → ℕ
-numbers_of c = 2 * listed_count (class_has_pawn c) * 64 ^ (1 + length (lists_of c).white + length (lists_of c).black)
+numbers_of c = 2 * king_places (class_has_pawn c) * 64 ^ (1 + length (lists_of c).white + length (lists_of c).black)
 
 -- the number of cells in the table of a class: its numbers, twice as many if the bit can be set
 abbrev pub cells_of : Class → ℕ

@@ -12,8 +12,8 @@ use Rattle.study_values.specs.declared.values.ProbeFault.{ProbeFault}
 use Rattle.study_values.specs.declared.values.ProbeFault.TheVariants as probe
 use Rattle.study_marks.specs.Answers.{Answers, WereTold, IsFirstFault}
 use Rattle.study_marks.proofs.FaultsTold.{told-append}
-use Rattle.study_marks.specs.Told.{IsUntold, failures_told}
-use Rattle.study_facts.specs.Continuations.{others}
+use Rattle.study_marks.specs.Evaluated.{IsProbeFaultOf, failures_of}
+use Rattle.study_facts.specs.Continuations.{moves_except}
 use Rattle.study_text.specs.Counts.{counted}
 use Rattle.study_material.specs.Class.{IsOf}
 use Rattle.study_facts.proofs.Asking.{of-told, of-fault, all-then, stops-then, none-asked}
@@ -30,10 +30,10 @@ all-kept [] = refl
 all-kept (m ∷ ms) = ap (λ (l : List Move). m ∷ l) (all-kept ms)
 
 -- without any removed, all legal moves are left
-pub others-of-none : (p : Position) → others [] p ≡ legal_list p
+pub others-of-none : (p : Position) → moves_except [] p ≡ legal_list p
 others-of-none p = all-kept (legal_list p)
 
-same-faults : (n : ℕ) (r : ProbeAnswer) → faults_after n r ≡ failures_told r n
+same-faults : (n : ℕ) (r : ProbeAnswer) → faults_after n r ≡ failures_of r n
 same-faults n (Ok v) = refl
 same-faults n (Err (probe.NoTable c)) = refl
 same-faults n (Err (probe.TableRead f)) = refl
@@ -49,8 +49,8 @@ module _ {V : Type 0} (held : V → Class → Bool) (gives : V → Position → 
   pub told-each : {T : Type 0} (p : Position) (asked : List Position) → EachReached p asked → (old new : V) (r : Result T ProbeFault)
       → OnOk r (WereTold gives may_fail asked_of old asked new)
       → IfErr r (λ f. IsFirstFault gives may_fail asked_of old asked f new)
-      → IfErr r (IsUntold (held old) asked) → (is_honest old → IfErr r IsNotDamage)
-      → failed_of new ≡ failures_told r (failed_of old) → (is_honest old → is_honest new)
+      → IfErr r (IsProbeFaultOf (held old) asked) → (is_honest old → IfErr r IsNotDamage)
+      → failed_of new ≡ failures_of r (failed_of old) → (is_honest old → is_honest new)
       → ((c : Class) → held new c ≡ held old c) → HasToldEach held gives may_fail asked_of failed_of is_honest {T = T} p asked old r new
   told-each p asked reached old new (Ok x) t f u d n i s = record {
     each = ([], subst (λ (qs : List Position). WereTold gives may_fail asked_of old qs new) (sym (append-nil asked)) t);

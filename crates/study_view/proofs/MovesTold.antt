@@ -18,14 +18,14 @@ use Rattle.study_marks.specs.Goals.{aim_of, hero_moves, holds}
 use Rattle.study_marks.specs.Marks.{mark_of, move_mark, own_faults}
 use Rattle.study_marks.specs.Study.{Study, position_at}
 use Rattle.study_marks.specs.Trial.{IsMarkOf}
-use Rattle.study_facts.specs.declared.continuation.Continuation.{Continuation}
-use Rattle.study_facts.specs.Continuations.{chosen, AreChosen}
+use Rattle.study_facts.specs.declared.continuation.EvaluatedMove.{EvaluatedMove}
+use Rattle.study_facts.specs.Continuations.{wanted_moves, AreChosen}
 use Rattle.study_facts.specs.Nodes.{value_of_spot, value_at}
 use Rattle.study_view.specs.Marking.{holding_count, told_line}
 use Rattle.study_view.specs.View.{start_to, AreMoveLines}
 
-abbrev pub all_chosen : List Move → List Value → List Continuation
-all_chosen ms vs = chosen (λ v. true) ms vs
+abbrev pub all_chosen : List Move → List Value → List EvaluatedMove
+all_chosen ms vs = wanted_moves (λ v. true) ms vs
 
 one-count : (b : Bool) (n : ℕ) → (if b then 1 else 0) + n ≡ cond b (1 + n) n
 one-count true n = refl
@@ -79,7 +79,7 @@ module _ (s : Study Mark) (path : List ℕ) (all : List Value)
         tt,
       )
 
-  abbrev line_of : Continuation → List ℕ
+  abbrev line_of : EvaluatedMove → List ℕ
   line_of x = told_line (aim_of s) (length path) (start_to s path) (value_at s path) holders x
 
   each-told : (ms : List Move) (vs : List Value) → AreValuesAfter (position_at s path) ms vs
@@ -90,7 +90,7 @@ module _ (s : Study Mark) (path : List ℕ) (all : List Value)
   each-told (m ∷ ms) (v ∷ vs) g = (new_mark v, flat_map line_of (all_chosen ms vs), one-told m v g.0, each-told ms vs g.1, refl)
 
 -- the written lines are those of the moves
-pub moves-told : (s : Study Mark) (path : List ℕ) (a : Aim) (d : ℕ) (here : Start) (before : Value) (list : List Continuation)
+pub moves-told : (s : Study Mark) (path : List ℕ) (a : Aim) (d : ℕ) (here : Start) (before : Value) (list : List EvaluatedMove)
     → a ≡ aim_of s → d ≡ length path → here ≡ start_to s path → before ≡ value_at s path
     → AreChosen (λ v. true) (position_at s path) (legal_list (position_at s path)) list
     → AreMoveLines s path (legal_list (position_at s path)) (flat_map (told_line a d here before (holding_count a d list)) list)

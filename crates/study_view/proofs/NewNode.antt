@@ -14,7 +14,7 @@ use Rattle.study_marks.specs.declared.mark.Mark.{Mark}
 use Rattle.study_marks.specs.declared.mark.MoveMark.{MoveMark}
 use Rattle.study_marks.specs.declared.mark_rules.Aim.{Aim}
 use Rattle.study_marks.specs.Annotated.{IsMoveMark, AreAnnotated, IsAnnotated}
-use Rattle.study_marks.specs.Edits.{inserted}
+use Rattle.study_marks.specs.Edits.{with_insertion}
 use Rattle.study_marks.specs.Goals.{aim_of, hero_moves}
 use Rattle.study_marks.specs.Marks.{own_faults, faults_in}
 use Rattle.study_marks.specs.Study.{Study, mapped, moves_to, position_after, position_at, plain_study}

@@ -12,38 +12,38 @@ use Rattle.study_marks.specs.declared.mark_rules.Aim.{Aim}
 use Rattle.study_marks.specs.declared.stipulation.Stipulation.{Stipulation}
 use Rattle.study_marks.specs.Goals.{holds}
 use Rattle.study_marks.proofs.OneAnnotation.{one-value, one-list}
-use Rattle.study_facts.specs.Continuations.{chosen}
-use Rattle.study_view.specs.declared.squares.Standing.{Standing}
-use Rattle.study_view.specs.declared.squares.Standing.TheVariants.{Impossible, Fails, Holds}
-use Rattle.study_view.specs.declared.squares.Stood.{Stood}
-use Rattle.study_view.specs.Survey.{stood, stood_fault, aim_in, by_moves, other_squares, survey_line, standing_line}
+use Rattle.study_facts.specs.Continuations.{wanted_moves}
+use Rattle.study_view.specs.declared.survey_squares.SquareResult.{SquareResult}
+use Rattle.study_view.specs.declared.survey_squares.SquareResult.TheVariants.{Impossible, Fails, Holds}
+use Rattle.study_view.specs.declared.survey_squares.SurveyedSquare.{SurveyedSquare}
+use Rattle.study_view.specs.Survey.{with_man_moved, fault_of_man_moved, aim_in, result_by_moves, other_squares, survey_line, standing_line}
 use Rattle.study_view.specs.Survey.{IsToldBy, IsTold, IsStanding, AreStandings, SurveysAreUnique}
 
-one-told-by : EachHasAtMostOneValue → (b h : Bool) (a : Aim) (q : Position) (v : Value) (s t : Standing) → IsToldBy b h a q v s → IsToldBy b h a q v t → s ≡ t
+one-told-by : EachHasAtMostOneValue → (b h : Bool) (a : Aim) (q : Position) (v : Value) (s t : SquareResult) → IsToldBy b h a q v s → IsToldBy b h a q v t → s ≡ t
 one-told-by law false h a q v s t i j = i ∙ sym j
 one-told-by law true false a q v s t i j = i ∙ sym j
 one-told-by law true true a q v s t i j =
-    i.2 ∙ ap (by_moves v) (i.1.2 ∙ ap (chosen (holds a (0 + 1)) (legal_list q)) (one-list law q (legal_list q) i.1.0 j.1.0 i.1.1 j.1.1) ∙ sym j.1.2) ∙ sym j.2
+    i.2 ∙ ap (result_by_moves v) (i.1.2 ∙ ap (wanted_moves (holds a (0 + 1)) (legal_list q)) (one-list law q (legal_list q) i.1.0 j.1.0 i.1.1 j.1.1) ∙ sym j.1.2) ∙ sym j.2
 
-one-told : EachHasAtMostOneValue → (st : Stipulation) (q : Position) (s t : Standing) → IsTold st q s → IsTold st q t → s ≡ t
+one-told : EachHasAtMostOneValue → (st : Stipulation) (q : Position) (s t : SquareResult) → IsTold st q s → IsTold st q t → s ≡ t
 one-told law st q s t i j =
     let a = aim_in st q in
     one-told-by law (holds a 0 j.0) a.hero_first a q j.0 s t
     (subst (λ (v : Value). IsToldBy (holds a 0 v) a.hero_first a q v s) (one-value law q i.0 j.0 i.1 j.1) i.2) j.2
 
-one-standing : EachHasAtMostOneValue → (p : Position) (from : ℕ) (st : Stipulation) (x : ℕ) (s t : Standing)
+one-standing : EachHasAtMostOneValue → (p : Position) (from : ℕ) (st : Stipulation) (x : ℕ) (s t : SquareResult)
     → IsStanding p from st x s → IsStanding p from st x t → s ≡ t
-one-standing law p from st x s t i j = go (stood_fault p from x) i j
+one-standing law p from st x s t i j = go (fault_of_man_moved p from x) i j
   where
-    go : (o : Option PositionFault) → MatchOption o (IsTold st (stood p from x) s) (λ fault. s ≡ Impossible)
-        → MatchOption o (IsTold st (stood p from x) t) (λ fault. t ≡ Impossible) → s ≡ t
-    go None h k = one-told law st (stood p from x) s t h k
+    go : (o : Option PositionFault) → MatchOption o (IsTold st (with_man_moved p from x) s) (λ fault. s ≡ Impossible)
+        → MatchOption o (IsTold st (with_man_moved p from x) t) (λ fault. t ≡ Impossible) → s ≡ t
+    go None h k = one-told law st (with_man_moved p from x) s t h k
     go (Some f) h k = h ∙ sym k
 
-stood-is : (x y : Stood) → x.at ≡ y.at → x.standing ≡ y.standing → x ≡ y
+stood-is : (x y : SurveyedSquare) → x.at ≡ y.at → x.standing ≡ y.standing → x ≡ y
 stood-is x y ea es = ap (λ n. record { at = n; standing = x.standing }) ea ∙ ap (λ s. record { at = y.at; standing = s }) es
 
-one-standings : EachHasAtMostOneValue → (p : Position) (from : ℕ) (st : Stipulation) (xs : List ℕ) (ys zs : List Stood)
+one-standings : EachHasAtMostOneValue → (p : Position) (from : ℕ) (st : Stipulation) (xs : List ℕ) (ys zs : List SurveyedSquare)
     → AreStandings p from st xs ys → AreStandings p from st xs zs → ys ≡ zs
 one-standings law p from st [] [] [] i j = refl
 one-standings law p from st [] [] (z ∷ zs) i j = absurd j
@@ -59,6 +59,6 @@ man-once x y o e h = let s : Some x ≡ Some y = sym e ∙ h in cc
 
 pub one-survey : EachHasAtMostOneValue → SurveysAreUnique
 one-survey law p from st t u i j =
-    let lines = λ (list : List Stood). flat_map (standing_line p from) list in
+    let lines = λ (list : List SurveyedSquare). flat_map (standing_line p from) list in
     i.4 ∙ ap (λ man. survey_line man st ++ lines i.1) (man-once i.0 j.0 (man_at p.men from) i.2 j.2)
     ∙ ap (λ list. survey_line j.0 st ++ lines list) (one-standings law p from st (other_squares from) i.1 j.1 i.3 j.3) ∙ sym j.4

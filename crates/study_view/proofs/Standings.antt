@@ -15,15 +15,15 @@ use Rattle.study_material.proofs.KindCounts.{lists-IsPermutation}
 use Rattle.study_facts.proofs.Within.{LeadsTo, needs-own}
 use Rattle.study_board.specs.declared.fault.PositionFault.{PositionFault}
 use Rattle.study_marks.specs.declared.stipulation.Stipulation.{Stipulation}
-use Rattle.study_view.specs.declared.squares.Standing.{Standing}
-use Rattle.study_view.specs.declared.squares.Standing.TheVariants.{Impossible}
-use Rattle.study_view.specs.declared.squares.Stood.{Stood}
+use Rattle.study_view.specs.declared.survey_squares.SquareResult.{SquareResult}
+use Rattle.study_view.specs.declared.survey_squares.SquareResult.TheVariants.{Impossible}
+use Rattle.study_view.specs.declared.survey_squares.SurveyedSquare.{SurveyedSquare}
 use Rattle.study_moves.specs.Rules.{is_legal}
 use Rattle.study_values.specs.declared.value.Value.{Value}
-use Rattle.study_facts.specs.declared.continuation.Continuation.{Continuation}
+use Rattle.study_facts.specs.declared.continuation.EvaluatedMove.{EvaluatedMove}
 use Rattle.study_facts.proofs.Chosen.{all-first}
 use Rattle.study_view.specs.Shown.{IsPlayedIn}
-use Rattle.study_view.specs.Survey.{moved_men, by_moves, stood, stood_fault, squares_but, IsStanding, IsTold, AreStandings}
+use Rattle.study_view.specs.Survey.{moved_men, result_by_moves, with_man_moved, fault_of_man_moved, squares_but, IsStanding, IsTold, AreStandings}
 
 range-step : (n : ℕ) → n < 64 → range_with_len n (64 - n) ≡ n ∷ range_with_len (n + 1) (64 - (n + 1))
 range-step n lt =
@@ -50,32 +50,32 @@ no-square from n h =
     let z : 64 - n ≡ 0 = omega (arith, h) in ap (λ k. squares_but from n k) z
 
 -- more squares are written
-abbrev pub Adds : Position → ℕ → Stipulation → List ℕ → List Stood → List Stood → Type 0
-Adds p from st squares old new = (more : List Stood) × AreStandings p from st squares more × (new ≡ old ++ more)
+abbrev pub Adds : Position → ℕ → Stipulation → List ℕ → List SurveyedSquare → List SurveyedSquare → Type 0
+Adds p from st squares old new = (more : List SurveyedSquare) × AreStandings p from st squares more × (new ≡ old ++ more)
 
-pub adds-none : (p : Position) (from n : ℕ) (st : Stipulation) (list : List Stood) → 64 ≤ n → Adds p from st (squares_but from n (64 - n)) list list
+pub adds-none : (p : Position) (from n : ℕ) (st : Stipulation) (list : List SurveyedSquare) → 64 ≤ n → Adds p from st (squares_but from n (64 - n)) list list
 adds-none p from n st list h = ([], subst (λ (l : List ℕ). AreStandings p from st l []) (sym (no-square from n h)) tt, sym (append-nil list))
 
-pub adds-past : {T E : Type 0} (p : Position) (from n : ℕ) (st : Stipulation) (old new : List Stood) (r : Result T E) → n < 64 → n ≡ from
+pub adds-past : {T E : Type 0} (p : Position) (from n : ℕ) (st : Stipulation) (old new : List SurveyedSquare) (r : Result T E) → n < 64 → n ≡ from
     → OnOk r (Adds p from st (squares_but from (n + 1) (64 - (n + 1))) old new) → OnOk r (Adds p from st (squares_but from n (64 - n)) old new)
 adds-past p from n st old new (Ok x) lt e h = subst (λ (l : List ℕ). Adds p from st l old new) (sym (own-square from n lt e)) h
 adds-past p from n st old new (Err x) lt e h = tt
 
-pub adds-one : {T E : Type 0} (p : Position) (from n : ℕ) (st : Stipulation) (s : Standing) (old mid new : List Stood) (r : Result T E)
+pub adds-one : {T E : Type 0} (p : Position) (from n : ℕ) (st : Stipulation) (s : SquareResult) (old mid new : List SurveyedSquare) (r : Result T E)
     → n < 64 → (n ≡ from → ⊥) → IsStanding p from st n s → mid ≡ old ++ (record { at = n; standing = s }) ∷ []
     → OnOk r (Adds p from st (squares_but from (n + 1) (64 - (n + 1))) mid new) → OnOk r (Adds p from st (squares_but from n (64 - n)) old new)
 adds-one p from n st s old mid new (Ok x) lt e told m h =
     subst (λ (l : List ℕ). Adds p from st l old new) (sym (next-square from n lt e)) (
       (record { at = n; standing = s }) ∷ h.0,
       (refl, told, h.1),
-      h.2 ∙ ap (λ (l : List Stood). l ++ h.0) m ∙ append_assoc old ((record { at = n; standing = s }) ∷ []) h.0,
+      h.2 ∙ ap (λ (l : List SurveyedSquare). l ++ h.0) m ∙ append_assoc old ((record { at = n; standing = s }) ∷ []) h.0,
     )
 adds-one p from n st s old mid new (Err x) lt e told m h = tt
 
 -- the one move that holds is legal
-pub by-legal : (q : Position) (v : Value) (list : List Continuation) → All (λ x. is_legal q x.played ≡ true) list → IsPlayedIn q (by_moves v list)
+pub by-legal : (q : Position) (v : Value) (list : List EvaluatedMove) → All (λ x. is_legal q x.played ≡ true) list → IsPlayedIn q (result_by_moves v list)
 by-legal q v [] h = tt
-by-legal q v (x ∷ []) h = all-first (λ (y : Continuation). is_legal q y.played ≡ true) x (x ∷ []) [] refl h
+by-legal q v (x ∷ []) h = all-first (λ (y : EvaluatedMove). is_legal q y.played ≡ true) x (x ∷ []) [] refl h
 by-legal q v (x ∷ y ∷ l) h = tt
 
 -- ---- the material of the position with a man on another square
@@ -93,12 +93,12 @@ moved-kinds side from to (m ∷ ms) = rw (moved-kind from to m, moved-side from 
 moved-lists : (from to : ℕ) (men : List Man) → lists (moved_men from to men) ≡ lists men
 moved-lists from to men = rw (moved-kinds White from to men, moved-kinds Black from to men) refl
 
-stood-lists : (p : Position) (from to : ℕ) → lists (stood p from to).men ≡ lists p.men
+stood-lists : (p : Position) (from to : ℕ) → lists (with_man_moved p from to).men ≡ lists p.men
 stood-lists p from to =
     lists-IsPermutation (moved_men from to p.men) (in_order (moved_men from to p.men)) (IsPermutation-in_order (moved_men from to p.men)) ∙ moved-lists from to p.men
 
 -- it is of the same class
-pub leads-stood : (p : Position) (from to : ℕ) (q : Position) → IsValid q → q ≡ stood p from to → LeadsTo p q
+pub leads-stood : (p : Position) (from to : ℕ) (q : Position) → IsValid q → q ≡ with_man_moved p from to → LeadsTo p q
 leads-stood p from to q valid e = record {
   valid = λ v. valid;
   reached = λ v c is. needs-own p c (is ∙ ap (λ (l : Lists). ordered l) (ap (λ (r : Position). lists r.men) e ∙ stood-lists p from to));

@@ -27,30 +27,30 @@ use Rattle.study_marks.specs.declared.mark_rules.Aim.{Aim}
 use Rattle.study_marks.specs.Goals.{holds}
 use Rattle.study_marks.specs.Annotated.{AreValuesAfter}
 use Rattle.study_marks.proofs.OneAnnotation.{one-value}
-use Rattle.study_facts.specs.declared.continuation.Continuation.{Continuation}
-use Rattle.study_facts.specs.Continuations.{chosen, AreHoldingMoves}
-use Rattle.study_view.specs.declared.squares.Standing.{Standing}
-use Rattle.study_view.specs.declared.squares.Standing.TheVariants.{Impossible, Fails, Holds, HoldsBy, Only}
-use Rattle.study_view.specs.declared.squares.Stood.{Stood}
-use Rattle.study_view.specs.Survey.{moved_men, stood, stood_fault, aim_in, by_moves, other_squares, IsToldBy, IsTold, IsStanding, AreStandings}
+use Rattle.study_facts.specs.declared.continuation.EvaluatedMove.{EvaluatedMove}
+use Rattle.study_facts.specs.Continuations.{wanted_moves, AreHoldingMoves}
+use Rattle.study_view.specs.declared.survey_squares.SquareResult.{SquareResult}
+use Rattle.study_view.specs.declared.survey_squares.SquareResult.TheVariants.{Impossible, Fails, Holds, HoldsBy, Only}
+use Rattle.study_view.specs.declared.survey_squares.SurveyedSquare.{SurveyedSquare}
+use Rattle.study_view.specs.Survey.{moved_men, with_man_moved, fault_of_man_moved, aim_in, result_by_moves, other_squares, IsToldBy, IsTold, IsStanding, AreStandings}
 use Rattle.study_view.specs.Told.{Keeps, IsOnlyWay, SurveysTellTheGame}
 
 -- ---- selected moves
 
-abbrev made : Move → Value → Continuation
+abbrev made : Move → Value → EvaluatedMove
 made m v = record { played = m; value = v }
 
 -- a selected move is a legal move, with the game's value after it, which is wanted
-chosen-is : (f : Value → Bool) (p : Position) (ms : List Move) (vs : List Value) (x : Continuation) → AreValuesAfter p ms vs
-    → IsIn x (chosen f ms vs) → IsIn x.played ms × IsValueOf (after p x.played) x.value × (f x.value ≡ true)
+chosen-is : (f : Value → Bool) (p : Position) (ms : List Move) (vs : List Value) (x : EvaluatedMove) → AreValuesAfter p ms vs
+    → IsIn x (wanted_moves f ms vs) → IsIn x.played ms × IsValueOf (after p x.played) x.value × (f x.value ≡ true)
 chosen-is f p [] vs x h i = absurd i
 chosen-is f p (m ∷ ms) [] x h i = absurd h
 chosen-is f p (m ∷ ms) (v ∷ vs) x h i = elim (cases_Bool (f v)) [
   | inl t ↦ elim (rw t at i) [
     | inl s ↦ (
-      inl (ap (λ (c : Continuation). c.played) s),
-      subst (λ (c : Continuation). IsValueOf (after p c.played) c.value) s h.0,
-      subst (λ (c : Continuation). f c.value ≡ true) s t,
+      inl (ap (λ (c : EvaluatedMove). c.played) s),
+      subst (λ (c : EvaluatedMove). IsValueOf (after p c.played) c.value) s h.0,
+      subst (λ (c : EvaluatedMove). f c.value ≡ true) s t,
     )
     | inr j ↦ let r = chosen-is f p ms vs x h.1 j in (inr r.0, r.1, r.2)
   ]
@@ -59,32 +59,32 @@ chosen-is f p (m ∷ ms) (v ∷ vs) x h i = elim (cases_Bool (f v)) [
 
 -- and each move whose value is wanted is selected
 chosen-has : EachHasAtMostOneValue → (f : Value → Bool) (p : Position) (ms : List Move) (vs : List Value) (m : Move) (w : Value)
-    → AreValuesAfter p ms vs → IsIn m ms → IsValueOf (after p m) w → f w ≡ true → IsIn (made m w) (chosen f ms vs)
+    → AreValuesAfter p ms vs → IsIn m ms → IsValueOf (after p m) w → f w ≡ true → IsIn (made m w) (wanted_moves f ms vs)
 chosen-has law f p [] vs m w h i is t = absurd i
 chosen-has law f p (n ∷ ms) [] m w h i is t = absurd h
 chosen-has law f p (n ∷ ms) (v ∷ vs) m w h (inl s) is t =
     let e = one-value law (after p m) v w (subst (λ k. IsValueOf (after p k) v) s h.0) is in rw (s, e, t) (inl refl)
 chosen-has law f p (n ∷ ms) (v ∷ vs) m w h (inr i) is t =
     let rest = chosen-has law f p ms vs m w h.1 i is t in
-    elim (f v) as (λ b. IsIn (made m w) (cond b (made n v ∷ []) [] ++ chosen f ms vs)) [ true ↦ inr rest | false ↦ rest ]
+    elim (f v) as (λ b. IsIn (made m w) (cond b (made n v ∷ []) [] ++ wanted_moves f ms vs)) [ true ↦ inr rest | false ↦ rest ]
 
-abbrev place_of : Continuation → ℕ
+abbrev place_of : EvaluatedMove → ℕ
 place_of x = move_place x.played
 
-chosen-ascends : (f : Value → Bool) (lo : ℕ) (ms : List Move) (vs : List Value) → AscendsFrom move_place lo ms → AscendsFrom place_of lo (chosen f ms vs)
+chosen-ascends : (f : Value → Bool) (lo : ℕ) (ms : List Move) (vs : List Value) → AscendsFrom move_place lo ms → AscendsFrom place_of lo (wanted_moves f ms vs)
 chosen-ascends f lo [] vs h = tt
 chosen-ascends f lo (m ∷ ms) [] h = tt
 chosen-ascends f lo (m ∷ ms) (v ∷ vs) h =
     let rest = chosen-ascends f (move_place m + 1) ms vs h.1 in
     let le = h.0 in
-    elim (f v) as (λ b. AscendsFrom place_of lo (cond b (made m v ∷ []) [] ++ chosen f ms vs))
-    [ true ↦ (le, rest) | false ↦ AscendsFrom-less place_of lo (move_place m + 1) (chosen f ms vs) (omega arith) rest ]
+    elim (f v) as (λ b. AscendsFrom place_of lo (cond b (made m v ∷ []) [] ++ wanted_moves f ms vs))
+    [ true ↦ (le, rest) | false ↦ AscendsFrom-less place_of lo (move_place m + 1) (wanted_moves f ms vs) (omega arith) rest ]
 
 -- an ascending list of one move
-alone-in : (lo : ℕ) (list : List Continuation) (x : Continuation) → AscendsFrom place_of lo list → IsIn x list
-    → ((y : Continuation) → IsIn y list → y.played ≡ x.played) → list ≡ x ∷ []
+alone-in : (lo : ℕ) (list : List EvaluatedMove) (x : EvaluatedMove) → AscendsFrom place_of lo list → IsIn x list
+    → ((y : EvaluatedMove) → IsIn y list → y.played ≡ x.played) → list ≡ x ∷ []
 alone-in lo [] x a i all = absurd i
-alone-in lo (y ∷ []) x a (inl s) all = ap (λ (c : Continuation). c ∷ []) s
+alone-in lo (y ∷ []) x a (inl s) all = ap (λ (c : EvaluatedMove). c ∷ []) s
 alone-in lo (y ∷ []) x a (inr i) all = absurd i
 alone-in lo (y ∷ z ∷ l) x a i all =
     let e : move_place y.played ≡ move_place z.played = ap move_place (all y (inl refl) ∙ sym (all z (inr (inl refl)))) in
@@ -101,7 +101,7 @@ record IsOnlyIn (st : Stipulation) (q : Position) (v : Value) (m : Move) : Type 
   keeps : Keeps st q m
   alone : (n : Move) → Keeps st q n → n ≡ m
 
-one-move : (w v : Value) (m : Move) (list : List Continuation) → by_moves w list ≡ Only v m → (x : Continuation) × (list ≡ x ∷ []) × (w ≡ v) × (x.played ≡ m)
+one-move : (w v : Value) (m : Move) (list : List EvaluatedMove) → result_by_moves w list ≡ Only v m → (x : EvaluatedMove) × (list ≡ x ∷ []) × (w ≡ v) × (x.played ≡ m)
 one-move w v m [] e = absurd cc
 one-move w v m (x ∷ []) e = (x, refl, cc, cc)
 one-move w v m (x ∷ y ∷ l) e = absurd cc
@@ -110,17 +110,17 @@ module _ (law : EachHasAtMostOneValue) (st : Stipulation) (q : Position) (valid 
   abbrev wanted : Value → Bool
   wanted v = holds (aim_in st q) (0 + 1) v
 
-  keeps-chosen : (all : List Value) → AreValuesAfter q (legal_list q) all → (x : Continuation) → IsIn x (chosen wanted (legal_list q) all)
+  keeps-chosen : (all : List Value) → AreValuesAfter q (legal_list q) all → (x : EvaluatedMove) → IsIn x (wanted_moves wanted (legal_list q) all)
       → Keeps st q x.played
   keeps-chosen all h x i =
       let r = chosen-is wanted q (legal_list q) all x h i in
       record { legal = is_legal-in q x.played r.0; value = x.value; of_game = r.1; holding = r.2 }
 
   chosen-keeps : (all : List Value) → AreValuesAfter q (legal_list q) all → (n : Move) (k : Keeps st q n)
-      → IsIn (made n k.value) (chosen wanted (legal_list q) all)
+      → IsIn (made n k.value) (wanted_moves wanted (legal_list q) all)
   chosen-keeps all h n k = chosen-has law wanted q (legal_list q) all n k.value h (in_legal q n valid k.legal) k.of_game k.holding
 
-  told-only : (standing : Standing) (v : Value) (m : Move) → IsTold st q standing → standing ≡ Only v m → IsOnlyIn st q v m
+  told-only : (standing : SquareResult) (v : Value) (m : Move) → IsTold st q standing → standing ≡ Only v m → IsOnlyIn st q v m
   told-only standing v m (w, is, told) e = go (holds (aim_in st q) 0 w) (aim_in st q).hero_first refl refl told
     where
       go : (b h : Bool) → holds (aim_in st q) 0 w ≡ b → (aim_in st q).hero_first ≡ h → IsToldBy b h (aim_in st q) q w standing → IsOnlyIn st q v m
@@ -129,19 +129,19 @@ module _ (law : EachHasAtMostOneValue) (st : Stipulation) (q : Position) (valid 
       go true true eb eh (list, (all, values, are), t) =
           let one = one-move w v m list (sym t ∙ e) in
           let x = one.0 in
-          let just : chosen wanted (legal_list q) all ≡ x ∷ [] = sym are ∙ one.1 in
+          let just : wanted_moves wanted (legal_list q) all ≡ x ∷ [] = sym are ∙ one.1 in
           record {
             hero = eh;
             of_game = subst (IsValueOf q) one.2 is;
             holding = subst (λ (k : Value). holds (aim_in st q) 0 k ≡ true) one.2 eb;
             keeps = subst (Keeps st q) one.3 (keeps-chosen all values x (subst (IsIn x) (sym just) (inl refl)));
             alone = λ n k. elim (subst (IsIn (made n k.value)) just (chosen-keeps all values n k)) [
-              | inl s ↦ sym (ap (λ (c : Continuation). c.played) s) ∙ one.3
+              | inl s ↦ sym (ap (λ (c : EvaluatedMove). c.played) s) ∙ one.3
               | inr none ↦ absurd none
             ];
           }
 
-  only-told : (standing : Standing) (v : Value) (m : Move) → IsTold st q standing → IsOnlyIn st q v m → standing ≡ Only v m
+  only-told : (standing : SquareResult) (v : Value) (m : Move) → IsTold st q standing → IsOnlyIn st q v m → standing ≡ Only v m
   only-told standing v m (w, is, told) o =
       let e : w ≡ v = one-value law q w v is o.of_game in
       let eb : holds (aim_in st q) 0 w ≡ true = ap (λ (k : Value). holds (aim_in st q) 0 k) e ∙ o.holding in
@@ -153,10 +153,10 @@ module _ (law : EachHasAtMostOneValue) (st : Stipulation) (q : Position) (valid 
           by : IsToldBy true true (aim_in st q) q w standing → standing ≡ Only v m
           by (list, (all, values, are), t) =
               let x = made m o.keeps.value in
-              let just : chosen wanted (legal_list q) all ≡ x ∷ [] =
-              alone-in 0 (chosen wanted (legal_list q) all) x (chosen-ascends wanted 0 (legal_list q) all (AscendsFrom-legal_list q))
+              let just : wanted_moves wanted (legal_list q) all ≡ x ∷ [] =
+              alone-in 0 (wanted_moves wanted (legal_list q) all) x (chosen-ascends wanted 0 (legal_list q) all (AscendsFrom-legal_list q))
               (chosen-keeps all values m o.keeps) (λ y i. o.alone y.played (keeps-chosen all values y i)) in
-              t ∙ ap (λ (l : List Continuation). by_moves w l) (are ∙ just) ∙ ap (λ (k : Value). Only k m) e
+              t ∙ ap (λ (l : List EvaluatedMove). result_by_moves w l) (are ∙ just) ∙ ap (λ (k : Value). Only k m) e
 
 -- ---- the man on another square
 
@@ -166,26 +166,26 @@ moved-within from x men lt all = All-map (λ (m : Man). m.at < 64) (moved_if fro
     one : (m : Man) → m.at < 64 → (moved_if from x m).at < 64
     one m h = elim (m.at == from) as (λ b. (cond b (record m { at = x }) m).at < 64) [ true ↦ lt | false ↦ h ]
 
-stood-valid : (p : Position) (from x : ℕ) → IsValid p → x < 64 → stood_fault p from x ≡ None → IsValid (stood p from x)
+stood-valid : (p : Position) (from x : ℕ) → IsValid p → x < 64 → fault_of_man_moved p from x ≡ None → IsValid (with_man_moved p from x)
 stood-valid p from x valid lt none =
     let men = moved_men from x p.men in
     valid_in_order men p.to_move p.passed
     (All-permutation (λ (m : Man). m.at < 64) men (in_order men) (IsPermutation-in_order men) (moved-within from x p.men lt valid.on_board)) none
 
-stood-faultless : (p : Position) (from x : ℕ) → IsValid (stood p from x) → stood_fault p from x ≡ None
+stood-faultless : (p : Position) (from x : ℕ) → IsValid (with_man_moved p from x) → fault_of_man_moved p from x ≡ None
 stood-faultless p from x valid =
     let men = moved_men from x p.men in
     first_fault_same men (in_order men) (IsPermutation-in_order men) p.to_move p.passed ∙ valid.faultless
 
 -- each square of a list is written
-standing-of : (p : Position) (from : ℕ) (st : Stipulation) (xs : List ℕ) (ys : List Stood) (y : Stood) → AreStandings p from st xs ys → IsIn y ys
+standing-of : (p : Position) (from : ℕ) (st : Stipulation) (xs : List ℕ) (ys : List SurveyedSquare) (y : SurveyedSquare) → AreStandings p from st xs ys → IsIn y ys
     → IsIn y.at xs × IsStanding p from st y.at y.standing
 standing-of p from st [] [] y h i = absurd i
 standing-of p from st [] (z ∷ zs) y h i = absurd h
 standing-of p from st (x ∷ xs) [] y h i = absurd i
 standing-of p from st (x ∷ xs) (z ∷ zs) y h (inl s) =
     let told = subst (λ n. IsStanding p from st n z.standing) (sym h.0) h.1 in
-    (inl (sym h.0 ∙ ap (λ (k : Stood). k.at) s), subst (λ (k : Stood). IsStanding p from st k.at k.standing) s told)
+    (inl (sym h.0 ∙ ap (λ (k : SurveyedSquare). k.at) s), subst (λ (k : SurveyedSquare). IsStanding p from st k.at k.standing) s told)
 standing-of p from st (x ∷ xs) (z ∷ zs) y h (inr i) = let r = standing-of p from st xs zs y h.2 i in (inr r.0, r.1)
 
 in-range : (first n x : ℕ) → IsIn x (range_with_len first n) → x < first + n
@@ -200,20 +200,20 @@ pub surveys-told : EachHasAtMostOneValue → SurveysTellTheGame
 surveys-told law p from st list valid are y there v m =
     let r = standing-of p from st (other_squares from) list y are (IsIn-from_Contains y list there) in
     let lt = on-board from y.at r.0 in
-    (only-way (stood_fault p from y.at) refl lt r.1, way-only r.1)
+    (only-way (fault_of_man_moved p from y.at) refl lt r.1, way-only r.1)
   where
-    only-way : (o : Option PositionFault) → stood_fault p from y.at ≡ o → y.at < 64
-        → MatchOption o (IsTold st (stood p from y.at) y.standing) (λ fault. y.standing ≡ Impossible)
+    only-way : (o : Option PositionFault) → fault_of_man_moved p from y.at ≡ o → y.at < 64
+        → MatchOption o (IsTold st (with_man_moved p from y.at) y.standing) (λ fault. y.standing ≡ Impossible)
         → y.standing ≡ Only v m → IsOnlyWay p from st y.at v m
     only-way None none lt told e =
         let ok = stood-valid p from y.at valid lt none in
-        let o = told-only law st (stood p from y.at) ok y.standing v m told e in
+        let o = told-only law st (with_man_moved p from y.at) ok y.standing v m told e in
         record { valid = ok; hero = o.hero; of_game = o.of_game; holding = o.holding; keeps = o.keeps; alone = o.alone }
     only-way (Some fault) is lt told e = let no : Impossible ≡ Only v m = sym told ∙ e in absurd cc
 
     way-only : IsStanding p from st y.at y.standing → IsOnlyWay p from st y.at v m → y.standing ≡ Only v m
     way-only told o =
-        only-told law st (stood p from y.at) o.valid y.standing v m
-        (subst (λ (k : Option PositionFault). MatchOption k (IsTold st (stood p from y.at) y.standing) (λ fault. y.standing ≡ Impossible))
+        only-told law st (with_man_moved p from y.at) o.valid y.standing v m
+        (subst (λ (k : Option PositionFault). MatchOption k (IsTold st (with_man_moved p from y.at) y.standing) (λ fault. y.standing ≡ Impossible))
         (stood-faultless p from y.at o.valid) told)
         (record { hero = o.hero; of_game = o.of_game; holding = o.holding; keeps = o.keeps; alone = o.alone })

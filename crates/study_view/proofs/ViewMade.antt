@@ -10,8 +10,8 @@ use Rattle.study_marks.specs.declared.mark.Mark.{Mark}
 use Rattle.study_marks.specs.declared.mark_rules.Aim.{Aim}
 use Rattle.study_marks.specs.Goals.{aim_of}
 use Rattle.study_marks.specs.Study.{Study, position_at}
-use Rattle.study_facts.specs.declared.continuation.Continuation.{Continuation}
-use Rattle.study_facts.specs.Continuations.{AreChosen, each_after}
+use Rattle.study_facts.specs.declared.continuation.EvaluatedMove.{EvaluatedMove}
+use Rattle.study_facts.specs.Continuations.{AreChosen, positions_after}
 use Rattle.study_facts.specs.Nodes.{value_at}
 use Rattle.study_facts.specs.Order.{LinesOfEach, written_order}
 use Rattle.study_facts.specs.Zugzwang.{ZugzwangLines}
@@ -22,10 +22,10 @@ use Rattle.study_view.proofs.MovesTold.{moves-told}
 use Rattle.study_view.proofs.StartsAt.{position-of}
 
 pub asked-is : {L : Type 0} (s : Study L) (path : List ℕ) (here : Start) → here ≡ start_to s path
-    → each_after here.position (legal_list here.position) ≡ asked_at s path
-asked-is s path here e = ap (λ p. each_after p (legal_list p)) (position-of s path here e)
+    → positions_after here.position (legal_list here.position) ≡ asked_at s path
+asked-is s path here e = ap (λ p. positions_after p (legal_list p)) (position-of s path here e)
 
-pub view-is : (s : Study Mark) (path : List ℕ) (here : Start) (a : Aim) (d : ℕ) (before : Value) (list : List Continuation)
+pub view-is : (s : Study Mark) (path : List ℕ) (here : Start) (a : Aim) (d : ℕ) (before : Value) (list : List EvaluatedMove)
     (nodes zugzwangs text : List ℕ) → IsTrue (has_spot s.tree path) → here ≡ start_to s path → a ≡ aim_of s → d ≡ length path → before ≡ value_at s path
     → AreChosen (λ v. true) here.position (legal_list here.position) list
     → nodes ≡ flat_map (node_line s) (written_order s) → LinesOfEach (ZugzwangLines s) (written_order s) zugzwangs

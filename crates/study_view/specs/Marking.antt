@@ -5,15 +5,15 @@ use Rattle.study_values.specs.declared.value.Value.{Value}
 use Rattle.study_marks.specs.declared.mark_rules.Aim.{Aim}
 use Rattle.study_marks.specs.Goals.{hero_moves, holds}
 use Rattle.study_marks.specs.Marks.{mark_of}
-use Rattle.study_facts.specs.declared.continuation.Continuation.{Continuation}
+use Rattle.study_facts.specs.declared.continuation.EvaluatedMove.{EvaluatedMove}
 use Rattle.study_view.specs.Words.{move_line}
 
 -- the number of these moves from depth d that hold
-abbrev pub holding_count : Aim → ℕ → List Continuation → ℕ
+abbrev pub holding_count : Aim → ℕ → List EvaluatedMove → ℕ
 holding_count a d [] = 0
 holding_count a d (x ∷ xs) = (if holds a (d + 1) x.value then 1 else 0) + holding_count a d xs
 
 -- the line of a move from a node at depth d, with this start and this value, if n of the legal moves hold
-abbrev pub told_line : Aim → ℕ → Start → Value → ℕ → Continuation → List ℕ
+abbrev pub told_line : Aim → ℕ → Start → Value → ℕ → EvaluatedMove → List ℕ
 told_line a d here before n x =
     move_line here x.played x.value (Some (mark_of (hero_moves a d) (holds a d before) (holds a (d + 1) x.value) n))

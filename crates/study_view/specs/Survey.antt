@@ -8,7 +8,7 @@ use Rattle.study_board.specs.Letters.{letter}
 use Rattle.study_board.specs.Men.{same_side, moved_if}
 use Rattle.study_board.specs.Position.{Position, in_order, man_at, first_fault}
 use Rattle.study_notation.specs.FenSpelling.{square_text}
-use Rattle.study_notation.specs.Written.{move_text}
+use Rattle.study_notation.specs.SanSpelling.{move_text}
 use Rattle.study_values.specs.declared.value.Value.{Value}
 use Rattle.study_values.specs.Game.{IsValueOf}
 use Rattle.study_marks.specs.declared.mark_rules.Aim.{Aim}
@@ -16,47 +16,47 @@ use Rattle.study_marks.specs.declared.stipulation.Stipulation.{Stipulation}
 use Rattle.study_marks.specs.Goals.{holds}
 use Rattle.study_pgn.specs.Pgn.{stipulation_text}
 use Rattle.study_facts.specs.Words.{value_words}
-use Rattle.study_facts.specs.declared.continuation.Continuation.{Continuation}
+use Rattle.study_facts.specs.declared.continuation.EvaluatedMove.{EvaluatedMove}
 use Rattle.study_facts.specs.Continuations.{AreHoldingMoves}
-use Rattle.study_view.specs.declared.squares.Standing.{Standing}
-use Rattle.study_view.specs.declared.squares.Standing.TheVariants.{Impossible, Fails, Holds, HoldsBy, Only}
-use Rattle.study_view.specs.declared.squares.Stood.{Stood}
+use Rattle.study_view.specs.declared.survey_squares.SquareResult.{SquareResult}
+use Rattle.study_view.specs.declared.survey_squares.SquareResult.TheVariants.{Impossible, Fails, Holds, HoldsBy, Only}
+use Rattle.study_view.specs.declared.survey_squares.SurveyedSquare.{SurveyedSquare}
 
 -- the men, with the man of one square moved to another
 abbrev pub moved_men : ℕ → ℕ → List Man → List Man
 moved_men from to men = map (moved_if from to) men
 
 -- the position with the man of one square on another, otherwise unchanged
-abbrev pub stood : Position → ℕ → ℕ → Position
-stood p from to = record { men = in_order (moved_men from to p.men); to_move = p.to_move; passed = p.passed }
+abbrev pub with_man_moved : Position → ℕ → ℕ → Position
+with_man_moved p from to = record { men = in_order (moved_men from to p.men); to_move = p.to_move; passed = p.passed }
 
 -- why that is not a valid position, or `None`
-abbrev pub stood_fault : Position → ℕ → ℕ → Option PositionFault
-stood_fault p from to = first_fault (moved_men from to p.men) p.to_move p.passed
+abbrev pub fault_of_man_moved : Position → ℕ → ℕ → Option PositionFault
+fault_of_man_moved p from to = first_fault (moved_men from to p.men) p.to_move p.passed
 
 abbrev pub aim_in : Stipulation → Position → Aim
 aim_in st q = record { goal = st.goal; hero_first = same_side st.hero q.to_move }
 
 -- the result from the hero's first moves that hold: the only one, or their number
-abbrev pub by_moves : Value → List Continuation → Standing
-by_moves v [] = HoldsBy v 0
-by_moves v (x ∷ []) = Only v x.played
-by_moves v (x ∷ y ∷ l) = HoldsBy v (length (x ∷ y ∷ l))
+abbrev pub result_by_moves : Value → List EvaluatedMove → SquareResult
+result_by_moves v [] = HoldsBy v 0
+result_by_moves v (x ∷ []) = Only v x.played
+result_by_moves v (x ∷ y ∷ l) = HoldsBy v (length (x ∷ y ∷ l))
 
 -- the result for a position with the value v: whether the stipulation holds, and whether the hero is to move
-abbrev pub IsToldBy : Bool → Bool → Aim → Position → Value → Standing → Type 0
+abbrev pub IsToldBy : Bool → Bool → Aim → Position → Value → SquareResult → Type 0
 IsToldBy false hero a q v standing = standing ≡ Fails v
 IsToldBy true false a q v standing = standing ≡ Holds v
-IsToldBy true true a q v standing = (list : List Continuation) × AreHoldingMoves a 0 q list × (standing ≡ by_moves v list)
+IsToldBy true true a q v standing = (list : List EvaluatedMove) × AreHoldingMoves a 0 q list × (standing ≡ result_by_moves v list)
 
-abbrev pub IsTold : Stipulation → Position → Standing → Type 0
+abbrev pub IsTold : Stipulation → Position → SquareResult → Type 0
 IsTold st q standing = (v : Value) × IsValueOf q v × IsToldBy (holds (aim_in st q) 0 v) (aim_in st q).hero_first (aim_in st q) q v standing
 
 -- the result for the man on the square x
-abbrev pub IsStanding : Position → ℕ → Stipulation → ℕ → Standing → Type 0
-IsStanding p from st x standing = MatchOption (stood_fault p from x) (IsTold st (stood p from x) standing) (λ fault. standing ≡ Impossible)
+abbrev pub IsStanding : Position → ℕ → Stipulation → ℕ → SquareResult → Type 0
+IsStanding p from st x standing = MatchOption (fault_of_man_moved p from x) (IsTold st (with_man_moved p from x) standing) (λ fault. standing ≡ Impossible)
 
-abbrev pub AreStandings : Position → ℕ → Stipulation → List ℕ → List Stood → Type 0
+abbrev pub AreStandings : Position → ℕ → Stipulation → List ℕ → List SurveyedSquare → Type 0
 AreStandings p from st [] [] = Unit {0}
 AreStandings p from st [] (y ∷ ys) = ⊥
 AreStandings p from st (x ∷ xs) [] = ⊥
@@ -74,21 +74,21 @@ other_squares from = squares_but from 0 64
 unfoldable pub survey_line : Man → Stipulation → List ℕ
 survey_line man st = codes "survey " ++ (letter man.kind ∷ (square_text man.at ++ (codes " " ++ (stipulation_text st ++ codes "\n"))))
 
-abbrev pub standing_words : Position → Standing → List ℕ
-standing_words q Impossible = codes "-"
-standing_words q (Fails v) = codes "fails " ++ value_words v
-standing_words q (Holds v) = codes "holds " ++ value_words v
-standing_words q (HoldsBy v n) = codes "holds " ++ (value_words v ++ (codes " " ++ decimal n))
-standing_words q (Only v m) = codes "only " ++ (value_words v ++ (codes " " ++ move_text q m))
+abbrev pub square_result_text : Position → SquareResult → List ℕ
+square_result_text q Impossible = codes "-"
+square_result_text q (Fails v) = codes "fails " ++ value_words v
+square_result_text q (Holds v) = codes "holds " ++ value_words v
+square_result_text q (HoldsBy v n) = codes "holds " ++ (value_words v ++ (codes " " ++ decimal n))
+square_result_text q (Only v m) = codes "only " ++ (value_words v ++ (codes " " ++ move_text q m))
 
 -- `g2 only win 55 Kg3`
-unfoldable pub standing_line : Position → ℕ → Stood → List ℕ
-standing_line p from x = square_text x.at ++ (codes " " ++ (standing_words (stood p from x.at) x.standing ++ codes "\n"))
+unfoldable pub standing_line : Position → ℕ → SurveyedSquare → List ℕ
+standing_line p from x = square_text x.at ++ (codes " " ++ (square_result_text (with_man_moved p from x.at) x.standing ++ codes "\n"))
 
 -- the survey of the man on a square
 abbrev pub IsSurvey : Position → ℕ → Stipulation → List ℕ → Type 0
 IsSurvey p from st text =
-    (man : Man) × (list : List Stood)
+    (man : Man) × (list : List SurveyedSquare)
     × (man_at p.men from ≡ Some man)
     × AreStandings p from st (other_squares from) list
     × (text ≡ survey_line man st ++ flat_map (standing_line p from) list)

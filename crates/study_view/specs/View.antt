@@ -11,10 +11,10 @@ use Rattle.study_marks.specs.declared.mark.Mark.{Mark}
 use Rattle.study_marks.specs.Study.{Study, moves_to, position_at, start_along, plain_study}
 use Rattle.study_marks.specs.Annotated.{IsAnnotated}
 use Rattle.study_marks.specs.Trial.{IsMarkOf}
-use Rattle.study_facts.specs.Continuations.{each_after}
-use Rattle.study_facts.specs.Nodes.{front_of}
+use Rattle.study_facts.specs.Continuations.{positions_after}
+use Rattle.study_facts.specs.Nodes.{parent_path}
 use Rattle.study_review.specs.Review.{stipulation_line}
-use Rattle.study_head.specs.Verdict.{judged}
+use Rattle.study_head.specs.Verdict.{judgement_of}
 use Rattle.study_facts.specs.Order.{LinesOfEach, written_order}
 use Rattle.study_facts.specs.Zugzwang.{ZugzwangLines}
 use Rattle.study_view.specs.Words.{start_lines, sentence_line, node_words, at_line, move_line}
@@ -25,7 +25,7 @@ start_to s path = start_along s.start (moves_to s.tree.below path)
 
 -- the line of the node at the path
 abbrev pub node_line : Study Mark → List ℕ → List ℕ
-node_line s path = option_map_or (λ x. node_words path (position_at s (front_of path)) x (start_to s path)) (spot_at s.tree path) []
+node_line s path = option_map_or (λ x. node_words path (position_at s (parent_path path)) x (start_to s path)) (spot_at s.tree path) []
 
 -- a line for each of these moves from the node at the path, with the value and the mark that a new node for it would have
 abbrev pub AreMoveLines : Study Mark → List ℕ → List Move → List ℕ → Type 0
@@ -36,7 +36,7 @@ AreMoveLines s path (m ∷ ms) text =
 
 -- the start with its counts of men, and the verdict, as one word and in sentences, which do not say how many faults lose time alone
 unfoldable pub head_lines : Study Mark → List ℕ
-head_lines s = start_lines s.start ++ (stipulation_line s ++ sentence_line (judged s 0))
+head_lines s = start_lines s.start ++ (stipulation_line s ++ sentence_line (judgement_of s 0))
 
 -- The view of an annotated study at the path of a node: its start, its verdict, each node, then the number of legal moves at the path, and each of them.
 abbrev pub IsView : Study Mark → List ℕ → List ℕ → Type 0
@@ -63,4 +63,4 @@ PlainStudiesHaveOneView =
 
 -- the positions that a view evaluates first: those after the legal moves at the path
 abbrev pub asked_at : {L : Type 0} → Study L → List ℕ → List Position
-asked_at s path = each_after (position_at s path) (legal_list (position_at s path))
+asked_at s path = positions_after (position_at s path) (legal_list (position_at s path))

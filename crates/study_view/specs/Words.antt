@@ -7,8 +7,8 @@ use Rattle.study_moves.specs.declared.moves.Move.{Move}
 use Rattle.study_moves.specs.LegalList.{legal_list}
 use Rattle.study_notation.specs.declared.start.Start.{Start}
 use Rattle.study_notation.specs.FenSpelling.{fen_text, square_text}
-use Rattle.study_notation.specs.Played.{start_after}
-use Rattle.study_notation.specs.Written.{move_text}
+use Rattle.study_notation.specs.StartAfter.{start_after}
+use Rattle.study_notation.specs.SanSpelling.{move_text}
 use Rattle.study_values.specs.declared.value.Value.{Value}
 use Rattle.study_tree.specs.Tree.{Spot}
 use Rattle.study_marks.specs.declared.mark.Mark.{Mark}
@@ -16,7 +16,7 @@ use Rattle.study_marks.specs.declared.mark.MoveMark.{MoveMark}
 use Rattle.study_marks.specs.Marks.{on_move_text}
 use Rattle.study_head.specs.Counts.{counts_words}
 use Rattle.study_head.specs.Verdict.{verdict_words}
-use Rattle.study_head.specs.declared.verdict.Judged.{Judged}
+use Rattle.study_head.specs.declared.verdict.Judgement.{Judgement}
 use Rattle.study_facts.specs.Words.{value_words, front_words}
 
 -- a small letter
@@ -33,9 +33,9 @@ unfoldable pub moved_words : Position → Move → List ℕ
 moved_words p m = move_text p m ++ (codes " " ++ squares_text m)
 
 -- the move that led to a node, from p; empty for the root
-abbrev pub led_words : Position → Option Move → List ℕ
-led_words p None = codes "- -"
-led_words p (Some m) = moved_words p m
+abbrev pub move_to_node_text : Position → Option Move → List ℕ
+move_to_node_text p None = codes "- -"
+move_to_node_text p (Some m) = moved_words p m
 
 -- `loss 12 dual 2`
 unfoldable pub mark_words : Value → Option MoveMark → List ℕ
@@ -54,7 +54,7 @@ unfoldable pub start_lines : Start → List ℕ
 start_lines start = study_line start ++ counts_line start.position
 
 -- `sentence The stipulation does not hold. At the start: draw.`
-unfoldable pub sentence_line : Judged → List ℕ
+unfoldable pub sentence_line : Judgement → List ℕ
 sentence_line j = codes "sentence " ++ (verdict_words j ++ codes "\n")
 
 -- `loss 50 only faults 3 8/2P5/1K6/3r4/8/8/8/k7 b - - 0 1`, and the end of the line
@@ -64,7 +64,7 @@ shown_words x here =
 
 -- `node 0 c7 c6c7 loss 50 only faults 3 8/2P5/1K6/3r4/8/8/8/k7 b - - 0 1`: p is the position before the node, and `here` the node's start
 unfoldable pub node_words : List ℕ → Position → Spot Mark → Start → List ℕ
-node_words path p x here = front_words (codes "node ") path ++ (led_words p x.played ++ (codes " " ++ shown_words x.label here))
+node_words path p x here = front_words (codes "node ") path ++ (move_to_node_text p x.played ++ (codes " " ++ shown_words x.label here))
 
 -- the number of legal moves; or how the game ended
 unfoldable pub count_words : Position → List ℕ

@@ -5,14 +5,14 @@
 //! then written. `passed_squares` and `classes_needed` are for setting up a position.
 #![tactic(auto)]
 
-mod asking;
 mod classes;
 mod fault;
 mod laws;
-mod marking;
+mod move_lines;
 mod nodes;
 mod passed;
-mod squares;
+mod probe;
+mod survey_squares;
 mod survey_text;
 mod view;
 mod words;
@@ -24,7 +24,7 @@ pub use laws::{
     surveys_tell_the_game, views_are_unique,
 };
 pub use passed::passed_squares;
-pub use squares::{Question, Standing, Stood, survey};
+pub use survey_squares::{SquareResult, SurveyQuestion, SurveyedSquare, survey};
 pub use survey_text::write_survey;
 pub use view::write_view;
 pub use words::add_start;

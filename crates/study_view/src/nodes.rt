@@ -5,7 +5,7 @@ ghost use Rattle.study_marks.specs.BenchState.{marked};
 ghost use Rattle.study_marks.specs.FaultSums.{below_at};
 ghost use Rattle.study_facts.specs.Made.{Grew};
 ghost use Rattle.study_facts.specs.Asked.{within};
-ghost use Rattle.study_facts.specs.Nodes.{front_of};
+ghost use Rattle.study_facts.specs.Nodes.{parent_path};
 ghost use Rattle.study_facts.specs.Zugzwang.{IsZugzwangOf, zugzwang_line, ZugzwangLines};
 ghost use Rattle.study_facts.specs.declared.zugzwang.Zugzwang.{Zugzwang as AZugzwang};
 ghost use Rattle.study_view.specs.Asked.{HasWalked};
@@ -17,7 +17,7 @@ use crate::fault::ViewFault;
 use crate::words::add_node;
 use std::alloc::{AllocError, Allocator};
 use study_board::Position;
-use study_facts::{add_zugzwang_line, count_at, move_to, zugzwang_at};
+use study_facts::{add_zugzwang_line, child_count, move_to, zugzwang_at};
 use study_marks::Bench;
 use study_notation::Start;
 use study_text::Text;
@@ -26,7 +26,7 @@ use study_values::Values;
 /// The start at a node, from that of the node before it.
 fn start_from<'b, B: Allocator>(bench: &Bench<'b, B>, steps: &[u16], before: &Start) -> Start
     requires found { IsTrue (has_spot (marked bench.now).tree steps.now) }
-    requires before { before.now ≡ start_to (marked bench.now) (front_of steps.now) }
+    requires before { before.now ≡ start_to (marked bench.now) (parent_path steps.now) }
     ensures { result ≡ start_to (marked bench.now) steps.now }
 {
     let first = bench.start();
@@ -47,7 +47,7 @@ fn add_node_at<'b, A: Allocator, B: Allocator>(
     before: &Start,
     here: &Start,
 ) -> Result<(), AllocError>
-    requires before { before.now ≡ start_to (marked bench.now) (front_of steps.now) }
+    requires before { before.now ≡ start_to (marked bench.now) (parent_path steps.now) }
     requires here { here.now ≡ start_to (marked bench.now) steps.now }
     ensures { OnOk result (text.new ≡ text.old ++ node_line (marked bench.now) steps.now) }
 {
@@ -104,7 +104,7 @@ fn add_own<'b, A: Allocator, B: Allocator, V: Values>(
     here: &Start,
     values: &mut V,
 ) -> Result<(), ViewFault>
-    requires before { before.now ≡ start_to (marked bench.now) (front_of steps.now) }
+    requires before { before.now ≡ start_to (marked bench.now) (parent_path steps.now) }
     requires here { here.now ≡ start_to (marked bench.now) steps.now }
     ensures nodes { OnOk result (lines.new.nodes ≡ lines.old.nodes ++ node_line (marked bench.now) steps.now) }
     ensures zugzwangs { V.is_honest values.old
@@ -127,7 +127,7 @@ pub fn add_nodes<'b, A: Allocator, B: Allocator, V: Values>(
     values: &mut V,
 ) -> Result<(), ViewFault>
     requires found { IsTrue (has_spot (marked bench.now).tree steps.old.items) }
-    requires before { before.now ≡ start_to (marked bench.now) (front_of steps.old.items) }
+    requires before { before.now ≡ start_to (marked bench.now) (parent_path steps.old.items) }
     requires here { here.now ≡ start_to (marked bench.now) steps.old.items }
     ensures nodes { OnOk result (Grew (LinesOfEach (IsNodeLine (marked bench.now))
         (steps.old.items ∷ paths_from steps.old.items 0 (below_at (marked bench.now).tree.below steps.old.items))) lines.old.nodes lines.new.nodes) }
@@ -139,7 +139,7 @@ pub fn add_nodes<'b, A: Allocator, B: Allocator, V: Values>(
         V.may_fail V.asked_of V.failed_of V.is_honest values.old result values.new }
 {
     add_own(lines, bench, steps.as_slice(), before, here, values)?;
-    let count = count_at(bench, steps.as_slice());
+    let count = child_count(bench, steps.as_slice());
     for place in 0..count {
         go_down(steps, place)?;
         let next = start_from(bench, steps.as_slice(), here);

@@ -10,10 +10,12 @@ ghost use Rattle.study_text.specs.Taken.{TakesPrefix};
 ghost use Rattle.study_facts.specs.Asked.{within};
 ghost use Rattle.study_view.specs.Asked.{HasSurveyed};
 ghost use Rattle.study_view.specs.Shown.{IsShown};
-ghost use Rattle.study_view.specs.Survey.{stood, survey_line, standing_words, standing_line, IsSurvey};
+ghost use Rattle.study_view.specs.Survey.{with_man_moved, survey_line, square_result_text, standing_line, IsSurvey};
 
 use crate::fault::SurveyFault;
-use crate::squares::{Question, Standing, Stood, stand_each, with_man_at};
+use crate::survey_squares::{
+    SquareResult, SurveyQuestion, SurveyedSquare, push_results, with_man_at,
+};
 use crate::words::{add_square, letter_of};
 use std::alloc::{AllocError, Allocator};
 use std::io::Write;
@@ -50,7 +52,7 @@ fn add_only<A: Allocator>(
     m: Move,
 ) -> Result<(), AllocError>
     requires { is_legal q.now m ≡ true }
-    ensures { OnOk result (text.new ≡ text.old ++ standing_words q.now (Standing.Only value m)) }
+    ensures { OnOk result (text.new ≡ text.old ++ square_result_text q.now (SquareResult.Only value m)) }
 {
     text.add(b"only ")?;
     add_value(text, value)?;
@@ -86,18 +88,22 @@ fn add_word_of<A: Allocator>(
 /// The result for the man on a square.
 fn add_standing<A: Allocator>(
     text: &mut Text<'_, A>,
-    question: &Question<'_>,
-    x: &Stood,
+    question: &SurveyQuestion<'_>,
+    x: &SurveyedSquare,
 ) -> Result<(), AllocError>
     requires { IsShown question.now.position.now question.now.square x.now }
-    ensures { OnOk result (text.new ≡ text.old ++ standing_words (stood question.now.position.now question.now.square x.now.at) x.now.standing) }
+    ensures { OnOk result (text.new ≡ text.old ++ square_result_text (with_man_moved question.now.position.now question.now.square x.now.at) x.now.standing) }
 {
     match x.standing {
-        Standing::Impossible => text.add(b"-"),
-        Standing::Fails(value) => add_word_of(text, b"fails ", value),
-        Standing::Holds(value) => add_word_of(text, b"holds ", value),
-        Standing::HoldsBy(value, count) => add_many(text, value, count),
-        Standing::Only(value, m) => match with_man_at(question.position, question.square, x.at) {
+        SquareResult::Impossible => text.add(b"-"),
+        SquareResult::Fails(value) => add_word_of(text, b"fails ", value),
+        SquareResult::Holds(value) => add_word_of(text, b"holds ", value),
+        SquareResult::HoldsBy(value, count) => add_many(text, value, count),
+        SquareResult::Only(value, m) => match with_man_at(
+            question.position,
+            question.square,
+            x.at,
+        ) {
             None => Ok(()),
             Some(q) => add_only(text, &q, value, m),
         },
@@ -108,8 +114,8 @@ fn add_standing<A: Allocator>(
 #[tactic(auto, unfolding(crate::specs::Survey::standing_line))]
 fn add_line<A: Allocator>(
     text: &mut Text<'_, A>,
-    question: &Question<'_>,
-    x: &Stood,
+    question: &SurveyQuestion<'_>,
+    x: &SurveyedSquare,
 ) -> Result<(), AllocError>
     requires { IsShown question.now.position.now question.now.square x.now }
     ensures { OnOk result (text.new ≡ text.old ++ standing_line question.now.position.now question.now.square x.now) }
@@ -123,8 +129,8 @@ fn add_line<A: Allocator>(
 /// A line for each of the squares.
 fn add_lines<A: Allocator>(
     text: &mut Text<'_, A>,
-    question: &Question<'_>,
-    list: &[Stood],
+    question: &SurveyQuestion<'_>,
+    list: &[SurveyedSquare],
 ) -> Result<(), AllocError>
     requires { All (IsShown question.now.position.now question.now.square) list.now }
     ensures { OnOk result (text.new ≡ text.old ++ flat_map (standing_line question.now.position.now question.now.square) list.now) }
@@ -138,9 +144,9 @@ fn add_lines<A: Allocator>(
 /// The text, from the result for each square.
 fn text_of<'a, A: Allocator>(
     alloc: &'a A,
-    question: &Question<'_>,
+    question: &SurveyQuestion<'_>,
     man: &Man,
-    list: &[Stood],
+    list: &[SurveyedSquare],
 ) -> Result<Text<'a, A>, AllocError>
     requires { All (IsShown question.now.position.now question.now.square) list.now }
     ensures { IfOk result (λ text. text ≡ survey_line man.now question.now.stipulation.now
@@ -155,7 +161,7 @@ fn text_of<'a, A: Allocator>(
 /// The text of the survey.
 fn survey_text<'a, A: Allocator, V: Values>(
     alloc: &'a A,
-    question: &Question<'_>,
+    question: &SurveyQuestion<'_>,
     values: &mut V,
 ) -> Result<Text<'a, A>, SurveyFault>
     ensures text { V.is_honest values.old → IfOk result
@@ -167,7 +173,7 @@ fn survey_text<'a, A: Allocator, V: Values>(
     match question.position.man_at(question.square) {
         None => Err(SurveyFault::NoMan),
         Some(man) => {
-            let list = stand_each(question, values)?;
+            let list = push_results(question, values)?;
             let text = text_of(alloc, question, &man, list.as_slice())?;
             Ok(text)
         }
@@ -180,7 +186,7 @@ fn survey_text<'a, A: Allocator, V: Values>(
 /// writer that fails or accepts nothing ends the call; it then has a prefix of the text.
 pub fn write_survey<'a, A: Allocator, V: Values, W: Write>(
     alloc: &'a A,
-    question: &Question<'_>,
+    question: &SurveyQuestion<'_>,
     values: &mut V,
     out: &mut W,
 ) -> Result<(), SurveyFault>

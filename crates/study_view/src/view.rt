@@ -17,15 +17,15 @@ ghost use Rattle.study_view.specs.Marking.{holding_count, told_line};
 ghost use Rattle.study_view.specs.View.{start_to, node_line, head_lines, IsView, IsViewOf, asked_at};
 ghost use Rattle.study_view.specs.Words.{at_line};
 
-use crate::asking::ask_moves;
 use crate::fault::ViewFault;
-use crate::marking::{Here, add_moves};
+use crate::move_lines::{ViewNode, add_moves};
 use crate::nodes::{Lines, add_nodes};
-use crate::words::{add_at, add_sentence_line, add_start};
+use crate::probe::evaluate_legal_moves;
+use crate::words::{add_move_count, add_sentence_line, add_start};
 use std::alloc::{AllocError, Allocator};
 use std::io::Write;
-use study_facts::{Continuation, Node, value_at};
-use study_head::judge;
+use study_facts::{EvaluatedMove, NodeContext, value_at};
+use study_head::judgement_of;
 use study_marks::{Bench, aim_of};
 use study_moves::MAX_MOVES;
 use study_notation::Start;
@@ -45,7 +45,7 @@ fn add_head<'b, A: Allocator, B: Allocator>(
 {
     add_start(text, bench.start())?;
     add_stipulation_line(text, bench, root_mark(bench))?;
-    add_sentence_line(text, &judge(bench, 0))
+    add_sentence_line(text, &judgement_of(bench, 0))
 }
 
 /// The lines of all nodes.
@@ -75,8 +75,8 @@ fn text_of<'a, 'b, A: Allocator, B: Allocator>(
     alloc: &'a A,
     bench: &Bench<'b, B>,
     steps: &[u16],
-    here: &Here<'_>,
-    list: &[Continuation],
+    here: &ViewNode<'_>,
+    list: &[EvaluatedMove],
     lines: &Lines<'_, A>,
 ) -> Result<Text<'a, A>, AllocError>
     requires short { length steps.now ≤ 256 }
@@ -91,7 +91,7 @@ fn text_of<'a, 'b, A: Allocator, B: Allocator>(
     let mut text = Text::new(alloc);
     add_head(&mut text, bench)?;
     text.add(lines.nodes.as_slice())?;
-    add_at(&mut text, steps, &here.start.position)?;
+    add_move_count(&mut text, steps, &here.start.position)?;
     add_moves(&mut text, here, list)?;
     text.add(lines.zugzwangs.as_slice())?;
     Ok(text)
@@ -116,13 +116,13 @@ fn view_from<'a, 'b, A: Allocator, B: Allocator, V: Values>(
 {
     let stipulation = bench.stipulation();
     let aim = aim_of(&stipulation, bench.start().position.to_move());
-    let node = Node {
+    let node = NodeContext {
         aim: &aim,
         depth: steps.len(),
         position: &start.position,
     };
-    let moves = ask_moves(&node, values)?;
-    let here = Here {
+    let moves = evaluate_legal_moves(&node, values)?;
+    let here = ViewNode {
         aim: &aim,
         depth: steps.len(),
         start,

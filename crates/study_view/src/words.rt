@@ -5,14 +5,14 @@ ghost use Rattle.study_moves.specs.Rules.{is_legal};
 ghost use Rattle.study_notation.specs.FenSpelling.{fen_text, square_text};
 ghost use Rattle.study_marks.specs.Marks.{on_move_text};
 ghost use Rattle.study_marks.specs.Bench.{node_seen};
-ghost use Rattle.study_view.specs.Words.{promoted_text, squares_text, moved_words, led_words, mark_words, study_line, counts_line, start_lines};
+ghost use Rattle.study_view.specs.Words.{promoted_text, squares_text, moved_words, move_to_node_text, mark_words, study_line, counts_line, start_lines};
 ghost use Rattle.study_view.specs.Words.{sentence_line, shown_words, node_words, count_words, at_line, reached_words, move_line};
 
 use std::alloc::{AllocError, Allocator};
 use study_board::{Kind, Position, Square};
-use study_facts::{add_counted, add_front, add_value};
-use study_head::{Judged, add_counts, add_verdict_words};
-use study_marks::{Mark, MoveMark, Shown};
+use study_facts::{add_counted, add_line_start, add_value};
+use study_head::{Judgement, add_counts, add_verdict_words};
+use study_marks::{Mark, MoveMark, NodeView};
 use study_moves::{Move, in_check, legal_moves};
 use study_notation::{Start, write_fen};
 use study_pgn::add_san;
@@ -103,13 +103,13 @@ fn add_moved<A: Allocator>(text: &mut Text<'_, A>, p: &Position, m: &Move) -> Re
 }
 
 /// The move that led to a node.
-fn add_led<A: Allocator>(
+fn add_move_to_node<A: Allocator>(
     text: &mut Text<'_, A>,
     p: &Position,
     played: Option<Move>,
 ) -> Result<(), AllocError>
     requires { IfSome played (λ m. is_legal p.now m ≡ true) }
-    ensures { OnOk result (text.new ≡ text.old ++ led_words p.now played) }
+    ensures { OnOk result (text.new ≡ text.old ++ move_to_node_text p.now played) }
 {
     match played {
         None => text.add(b"- -"),
@@ -158,7 +158,7 @@ pub fn add_start<A: Allocator>(text: &mut Text<'_, A>, start: &Start) -> Result<
 #[tactic(auto, unfolding(crate::specs::Words::sentence_line))]
 pub fn add_sentence_line<A: Allocator>(
     text: &mut Text<'_, A>,
-    judged: &Judged,
+    judged: &Judgement,
 ) -> Result<(), AllocError>
     ensures { OnOk result (text.new ≡ text.old ++ sentence_line judged.now) }
 {
@@ -169,7 +169,7 @@ pub fn add_sentence_line<A: Allocator>(
 
 /// The part of a node's line from its value to its end.
 #[tactic(auto, unfolding(crate::specs::Words::shown_words))]
-fn add_shown<A: Allocator>(
+fn add_node_view<A: Allocator>(
     text: &mut Text<'_, A>,
     mark: Mark,
     here: &Start,
@@ -190,16 +190,16 @@ pub fn add_node<A: Allocator>(
     text: &mut Text<'_, A>,
     steps: &[u16],
     before: &Position,
-    node: &Shown,
+    node: &NodeView,
     here: &Start,
 ) -> Result<(), AllocError>
     requires { IfSome node.now.played (λ m. is_legal before.now m ≡ true) }
     ensures { OnOk result (text.new ≡ text.old ++ node_words steps.now before.now (node_seen node.now) here.now) }
 {
-    add_front(text, b"node ", steps)?;
-    add_led(text, before, node.played)?;
+    add_line_start(text, b"node ", steps)?;
+    add_move_to_node(text, before, node.played)?;
     text.add(b" ")?;
-    add_shown(text, node.mark, here)
+    add_node_view(text, node.mark, here)
 }
 
 #[tactic(auto, unfolding(crate::specs::Words::count_words))]
@@ -219,21 +219,21 @@ fn add_count<A: Allocator>(text: &mut Text<'_, A>, p: &Position) -> Result<(), A
 
 /// The number of legal moves, or how the game ended.
 #[tactic(auto, unfolding(crate::specs::Words::at_line))]
-pub fn add_at<A: Allocator>(
+pub fn add_move_count<A: Allocator>(
     text: &mut Text<'_, A>,
     steps: &[u16],
     p: &Position,
 ) -> Result<(), AllocError>
     ensures { OnOk result (text.new ≡ text.old ++ at_line steps.now p.now) }
 {
-    add_front(text, b"at ", steps)?;
+    add_line_start(text, b"at ", steps)?;
     add_count(text, p)?;
     text.add(b"\n")
 }
 
 /// The position after a move with its value and mark, to the end of the line.
 #[tactic(auto, unfolding(crate::specs::Words::reached_words))]
-fn add_reached<A: Allocator>(
+fn add_result_of_move<A: Allocator>(
     text: &mut Text<'_, A>,
     value: Value,
     mark: Option<MoveMark>,
@@ -263,5 +263,5 @@ pub fn add_move<A: Allocator>(
     text.add(b"move ")?;
     add_moved(text, &here.position, m)?;
     text.add(b" ")?;
-    add_reached(text, value, mark, &next)
+    add_result_of_move(text, value, mark, &next)
 }

@@ -22,12 +22,12 @@ use Rattle.study_script.specs.declared.tables.Tables.{Tables}
 use Rattle.study_script.specs.declared.tables.Tables.TheVariants.{Whole, Paged}
 use Rattle.study_script.specs.State.{State, is_among}
 use Rattle.study_web.specs.Views.{IsViewUntold, StudyStopped}
-use Rattle.study_script.specs.Held.{Holds, document_seen, are_paged, tables_asked, tables_failed, tables_give, tables_held, tables_honest, tables_may_fail}
+use Rattle.study_script.specs.SessionHolds.{Holds, document_seen, are_paged, tables_asked, tables_failed, tables_give, tables_held, tables_honest, tables_may_fail}
 use Rattle.study_report.specs.Told.{IsUntoldIn}
-use Rattle.study_web.specs.declared.denial.Denial.{Denial}
-use Rattle.study_web.specs.declared.denial.Denial.TheVariants as denial
-use Rattle.study_web.specs.declared.reply.NoText.{NoText}
-use Rattle.study_web.specs.declared.reply.NoText.TheVariants as no_text
+use Rattle.study_web.specs.declared.request_fault.RequestFault.{RequestFault}
+use Rattle.study_web.specs.declared.request_fault.RequestFault.TheVariants as denial
+use Rattle.study_web.specs.declared.reply.AnswerFault.{AnswerFault}
+use Rattle.study_web.specs.declared.reply.AnswerFault.TheVariants as no_text
 use Rattle.study_web.specs.declared.reply.Ending.{Ending}
 use Rattle.study_web.specs.declared.reply.Ending.TheVariants.{Answered, Refused, Ran}
 use Rattle.study_web.specs.declared.reply.Ending.TheVariants as ending
@@ -43,9 +43,9 @@ use Rattle.study_listing.specs.Stops.{StopsUndamaged}
 use Rattle.study_search.specs.Faults.{CanReport}
 use Rattle.study_web.specs.Found.{of_stop}
 use Rattle.study_web.specs.Opened.{IsHeldAs, IsOfTables, IsOfValues, IsValueUntold, IsSearchUntold, IsOfSearch}
-use Rattle.study_web.specs.Told.{denial_text, IsDenied, IsUntold}
+use Rattle.study_web.specs.Told.{denial_text, IsDenied, IsAnswerFault}
 
-pub whole_denied : (IsIt : List ℕ → Type 0) (May : Denial → Type 0) (Stops : RunFault → Type 0) (d : Denial) (text : List ℕ) (ended : Ending)
+pub whole_denied : (IsIt : List ℕ → Type 0) (May : RequestFault → Type 0) (Stops : RunFault → Type 0) (d : RequestFault) (text : List ℕ) (ended : Ending)
     → IsDenied d text ended → May d → Stops run_fault.OutOfMemory → IsWhole IsIt May Stops text ended
 whole_denied IsIt May Stops d text Answered x may stops = absurd x
 whole_denied IsIt May Stops d text (Refused e) (same, is) may stops = (subst May (sym same) may, is ∙ ap denial_text (sym same))
@@ -53,9 +53,9 @@ whole_denied IsIt May Stops d text (ending.Stopped fault) (same, is) may stops =
 whole_denied IsIt May Stops d text (Ran summary) x may stops = absurd x
 
 -- a finished text, or the reason why there is none
-pub whole_told : {V : Type 0} (made : Result V NoText) (items : V → List ℕ) (IsIt : List ℕ → Type 0) (May : Denial → Type 0)
+pub whole_told : {V : Type 0} (made : Result V AnswerFault) (items : V → List ℕ) (IsIt : List ℕ → Type 0) (May : RequestFault → Type 0)
     (Stops : RunFault → Type 0) (text : List ℕ) (ended : Ending) → IfOk made (λ v. (ended ≡ Answered) × (text ≡ items v))
-    → IfErr made (λ why. IsUntold why text ended) → IfOk made (λ v. IsIt (items v)) → IfErr made (MayEnd May Stops)
+    → IfErr made (λ why. IsAnswerFault why text ended) → IfOk made (λ v. IsIt (items v)) → IfErr made (MayEnd May Stops)
     → Stops run_fault.OutOfMemory → IsWhole IsIt May Stops text ended
 whole_told (Ok v) items IsIt May Stops text ended (e, t) untold is may stops = rw (e, t) is
 whole_told (Err (no_text.Denied d)) items IsIt May Stops text ended done untold is may stops =
@@ -63,7 +63,7 @@ whole_told (Err (no_text.Denied d)) items IsIt May Stops text ended done untold 
 whole_told (Err (no_text.Stopped fault)) items IsIt May Stops text ended done (e, t) is may stops = rw (e, t) (may, refl)
 
 -- there is no text, for this reason
-pub untold_end : (May : Denial → Type 0) (Stops : RunFault → Type 0) (why : NoText) (text : List ℕ) (ended : Ending) → IsUntold why text ended
+pub untold_end : (May : RequestFault → Type 0) (Stops : RunFault → Type 0) (why : AnswerFault) (text : List ℕ) (ended : Ending) → IsAnswerFault why text ended
     → MayEnd May Stops why → Stops run_fault.OutOfMemory → IsWhole (λ t. ⊥) May Stops text ended
 untold_end May Stops (no_text.Denied d) text ended untold may stops = whole_denied (λ t. ⊥) May Stops d text ended untold may stops
 untold_end May Stops (no_text.Stopped fault) text ended (e, t) may stops = rw (e, t) (may, refl)
@@ -76,7 +76,7 @@ Known = Class → Option (Result (List ℕ) StoreFault)
 abbrev Faults : Type 0
 Faults = Class → SourceFault → Bool
 
-pub survey_over : (h : Known) (m : Faults) (Right : Type 0) (start : Start) (square : ℕ) (d : Denial) → IsOfTables h m d
+pub survey_over : (h : Known) (m : Faults) (Right : Type 0) (start : Start) (square : ℕ) (d : RequestFault) → IsOfTables h m d
     → IsSurveyDenial (IsOfValues h m Right start.position) start square d
 survey_over h m Right start square (denial.Refused refusal) is = inl is
 survey_over h m Right start square (denial.OfFile c refusal) is = inl is
@@ -85,7 +85,7 @@ survey_over h m Right start square (denial.Unread fault) is = inl is
 
 -- ---- why a search fails
 
-pub search_over : (h : Known) (m : Faults) (Right : Type 0) (d : Denial) → IsOfTables h m d → IsOfSearch h m Right d
+pub search_over : (h : Known) (m : Faults) (Right : Type 0) (d : RequestFault) → IsOfTables h m d → IsOfSearch h m Right d
 search_over h m Right d is = inl is
 
 pub search_stopped : (h : Known) (m : Faults) (Right : Type 0) (stop : Stop) → ((c : Class) → stop ≡ stops.Values (probe.NoTable c) → IsHeldAs (h c) false)
@@ -189,43 +189,43 @@ pub probe_denial : (Untold : ProbeFault → Type 0) (Lacks : Type 0) (fault : Pr
 probe_denial Untold Lacks fault is = inr (inr (fault, is, refl))
 
 -- without a text: no such node, or no memory
-pub node_end : (Untold : ProbeFault → Type 0) (Lacks : Type 0) (Stops : RunFault → Type 0) (why : NoText)
+pub node_end : (Untold : ProbeFault → Type 0) (Lacks : Type 0) (Stops : RunFault → Type 0) (why : AnswerFault)
     → why ≡ no_text.Denied (denial.Refused NoSuchNode) → Lacks → MayEnd (IsViewDenial Untold Lacks) Stops why
 node_end Untold Lacks Stops why e h = subst (MayEnd (IsViewDenial Untold Lacks) Stops) (sym e) (node_denial Untold Lacks h)
 
-pub memory_end : {V : Type 0} (made : Result V NoText) (Untold : ProbeFault → Type 0) (Lacks : Type 0)
+pub memory_end : {V : Type 0} (made : Result V AnswerFault) (Untold : ProbeFault → Type 0) (Lacks : Type 0)
     → IfErr made (λ why. why ≡ no_text.Denied (denial.Refused OutOfMemory)) → IfErr made (MayEnd (IsViewDenial Untold Lacks) IsNever)
 memory_end (Ok v) Untold Lacks h = tt
 memory_end (Err why) Untold Lacks h = subst (MayEnd (IsViewDenial Untold Lacks) IsNever) (sym h) (memory_denial Untold Lacks)
 
 module _ (Untold Unread : ProbeFault → Type 0) (Lacks Misses : Type 0) (untold-so : (fault : ProbeFault) → Untold fault → Unread fault)
     (lacks : Lacks → Misses) where
-  weaker_view : (d : Denial) → IsViewDenial Untold Lacks d → IsViewDenial Unread Misses d
+  weaker_view : (d : RequestFault) → IsViewDenial Untold Lacks d → IsViewDenial Unread Misses d
   weaker_view d (inl same) = inl same
   weaker_view d (inr (inl (same, is))) = inr (inl (same, lacks is))
   weaker_view d (inr (inr (fault, is, same))) = inr (inr (fault, untold-so fault is, same))
 
-  weaker_end : (Stops : RunFault → Type 0) (why : NoText) → MayEnd (IsViewDenial Untold Lacks) Stops why → MayEnd (IsViewDenial Unread Misses) Stops why
+  weaker_end : (Stops : RunFault → Type 0) (why : AnswerFault) → MayEnd (IsViewDenial Untold Lacks) Stops why → MayEnd (IsViewDenial Unread Misses) Stops why
   weaker_end Stops (no_text.Denied d) h = weaker_view d h
   weaker_end Stops (no_text.Stopped fault) h = h
 
   -- an error that is passed on
-  pub passed_on : {V : Type 0} (made : Result V NoText) (Stops : RunFault → Type 0) (why : NoText) → IsErrAnd made (λ x. x ≡ why)
+  pub passed_on : {V : Type 0} (made : Result V AnswerFault) (Stops : RunFault → Type 0) (why : AnswerFault) → IsErrAnd made (λ x. x ≡ why)
       → MayEnd (IsViewDenial Untold Lacks) Stops why → IfErr made (MayEnd (IsViewDenial Unread Misses) Stops)
   passed_on (Ok v) Stops why e h = absurd e
   passed_on (Err x) Stops why e h = subst (MayEnd (IsViewDenial Unread Misses) Stops) (sym e) (weaker_end Stops why h)
 
   -- a reason why there is no view of what is left is also a reason for the script
-  pub weaker_denial : {V : Type 0} (May : Denial → Type 0) (Stops Ends : RunFault → Type 0) → ((fault : RunFault) → Stops fault → Ends fault)
-      → (made : Result V NoText) → IfErr made (MayEnd (IsViewDenial Untold Lacks) Stops)
+  pub weaker_denial : {V : Type 0} (May : RequestFault → Type 0) (Stops Ends : RunFault → Type 0) → ((fault : RunFault) → Stops fault → Ends fault)
+      → (made : Result V AnswerFault) → IfErr made (MayEnd (IsViewDenial Untold Lacks) Stops)
       → IfErr made (MayEnd (λ d. May d ⊎ IsViewDenial Unread Misses d) Ends)
   weaker_denial May Stops Ends ends (Ok v) h = tt
   weaker_denial May Stops Ends ends (Err (no_text.Denied d)) h = inr (weaker_view d h)
   weaker_denial May Stops Ends ends (Err (no_text.Stopped fault)) h = ends fault h
 
   -- the same over the files of the request
-  pub handed_denial : {V : Type 0} (May Might : Denial → Type 0) (Stops : RunFault → Type 0) → ((d : Denial) → May d → Might d)
-      → (made : Result V NoText) → IfErr made (MayEnd (λ d. May d ⊎ IsViewDenial Untold Lacks d) Stops)
+  pub handed_denial : {V : Type 0} (May Might : RequestFault → Type 0) (Stops : RunFault → Type 0) → ((d : RequestFault) → May d → Might d)
+      → (made : Result V AnswerFault) → IfErr made (MayEnd (λ d. May d ⊎ IsViewDenial Untold Lacks d) Stops)
       → IfErr made (MayEnd (λ d. Might d ⊎ IsViewDenial Unread Misses d) Stops)
   handed_denial May Might Stops may (Ok v) h = tt
   handed_denial May Might Stops may (Err (no_text.Denied d)) (inl h) = inl (may d h)
@@ -233,21 +233,21 @@ module _ (Untold Unread : ProbeFault → Type 0) (Lacks Misses : Type 0) (untold
   handed_denial May Might Stops may (Err (no_text.Stopped fault)) h = h
 
 -- the same for a survey
-module _ (May Might : Denial → Type 0) (start : Start) (square : ℕ) (may : (d : Denial) → May d → Might d) where
-  survey_end : (why : NoText) → MayEnd (IsSurveyDenial May start square) IsNoMemory why → MayEnd (IsSurveyDenial Might start square) IsNoMemory why
+module _ (May Might : RequestFault → Type 0) (start : Start) (square : ℕ) (may : (d : RequestFault) → May d → Might d) where
+  survey_end : (why : AnswerFault) → MayEnd (IsSurveyDenial May start square) IsNoMemory why → MayEnd (IsSurveyDenial Might start square) IsNoMemory why
   survey_end (no_text.Denied (denial.Refused refusal)) h = may (denial.Refused refusal) h
   survey_end (no_text.Denied (denial.OfFile c refusal)) h = may (denial.OfFile c refusal) h
   survey_end (no_text.Denied denial.NoMan) h = h
   survey_end (no_text.Denied (denial.Unread fault)) h = may (denial.Unread fault) h
   survey_end (no_text.Stopped fault) h = h
 
-  pub survey_denial : {V : Type 0} (made : Result V NoText) → IfErr made (MayEnd (IsSurveyDenial May start square) IsNoMemory)
+  pub survey_denial : {V : Type 0} (made : Result V AnswerFault) → IfErr made (MayEnd (IsSurveyDenial May start square) IsNoMemory)
       → IfErr made (MayEnd (IsSurveyDenial Might start square) IsNoMemory)
   survey_denial (Ok v) h = tt
   survey_denial (Err why) h = survey_end why h
 
 -- the same for a search
-pub search_denial : {V : Type 0} (made : Result V NoText) (May Might : Denial → Type 0) → ((d : Denial) → May d → Might d)
+pub search_denial : {V : Type 0} (made : Result V AnswerFault) (May Might : RequestFault → Type 0) → ((d : RequestFault) → May d → Might d)
     → IfErr made (MayEnd May IsNoMemory) → IfErr made (MayEnd Might IsNoMemory)
 search_denial (Ok v) May Might may h = tt
 search_denial (Err (no_text.Denied d)) May Might may h = may d h

@@ -9,14 +9,14 @@ use Rattle.study_material.specs.Needs.{IsNeeded, IsOrder}
 use Rattle.study_table.specs.Table.{Table}
 use Rattle.study_table.specs.Sound.{NeedsAreRight}
 use Rattle.study_prober.specs.WholeTables.{TablesAreRight}
-use Rattle.study_web.specs.declared.spans.Span.{Span}
+use Rattle.study_web.specs.declared.file_spans.FileSpan.{FileSpan}
 use Rattle.study_web.specs.declared.make.MakeFault.{MakeFault}
 use Rattle.study_web.specs.declared.make.MakeFault.TheVariants.{MissingTable, File, OtherClass, DistanceTooLarge, OutOfMemory}
 use Rattle.study_web.specs.Spans.{file_in}
 use Rattle.study_web.specs.Making.{IsFaultIn, IsFirstFault, IsMakeFault, IsSoundIn}
 
 -- if no file has one of these faults
-no_missing : (spans : List Span) (bytes : List ℕ) (c e : Class) (ds : List Class) → IsFirstFault spans bytes c ds (MissingTable e) → ⊥
+no_missing : (spans : List FileSpan) (bytes : List ℕ) (c e : Class) (ds : List Class) → IsFirstFault spans bytes c ds (MissingTable e) → ⊥
 no_missing spans bytes c e [] x = x
 no_missing spans bytes c e (d ∷ ds) (inl (other, x)) = none (file_in spans bytes d) x
   where
@@ -25,7 +25,7 @@ no_missing spans bytes c e (d ∷ ds) (inl (other, x)) = none (file_in spans byt
     none (Some text) x = x
 no_missing spans bytes c e (d ∷ ds) (inr (sound, x)) = no_missing spans bytes c e ds x
 
-no_distance : (spans : List Span) (bytes : List ℕ) (c : Class) (ds : List Class) → IsFirstFault spans bytes c ds DistanceTooLarge → ⊥
+no_distance : (spans : List FileSpan) (bytes : List ℕ) (c : Class) (ds : List Class) → IsFirstFault spans bytes c ds DistanceTooLarge → ⊥
 no_distance spans bytes c [] x = x
 no_distance spans bytes c (d ∷ ds) (inl (other, x)) = none (file_in spans bytes d) x
   where
@@ -35,7 +35,7 @@ no_distance spans bytes c (d ∷ ds) (inl (other, x)) = none (file_in spans byte
 no_distance spans bytes c (d ∷ ds) (inr (sound, x)) = no_distance spans bytes c ds x
 
 -- the first fault among the files that a class needs is a fault of the whole request
-pub fault_raised : (spans : List Span) (bytes : List ℕ) (c : Class) (ds : List Class) (fault : MakeFault) → IsOrder c ds
+pub fault_raised : (spans : List FileSpan) (bytes : List ℕ) (c : Class) (ds : List Class) (fault : MakeFault) → IsOrder c ds
     → IsFirstFault spans bytes c ds fault → IsMakeFault spans bytes c fault
 fault_raised spans bytes c ds (File e f) order x = (ds, order, x)
 fault_raised spans bytes c ds (OtherClass e o) order x = (ds, order, x)
@@ -44,12 +44,12 @@ fault_raised spans bytes c ds DistanceTooLarge order x = absurd (no_distance spa
 fault_raised spans bytes c ds OutOfMemory order x = tt
 
 -- the first fault among the files of the classes behind one whose file has none
-pub later_fault : {T : Type 0} (r : Result T MakeFault) (spans : List Span) (bytes : List ℕ) (c need : Class) (rest all : List Class) → all ≡ need ∷ rest
+pub later_fault : {T : Type 0} (r : Result T MakeFault) (spans : List FileSpan) (bytes : List ℕ) (c need : Class) (rest all : List Class) → all ≡ need ∷ rest
     → (need ≢ c → IsSoundIn (file_in spans bytes need) need) → IfErr r (IsFirstFault spans bytes c rest) → IfErr r (IsFirstFault spans bytes c all)
 later_fault (Ok x) spans bytes c need rest all is sound later = tt
 later_fault (Err fault) spans bytes c need rest all is sound later = rw is (inr (sound, later))
 
-pub all_raised : {T : Type 0} (r : Result T MakeFault) (spans : List Span) (bytes : List ℕ) (c : Class) (ds : List Class) → IsOrder c ds
+pub all_raised : {T : Type 0} (r : Result T MakeFault) (spans : List FileSpan) (bytes : List ℕ) (c : Class) (ds : List Class) → IsOrder c ds
     → IfErr r (IsFirstFault spans bytes c ds) → IfErr r (IsMakeFault spans bytes c)
 all_raised (Ok x) spans bytes c ds order is = tt
 all_raised (Err fault) spans bytes c ds order is = fault_raised spans bytes c ds fault order is

@@ -8,21 +8,21 @@ use Rattle.study_material.specs.declared.class.Class.{Class}
 use Rattle.study_material.specs.Class.{class_number}
 use Rattle.study_table.specs.Table.{Table, IsComplete}
 use Rattle.study_table.specs.Sound.{IsRight}
-use Rattle.study_tablefile.specs.File.{IsVersionOf, table_text, written_version}
+use Rattle.study_tablefile.specs.Format.{IsVersionOf, table_text, written_version}
 use Rattle.study_tablefile.specs.Reading.{table_read}
 use Rattle.study_prober.proofs.HeldSources.{same_class}
-use Rattle.study_web.specs.declared.spans.Span.{Span}
-use Rattle.study_web.specs.Laid.{span_after, HasNoneOf, AreWithin, OpensAs, MadeFilesOpen, MadeFilesJoinOthers}
+use Rattle.study_web.specs.declared.file_spans.FileSpan.{FileSpan}
+use Rattle.study_web.specs.Laid.{span_after, HasNoneOf, AreWithin, OpensAsTable, MadeFilesOpen, MadeFilesJoinOthers}
 use Rattle.study_web.specs.Making.{IsRightFileOf}
 use Rattle.study_web.specs.Spans.{file_in, IsHonestIn}
 
 -- ---- spans
 
-passed-over : (c : Class) (ahead more : List Span) (bytes : List ℕ) → HasNoneOf c ahead → file_in (ahead ++ more) bytes c ≡ file_in more bytes c
+passed-over : (c : Class) (ahead more : List FileSpan) (bytes : List ℕ) → HasNoneOf c ahead → file_in (ahead ++ more) bytes c ≡ file_in more bytes c
 passed-over c [] more bytes h = refl
 passed-over c (s ∷ ahead) more bytes h = rw (ne_eqb s.class (class_number c) h.0) (passed-over c ahead more bytes h.1)
 
-laid-first : (c : Class) (file before after : List ℕ) (behind : List Span)
+laid-first : (c : Class) (file before after : List ℕ) (behind : List FileSpan)
     → file_in (span_after before c file ∷ behind) (before ++ (file ++ after)) c ≡ Some file
 laid-first c file before after behind =
     let enough : length before + length file ≤ length (before ++ (file ++ after)) =
@@ -39,8 +39,8 @@ same-bytes : (start n : ℕ) (bytes more : List ℕ) → start + n ≤ length by
 same-bytes start n bytes more le =
     ap (take n) (drop-append-le start bytes more (omega arith)) ∙ take-append-le n (drop start bytes) more (omega (arith, length-drop start bytes))
 
-module _ (P : Option (List ℕ) → Type 0) (d : Class) (bytes more : List ℕ) (last : List Span) where
-  beside : (spans : List Span) → AreWithin spans bytes → P (file_in spans bytes d) → P (file_in last (bytes ++ more) d)
+module _ (P : Option (List ℕ) → Type 0) (d : Class) (bytes more : List ℕ) (last : List FileSpan) where
+  beside : (spans : List FileSpan) → AreWithin spans bytes → P (file_in spans bytes d) → P (file_in last (bytes ++ more) d)
       → P (file_in (spans ++ last) (bytes ++ more) d)
   beside [] w h k = k
   beside (s ∷ spans) w h k =
@@ -85,7 +85,7 @@ honest-none false = tt
 
 pub made-open : ReadAgain → MadeFilesOpen
 made-open again c file made ahead behind before after none =
-    subst (OpensAs c made.table) (sym (passed-over c ahead (span_after before c file ∷ behind) (before ++ (file ++ after)) none
+    subst (OpensAsTable c made.table) (sym (passed-over c ahead (span_after before c file ∷ behind) (before ++ (file ++ after)) none
     ∙ laid-first c file before after behind))
     (made.of_class, made.right, made-reads again c file made, λ by_pages. honest-made again by_pages c file made)
 

@@ -19,7 +19,7 @@ use Rattle.study_table.specs.Sound.{NeedsAreRight, HasFarPosition}
 use Rattle.study_prober.specs.WholeTables.{Whole, TablesAreRight}
 use Rattle.study_prober.proofs.HeldSources.{same_class}
 use Rattle.study_script.proofs.HeldTables.{place_below}
-use Rattle.study_web.specs.declared.spans.Span.{Span}
+use Rattle.study_web.specs.declared.file_spans.FileSpan.{FileSpan}
 use Rattle.study_web.specs.Spans.{file_in}
 use Rattle.study_web.specs.Making.{LacksFile, HasRightNeeds, HaveFiles, IsFirstLacking, IsMakeFault, IsSettled, IsTaken, is_ascending, of_build}
 use Rattle.study_web.proofs.Faults.{needs_right}
@@ -149,7 +149,7 @@ module _ {E : Type 0} (w v : Whole) (t : Table) (r : Result (Unit {0}) E) (close
       go (Err e) is k = rw k h
 
   -- an added table has a file if its class has one
-  pub keeps_files : (spans : List Span) (bytes : List ℕ) (c : Class) → t.class ≡ c → is_some (file_in spans bytes c) ≡ true
+  pub keeps_files : (spans : List FileSpan) (bytes : List ℕ) (c : Class) → t.class ≡ c → is_some (file_in spans bytes c) ≡ true
       → HaveFiles spans bytes w.tables → HaveFiles spans bytes v.tables
   keeps_files spans bytes c own file files = λ d. go r added same d
     where
@@ -166,7 +166,7 @@ module _ {E : Type 0} (w v : Whole) (t : Table) (r : Result (Unit {0}) E) (close
       go (Err e) is k d h = files d (subst (λ (y : Whole). is_some (table_of y.tables d) ≡ true) k h)
 
   -- an added table is loaded, or was loaded before, or lacks one that it needs
-  pub taken : (spans : List Span) (bytes : List ℕ) (c : Class)
+  pub taken : (spans : List FileSpan) (bytes : List ℕ) (c : Class)
       → (is_some (table_of w.tables c) ≡ false → first_missing w.tables (needs_of c) ≡ None → IsOk r) → t.class ≡ c
       → IsTaken spans bytes c w.tables v.tables
   taken spans bytes c is own = by_held (is_some (table_of w.tables c)) refl
@@ -188,7 +188,7 @@ module _ {E : Type 0} (w v : Whole) (t : Table) (r : Result (Unit {0}) E) (close
 -- ---- what is settled
 
 -- a class without a table lacks a file if what it needs is settled
-settled : NeedsComeFirst → (spans : List Span) (bytes : List ℕ) (c d : Class) (old new : List (Option Table)) → IsNeeded c d
+settled : NeedsComeFirst → (spans : List FileSpan) (bytes : List ℕ) (c d : Class) (old new : List (Option Table)) → IsNeeded c d
     → IsTaken spans bytes d old new → ((e : Class) → Contains (needs_of d) e → IsSettled spans bytes c old e) → IsSettled spans bytes c new d
 settled first spans bytes c d old new needed (inl held) before = λ l. inl held
 settled first spans bytes c d old new needed (inr (inl none)) before = λ l. inr (d, (0, refl), none)
@@ -199,7 +199,7 @@ settled first spans bytes c d old new needed (inr (inr (e, is))) before = λ l.
       | inr lacks ↦ inr (lacks.0, (suc lacks.1.0, (e, at.0, lacks.1.1)), lacks.2)
     ]
 
-settled_still : (spans : List Span) (bytes : List ℕ) (c d : Class) (old new : List (Option Table))
+settled_still : (spans : List FileSpan) (bytes : List ℕ) (c d : Class) (old new : List (Option Table))
     → (is_some (table_of old d) ≡ true → is_some (table_of new d) ≡ true) → IsSettled spans bytes c old d → IsSettled spans bytes c new d
 settled_still spans bytes c d old new keeps is = λ l. elim (is l) [ inl held ↦ inl (keeps held) | inr lacks ↦ inr lacks ]
 
@@ -211,12 +211,12 @@ held_through held closed (suc n) c d (e, k, r) h =
     held_through held closed n e d r (closed.ready c h e k)
 
 -- so a class whose table is loaded lacks no file
-has_files : (spans : List Span) (bytes : List ℕ) (held : List (Option Table)) → IsClosed held → HaveFiles spans bytes held → (c : Class)
+has_files : (spans : List FileSpan) (bytes : List ℕ) (held : List (Option Table)) → IsClosed held → HaveFiles spans bytes held → (c : Class)
     → is_some (table_of held c) ≡ true → LacksFile spans bytes c → ⊥
 has_files spans bytes held closed files c h (d, (n, r), none) =
     false≢true (sym (ap (λ (o : Option (List ℕ)). is_some o) none) ∙ files d (held_through held closed n c d r h))
 
-module _ (spans : List Span) (bytes : List ℕ) (held : List (Option Table)) (closed : IsClosed held) (files : HaveFiles spans bytes held) (d : Class) where
+module _ (spans : List FileSpan) (bytes : List ℕ) (held : List (Option Table)) (closed : IsClosed held) (files : HaveFiles spans bytes held) (d : Class) where
   lacking_at : (e : Class) (es : List Class) → ((is_some (table_of held e) ≡ true) ⊎ LacksFile spans bytes e)
       → (first_missing held es ≡ Some d → IsFirstLacking spans bytes es d) → (b : Bool) → is_some (table_of held e) ≡ b
       → cond b (first_missing held es) (Some e) ≡ Some d → IsFirstLacking spans bytes (e ∷ es) d
@@ -232,14 +232,14 @@ module _ (spans : List Span) (bytes : List ℕ) (held : List (Option Table)) (cl
       lacking_at e es (all e (at_head e es)) (first_lacking es (λ x at. all x (at_tail e es x at))) (is_some (table_of held e)) refl k
 
 -- the first class that is needed and not loaded is the first that lacks a file
-lacking : NeedsComeFirst → (spans : List Span) (bytes : List ℕ) (c d : Class) (held : List (Option Table)) → IsClosed held
+lacking : NeedsComeFirst → (spans : List FileSpan) (bytes : List ℕ) (c d : Class) (held : List (Option Table)) → IsClosed held
     → HaveFiles spans bytes held → ((e : Class) → IsNeeded c e → IsSettled spans bytes c held e) → first_missing held (needs_of c) ≡ Some d
     → IsFirstLacking spans bytes (needs_of c) d
 lacking first spans bytes c d held closed files all e =
     first_lacking spans bytes held closed files d (needs_of c) (λ x at. all x (1, (x, at, refl)) (needs_smaller first c x at)) e
 
 -- why a class is not built
-pub build_fault : NeedsComeFirst → (spans : List Span) (bytes : List ℕ) (c : Class) (held from : List (Option Table)) (fault : BuildFault)
+pub build_fault : NeedsComeFirst → (spans : List FileSpan) (bytes : List ℕ) (c : Class) (held from : List (Option Table)) (fault : BuildFault)
     → from ≡ held → ((d : Class) → fault ≡ build.MissingTable d → first_missing from (needs_of c) ≡ Some d)
     → (NeedsAreRight from c → fault ≡ build.DistanceTooLarge → HasFarPosition c)
     → (HasRightNeeds spans bytes c → TablesAreRight held) → ((e : Class) → IsNeeded c e → IsSettled spans bytes c held e)
@@ -254,7 +254,7 @@ pub added_ok : {X : Type 0} (P : AddFault → Type 0) (held : List (Option Table
     → first_missing held (needs_of c) ≡ None → MatchOption (add_fault held k) X P → X
 added_ok P held k c same lacks none is = rw (same, lacks, none) at is
 
-pub settled_ok : {E : Type 0} (r : Result (Unit {0}) E) → NeedsComeFirst → (spans : List Span) (bytes : List ℕ) (c d : Class)
+pub settled_ok : {E : Type 0} (r : Result (Unit {0}) E) → NeedsComeFirst → (spans : List FileSpan) (bytes : List ℕ) (c d : Class)
     (old new : List (Option Table)) → IsNeeded c d → OnOk r (IsTaken spans bytes d old new)
     → ((e : Class) → Contains (needs_of d) e → IsSettled spans bytes c old e) → OnOk r (IsSettled spans bytes c new d)
 settled_ok (Ok u) first spans bytes c d old new needed taken before = settled first spans bytes c d old new needed taken before
@@ -278,7 +278,7 @@ pub rest_ascends : (need : Class) (rest all : List Class) → all ≡ need ∷ r
 rest_ascends need rest all is up = tail_ascends need rest (ascends_all need rest all is up)
 
 -- what is settled after the first of the classes that are needed
-module _ (first : NeedsComeFirst) (spans : List Span) (bytes : List ℕ) (c need : Class) (rest all : List Class) (old new : List (Option Table))
+module _ (first : NeedsComeFirst) (spans : List FileSpan) (bytes : List ℕ) (c need : Class) (rest all : List Class) (old new : List (Option Table))
     (is : all ≡ need ∷ rest) (needed : (d : Class) → Contains all d → IsNeeded c d) (up : is_ascending all ≡ true)
     (before : (d : Class) → IsNeeded c d → (Contains all d → ⊥) → IsSettled spans bytes c old d)
     (one : ((d : Class) → Contains (needs_of need) d → IsSettled spans bytes c old d) → IsSettled spans bytes c new need)

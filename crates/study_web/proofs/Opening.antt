@@ -13,7 +13,7 @@ use Rattle.study_material.specs.Class.{class_list}
 use Rattle.study_material.specs.Class.{class_number}
 use Rattle.study_values.specs.declared.fault.SourceFault.{SourceFault}
 use Rattle.study_values.specs.Size.{pages_of}
-use Rattle.study_tablefile.specs.Source.{Question, of_header, of_page}
+use Rattle.study_tablefile.specs.PageSource.{Question, of_header, of_page}
 use Rattle.study_prober.specs.declared.fault.PagedFault.{PagedFault}
 use Rattle.study_prober.specs.declared.fault.PagedFault.TheVariants as paged
 use Rattle.study_prober.specs.declared.open_table.OpenTable.{OpenTable}

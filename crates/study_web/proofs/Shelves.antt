@@ -8,21 +8,21 @@ use Rattle.study_material.specs.Class.{class_number}
 use Rattle.study_values.specs.declared.fault.SourceFault.{SourceFault}
 use Rattle.study_script.specs.declared.store.StoreFault.{StoreFault}
 use Rattle.study_script.specs.declared.store.StoreFault.TheVariants as store
-use Rattle.study_script.specs.State.{Shelf, is_among, IsGiven, IsGivenAs, IsOpened}
+use Rattle.study_script.specs.State.{StoreKnowledge, is_among, IsGiven, IsGivenAs, IsOpened}
 use Rattle.study_script.proofs.HeldTables.{place_below}
-use Rattle.study_web.specs.declared.spans.Span.{Span}
+use Rattle.study_web.specs.declared.file_spans.FileSpan.{FileSpan}
 use Rattle.study_web.specs.Spans.{file_in, bytes_given, header_given, file_faults}
 use Rattle.study_values.specs.declared.values.ProbeFault.{ProbeFault}
 use Rattle.study_values.specs.declared.values.ProbeFault.TheVariants as probe
 use Rattle.study_reply.specs.declared.refusal.Refusal.{Refusal}
-use Rattle.study_web.specs.declared.denial.Denial.{Denial}
-use Rattle.study_web.specs.declared.denial.Denial.TheVariants as denial
+use Rattle.study_web.specs.declared.request_fault.RequestFault.{RequestFault}
+use Rattle.study_web.specs.declared.request_fault.RequestFault.TheVariants as denial
 use Rattle.study_web.specs.Opened.{IsHeldAs, AreHandedIn, AreAllRight, IsBadFile, IsOfTables, IsValueUntold, IsOfValues, IsOfFiles, IsOfFileValues, IsSearchUntold, IsOfSearch, IsOfFileSearch}
 use Rattle.study_web.specs.Views.{OverStore, OverFiles}
 use Rattle.study_web.specs.Store.{is_written, known, faults_known, IsShelf, AreRightFiles}
 
 -- all properties of a store
-abbrev pub shelf_in : List Span → List ℕ → List Bool → Shelf
+abbrev pub shelf_in : List FileSpan → List ℕ → List Bool → StoreKnowledge
 shelf_in spans bytes written = record {
   files = known bytes_given spans bytes written;
   headers = known header_given spans bytes written;
@@ -32,7 +32,7 @@ shelf_in spans bytes written = record {
 none_written : (c : Class) → is_written (replicate 36 false) c ≡ false
 none_written c = get_or-replicate 36 (class_number c) false false (place_below c)
 
-module _ (spans : List Span) (bytes : List ℕ) where
+module _ (spans : List FileSpan) (bytes : List ℕ) where
   known_at_first : {T : Type 0} (told : Option (List ℕ) → T) (c : Class)
       → known told spans bytes (replicate 36 false) c ≡ Some (told (file_in spans bytes c))
   known_at_first told c = rw (none_written c) refl
@@ -44,17 +44,17 @@ module _ (spans : List Span) (bytes : List ℕ) where
   first_shelf = record { files = known_at_first bytes_given; headers = known_at_first header_given; faults = faults_at_first }
 
 -- the same for a store with these spans and bytes
-pub shelf_made : {spans at : List Span} {bytes bs : List ℕ} {written : List Bool} → at ≡ spans → bs ≡ bytes → written ≡ replicate 36 false
+pub shelf_made : {spans at : List FileSpan} {bytes bs : List ℕ} {written : List Bool} → at ≡ spans → bs ≡ bytes → written ≡ replicate 36 false
     → IsShelf spans bytes (shelf_in at bs written)
 shelf_made {spans} {at} {bytes} {bs} {written} e f w = rw (e, f, w) (first_shelf spans bytes)
 
-pub honest_made : {spans at : List Span} {bytes bs : List ℕ} (trusted : Class → Bool) (by_pages : Bool) → at ≡ spans → bs ≡ bytes
+pub honest_made : {spans at : List FileSpan} {bytes bs : List ℕ} (trusted : Class → Bool) (by_pages : Bool) → at ≡ spans → bs ≡ bytes
     → AreRightFiles trusted by_pages spans bytes → AreRightFiles trusted by_pages at bs
 honest_made trusted by_pages e f right = rw (e, f) right
 
 -- ---- by pages
 
-pub right_made : {spans at : List Span} {bytes bs : List ℕ} → at ≡ spans → bs ≡ bytes → AreAllRight spans bytes → AreAllRight at bs
+pub right_made : {spans at : List FileSpan} {bytes bs : List ℕ} → at ≡ spans → bs ≡ bytes → AreAllRight spans bytes → AreAllRight at bs
 right_made e f right = rw (e, f) right
 
 -- a new store gives the files of the request
@@ -62,7 +62,7 @@ handed : (file : Option (List ℕ)) (held : Bool) → IsHeldAs (Some (header_giv
 handed None held h = h
 handed (Some text) held h = h
 
-pub handed_in : {spans at : List Span} {bytes bs : List ℕ} {written : List Bool} (classes : List Class) → at ≡ spans → bs ≡ bytes
+pub handed_in : {spans at : List FileSpan} {bytes bs : List ℕ} {written : List Bool} (classes : List Class) → at ≡ spans → bs ≡ bytes
     → written ≡ replicate 36 false → ((c : Class) → IsHeldAs (known header_given at bs written c) (is_among classes c))
     → AreHandedIn spans bytes classes
 handed_in {spans} {at} {bytes} {bs} {written} classes e f w held = λ c.
@@ -84,13 +84,13 @@ module _ (h k : Class → Option (Result (List ℕ) StoreFault)) (m n : Class �
       given_alike (Ok bytes) is = subst (λ (o : Option (Result (List ℕ) StoreFault)). IsGiven o (Ok bytes)) (same c) is
       given_alike (Err f) is = (subst (λ (o : Option (Result (List ℕ) StoreFault)). IsOpened o) (same c) is.0, sym (alike c f) ∙ is.1)
 
-  pub tables_alike : (d : Denial) → IsOfTables h m d → IsOfTables k n d
+  pub tables_alike : (d : RequestFault) → IsOfTables h m d → IsOfTables k n d
   tables_alike (denial.Refused refusal) is = is
   tables_alike (denial.OfFile c refusal) is = bad_alike c refusal is
   tables_alike denial.NoMan is = is
   tables_alike (denial.Unread fault) is = is
 
-  pub still_named : {T : Type 0} (r : Result T Denial) → IfErr r (IsOfTables h m) → IfErr r (IsOfTables k n)
+  pub still_named : {T : Type 0} (r : Result T RequestFault) → IfErr r (IsOfTables h m) → IfErr r (IsOfTables k n)
   still_named (Ok x) is = tt
   still_named (Err d) is = tables_alike d is
 
@@ -99,7 +99,7 @@ module _ (h k : Class → Option (Result (List ℕ) StoreFault)) (m n : Class �
   untold_alike Right Sound g p (probe.TableRead f) (c, needs, is) = (c, needs, sym (alike c f) ∙ is)
   untold_alike Right Sound g p (probe.PageDamaged c i) is = λ k. is (g k)
 
-  pub values_alike : (Right Sound : Type 0) → (Sound → Right) → (p : Position) (d : Denial) → IsOfValues h m Right p d → IsOfValues k n Sound p d
+  pub values_alike : (Right Sound : Type 0) → (Sound → Right) → (p : Position) (d : RequestFault) → IsOfValues h m Right p d → IsOfValues k n Sound p d
   values_alike Right Sound g p d (inl is) = inl (tables_alike d is)
   values_alike Right Sound g p d (inr (fault, is, same)) = inr (fault, untold_alike Right Sound g p fault is, same)
 
@@ -108,40 +108,40 @@ module _ (h k : Class → Option (Result (List ℕ) StoreFault)) (m n : Class �
   search_untold_alike Right Sound g (probe.TableRead f) (c, is) = (c, sym (alike c f) ∙ is)
   search_untold_alike Right Sound g (probe.PageDamaged c i) is = λ k. is (g k)
 
-  pub search_alike : (Right Sound : Type 0) → (Sound → Right) → (d : Denial) → IsOfSearch h m Right d → IsOfSearch k n Sound d
+  pub search_alike : (Right Sound : Type 0) → (Sound → Right) → (d : RequestFault) → IsOfSearch h m Right d → IsOfSearch k n Sound d
   search_alike Right Sound g d (inl is) = inl (tables_alike d is)
   search_alike Right Sound g d (inr (fault, is, same)) = inr (fault, search_untold_alike Right Sound g fault is, same)
 
 -- the same for a store with these spans and bytes
-module _ {spans at : List Span} {bytes bs : List ℕ} {written : List Bool} (e : at ≡ spans) (f : bs ≡ bytes) (w : written ≡ replicate 36 false) where
+module _ {spans at : List FileSpan} {bytes bs : List ℕ} {written : List Bool} (e : at ≡ spans) (f : bs ≡ bytes) (w : written ≡ replicate 36 false) where
   headers_made : (c : Class) → known header_given at bs written c ≡ Some (header_given (file_in spans bytes c))
   headers_made c = rw (e, f, w) (known_at_first spans bytes header_given c)
 
   faults_made : (c : Class) (fault : SourceFault) → faults_known at bs written c fault ≡ file_faults (file_in spans bytes c) c fault
   faults_made c fault = rw (e, f, w) (faults_at_first spans bytes c fault)
 
-  pub tables_made : (d : Denial) → IsOfTables (known header_given at bs written) (faults_known at bs written) d → IsOfFiles spans bytes d
+  pub tables_made : (d : RequestFault) → IsOfTables (known header_given at bs written) (faults_known at bs written) d → IsOfFiles spans bytes d
   tables_made d is = tables_alike (known header_given at bs written) (λ c. Some (header_given (file_in spans bytes c)))
       (faults_known at bs written) (λ c. file_faults (file_in spans bytes c) c) headers_made faults_made d is
 
-  pub values_made : (p : Position) (d : Denial) → IsOfValues (known header_given at bs written) (faults_known at bs written) (AreAllRight at bs) p d
+  pub values_made : (p : Position) (d : RequestFault) → IsOfValues (known header_given at bs written) (faults_known at bs written) (AreAllRight at bs) p d
       → IsOfFileValues spans bytes p d
   values_made p d is = values_alike (known header_given at bs written) (λ c. Some (header_given (file_in spans bytes c)))
       (faults_known at bs written) (λ c. file_faults (file_in spans bytes c) c) headers_made faults_made (AreAllRight at bs)
       (AreAllRight spans bytes) (right_made e f) p d is
 
-  pub search_made : (d : Denial) → IsOfSearch (known header_given at bs written) (faults_known at bs written) (AreAllRight at bs) d
+  pub search_made : (d : RequestFault) → IsOfSearch (known header_given at bs written) (faults_known at bs written) (AreAllRight at bs) d
       → IsOfFileSearch spans bytes d
   search_made d is = search_alike (known header_given at bs written) (λ c. Some (header_given (file_in spans bytes c)))
       (faults_known at bs written) (λ c. file_faults (file_in spans bytes c) c) headers_made faults_made (AreAllRight at bs)
       (AreAllRight spans bytes) (right_made e f) d is
 
   -- what is true over the store is true over the files
-  pub over_made : (IsSo : List Class → Shelf → Type 0) → OverStore (known header_given at bs written) (faults_known at bs written) IsSo
+  pub over_made : (IsSo : List Class → StoreKnowledge → Type 0) → OverStore (known header_given at bs written) (faults_known at bs written) IsSo
       → OverFiles spans bytes IsSo
   over_made IsSo (classes, held, shelf, knows, is) = (classes, handed_in classes e f w held, shelf, (λ c x. knows c x ∙ faults_made c x), is)
 
-  pub views_made : {V E : Type 0} (made : Result V E) (IsSo : V → List Class → Shelf → Type 0)
+  pub views_made : {V E : Type 0} (made : Result V E) (IsSo : V → List Class → StoreKnowledge → Type 0)
       → IfOk made (λ v. OverStore (known header_given at bs written) (faults_known at bs written) (IsSo v))
       → IfOk made (λ v. OverFiles spans bytes (IsSo v))
   views_made (Ok v) IsSo h = over_made (IsSo v) h

@@ -12,9 +12,9 @@ use Rattle.study_values.specs.declared.values.ProbeFault.{ProbeFault}
 use Rattle.study_script.specs.declared.running.Summary.{Summary}
 use Rattle.study_script.specs.declared.running.RunFault.{RunFault}
 use Rattle.study_script.specs.declared.running.RunFault.TheVariants as run_fault
-use Rattle.study_script.specs.Outcome.{Outcome, begun_state, Shape as RunShape}
+use Rattle.study_script.specs.Outcome.{Outcome, initial_state, Shape as RunShape}
 use Rattle.study_script.specs.Written.{Fits as RunFits}
-use Rattle.study_script.specs.State.{Shelf}
+use Rattle.study_script.specs.State.{StoreKnowledge}
 use Rattle.study_script.specs.Stores.{AreTrusted}
 use Rattle.study_report.specs.Lines.{no_remark}
 use Rattle.study_report.specs.Outcome.{Outcome as ReportOutcome, Shape}
@@ -26,15 +26,15 @@ use Rattle.study_search.specs.declared.only_moves.Outcome.{Outcome as SoughtOutc
 use Rattle.study_listing.specs.declared.piece_words.Piece.{Piece}
 use Rattle.study_listing.specs.Pieces.{AreLookedAt, IsPiece}
 use Rattle.study_import.specs.Imported.{script_of, all_games}
-use Rattle.study_web.specs.declared.denial.Denial.{Denial}
-use Rattle.study_web.specs.declared.denial.Denial.TheVariants as denial
+use Rattle.study_web.specs.declared.request_fault.RequestFault.{RequestFault}
+use Rattle.study_web.specs.declared.request_fault.RequestFault.TheVariants as denial
 use Rattle.study_web.specs.declared.make.MakeFault.{MakeFault}
 use Rattle.study_web.specs.declared.make.MakeFault.TheVariants as make_fault
-use Rattle.study_web.specs.declared.reply.NoText.{NoText}
-use Rattle.study_web.specs.declared.reply.NoText.TheVariants as no_text
+use Rattle.study_web.specs.declared.reply.AnswerFault.{AnswerFault}
+use Rattle.study_web.specs.declared.reply.AnswerFault.TheVariants as no_text
 use Rattle.study_web.specs.declared.reply.Ending.{Ending}
 use Rattle.study_web.specs.declared.reply.Ending.TheVariants.{Answered, Refused, Ran, Stopped}
-use Rattle.study_web.specs.declared.spans.Span.{Span}
+use Rattle.study_web.specs.declared.file_spans.FileSpan.{FileSpan}
 use Rattle.study_web.specs.Spans.{spans_for}
 use Rattle.study_web.specs.Making.{IsRightFileOf, IsMakeFault, HasRightNeeds}
 use Rattle.study_web.specs.Opened.{AreAllRight, IsOfFiles, IsOfFileValues, IsOfFileSearch}
@@ -48,14 +48,14 @@ use Rattle.study_web.specs.Views.{refused_line, over_files, IsViewOver, IsUntold
 -- ---- how a request ends that is answered as a whole or refused
 
 -- the text has the property; or the request is refused by its name; or its script is not read to its end
-abbrev pub IsWhole : (List ℕ → Type 0) → (Denial → Type 0) → (RunFault → Type 0) → List ℕ → Ending → Type 0
+abbrev pub IsWhole : (List ℕ → Type 0) → (RequestFault → Type 0) → (RunFault → Type 0) → List ℕ → Ending → Type 0
 IsWhole IsIt May Stops text Answered = IsIt text
 IsWhole IsIt May Stops text (Refused d) = May d × (text ≡ denial_text d)
 IsWhole IsIt May Stops text (Stopped fault) = Stops fault × (text ≡ [])
 IsWhole IsIt May Stops text (Ran summary) = ⊥
 
 -- the same if there is no text
-abbrev pub MayEnd : (Denial → Type 0) → (RunFault → Type 0) → NoText → Type 0
+abbrev pub MayEnd : (RequestFault → Type 0) → (RunFault → Type 0) → AnswerFault → Type 0
 MayEnd May Stops (no_text.Denied d) = May d
 MayEnd May Stops (no_text.Stopped fault) = Stops fault
 
@@ -63,7 +63,7 @@ MayEnd May Stops (no_text.Stopped fault) = Stops fault
 abbrev pub IsNoMemory : RunFault → Type 0
 IsNoMemory fault = fault ≡ run_fault.OutOfMemory
 
-abbrev pub IsOutOfMemory : Denial → Type 0
+abbrev pub IsOutOfMemory : RequestFault → Type 0
 IsOutOfMemory d = d ≡ denial.Refused OutOfMemory
 
 -- Why a run over the bytes of a request stops if it writes into memory: reader and writer fail only for want of memory.
@@ -86,83 +86,83 @@ IsNever fault = ⊥
 -- ---- the files that are opened
 
 -- those of the classes that the script's positions need
-abbrev pub AreNeeded : List Span → List ℕ → List Span → Type 0
+abbrev pub AreNeeded : List FileSpan → List ℕ → List FileSpan → Type 0
 AreNeeded spans script those =
     (classes : List Class) × AreClassesNeeded (positions_in (script_lines script)) classes × (those ≡ spans_for classes spans)
 
 -- true over these files, and no others are opened; or the script is not read to the end, or there is no memory
-abbrev pub OverNeeded : List Span → List ℕ → (List Span → List ℕ → Ending → Type 0) → List ℕ → Ending → Type 0
+abbrev pub OverNeeded : List FileSpan → List ℕ → (List FileSpan → List ℕ → Ending → Type 0) → List ℕ → Ending → Type 0
 OverNeeded spans script IsIt text ended =
-    IsWhole (λ t. ⊥) IsOutOfMemory (IsUnread script) text ended ⊎ ((those : List Span) × AreNeeded spans script those × IsIt those text ended)
+    IsWhole (λ t. ⊥) IsOutOfMemory (IsUnread script) text ended ⊎ ((those : List FileSpan) × AreNeeded spans script those × IsIt those text ended)
 
 -- ---- each request
 
 -- The replies to the script, if the files that it loads are right. Whatever the files are, the run stops exactly where it must, for one of its own faults,
 -- and counts its lines, and as refused those for which it writes an error. Studies are kept apart.
-abbrev pub IsRun : List Span → List ℕ → Bool → List ℕ → List ℕ → Ending → Type 0
+abbrev pub IsRun : List FileSpan → List ℕ → Bool → List ℕ → List ℕ → Ending → Type 0
 IsRun spans bytes by_pages script text ended =
     (summary : Result Summary RunFault) × (ended ≡ ending_of summary) × IsOwnEnd summary
     × ((left : Option (List ℕ)) × RunShape script left summary)
     × ((left : Option (List ℕ)) × RunFits script left (Some []) (Some text) summary)
     × ((trusted : Class → Bool) → AreRightFiles trusted by_pages spans bytes → AreTrusted trusted script
-    → (shelf : Shelf) × IsShelf spans bytes shelf × (left : Option (List ℕ))
-    × Outcome true (begun_state shelf by_pages) script left (Some []) (Some text) summary)
+    → (shelf : StoreKnowledge) × IsShelf spans bytes shelf × (left : Option (List ℕ))
+    × Outcome true (initial_state shelf by_pages) script left (Some []) (Some text) summary)
 
 -- the refusal for a file that cannot be made
-abbrev pub of_make : MakeFault → Denial
-of_make (make_fault.MissingTable c) = denial.Refused (MissingTable c)
-of_make (make_fault.File c fault) = denial.OfFile c (File fault)
-of_make (make_fault.OtherClass c d) = denial.OfFile c (OtherClass d)
-of_make make_fault.DistanceTooLarge = denial.Refused DistanceTooLarge
-of_make make_fault.OutOfMemory = denial.Refused OutOfMemory
+abbrev pub answer_make : MakeFault → RequestFault
+answer_make (make_fault.MissingTable c) = denial.Refused (MissingTable c)
+answer_make (make_fault.File c fault) = denial.OfFile c (File fault)
+answer_make (make_fault.OtherClass c d) = denial.OfFile c (OtherClass d)
+answer_make make_fault.DistanceTooLarge = denial.Refused DistanceTooLarge
+answer_make make_fault.OutOfMemory = denial.Refused OutOfMemory
 
-abbrev pub IsMakeDenial : List Span → List ℕ → Class → Denial → Type 0
-IsMakeDenial spans bytes c d = (fault : MakeFault) × IsMakeFault spans bytes c fault × (d ≡ of_make fault)
+abbrev pub IsMakeDenial : List FileSpan → List ℕ → Class → RequestFault → Type 0
+IsMakeDenial spans bytes c d = (fault : MakeFault) × IsMakeFault spans bytes c fault × (d ≡ answer_make fault)
 
 -- the file of the class's right table, if the files of the classes that it needs are right
-abbrev pub IsMadeFile : List Span → List ℕ → Class → List ℕ → Type 0
+abbrev pub IsMadeFile : List FileSpan → List ℕ → Class → List ℕ → Type 0
 IsMadeFile spans bytes c text = HasRightNeeds spans bytes c → IsRightFileOf c text
 
-abbrev pub IsMade : List Span → List ℕ → Class → List ℕ → Ending → Type 0
-IsMade spans bytes c = IsWhole (IsMadeFile spans bytes c) (IsMakeDenial spans bytes c) IsNoMemory
+abbrev pub IsMakeAnswer : List FileSpan → List ℕ → Class → List ℕ → Ending → Type 0
+IsMakeAnswer spans bytes c = IsWhole (IsMadeFile spans bytes c) (IsMakeDenial spans bytes c) IsNoMemory
 
 -- why there is no view: want of memory, no node at the path, or a value that cannot be read; each of the last two only if it is the case
-abbrev pub IsViewDenial : (ProbeFault → Type 0) → Type 0 → Denial → Type 0
+abbrev pub IsViewDenial : (ProbeFault → Type 0) → Type 0 → RequestFault → Type 0
 IsViewDenial Untold Lacks d =
     (d ≡ denial.Refused OutOfMemory) ⊎ ((d ≡ denial.Refused NoSuchNode) × Lacks)
     ⊎ ((fault : ProbeFault) × Untold fault × (d ≡ denial.Refused (of_probe fault)))
 
 -- The view of what the script leaves, over right files; a node is missing, or a value cannot be read, only as the script leaves it.
-abbrev pub IsViewed : List Span → List ℕ → List ℕ → List ℕ → List ℕ → Ending → Type 0
+abbrev pub IsViewed : List FileSpan → List ℕ → List ℕ → List ℕ → List ℕ → Ending → Type 0
 IsViewed spans bytes script steps =
     IsWhole (λ text. AreAllRight spans bytes → OverFiles spans bytes (IsViewOver script steps text))
     (λ d. IsOfFiles spans bytes d ⊎ IsViewDenial (λ fault. AreAllRight spans bytes → OverFiles spans bytes (IsUntoldOver script fault))
     (AreAllRight spans bytes → OverFiles spans bytes (LacksNodeOver script steps)) d) (IsUnread script)
 
 -- the review of the script's studies
-abbrev pub IsReviewOver : List ℕ → List ℕ → Result Summary RunFault → List Class → Shelf → Type 0
+abbrev pub IsReviewOver : List ℕ → List ℕ → Result Summary RunFault → List Class → StoreKnowledge → Type 0
 IsReviewOver script text summary classes shelf =
     (left : Option (List ℕ)) × ReportOutcome IsReviewOf refused_line no_remark (over_files classes shelf) script left (Some []) (Some text) summary
 
 -- the same over right files; or the request is refused for one of the files, or there is no memory
-abbrev pub IsReviewedTo : List Span → List ℕ → List ℕ → List ℕ → Result Summary RunFault → Type 0
+abbrev pub IsReviewedTo : List FileSpan → List ℕ → List ℕ → List ℕ → Result Summary RunFault → Type 0
 IsReviewedTo spans bytes script text summary = AreAllRight spans bytes → OverFiles spans bytes (IsReviewOver script text summary)
 
-abbrev pub IsReviewed : List Span → List ℕ → List ℕ → List ℕ → Ending → Type 0
+abbrev pub IsReviewed : List FileSpan → List ℕ → List ℕ → List ℕ → Ending → Type 0
 IsReviewed spans bytes script text Answered = ⊥
 IsReviewed spans bytes script text (Refused d) = IsOfFiles spans bytes d × (text ≡ denial_text d)
 IsReviewed spans bytes script text (Ran summary) = IsReviewedTo spans bytes script text (Ok summary)
 IsReviewed spans bytes script text (Stopped fault) = IsOwn fault × IsReviewedTo spans bytes script text (Err fault)
 
 -- the printed pages of the script's studies
-abbrev pub IsFileOver : List ℕ → List ℕ → Result Summary RunFault → List Class → Shelf → Type 0
+abbrev pub IsFileOver : List ℕ → List ℕ → Result Summary RunFault → List Class → StoreKnowledge → Type 0
 IsFileOver script text summary classes shelf = (left : Option (List ℕ)) × IsFile (over_files classes shelf) script left (Some []) (Some text) summary
 
 -- The same over right files; or the request is refused for one of the files, or there is no memory for the name of the refusal.
-abbrev pub IsPrintedTo : List Span → List ℕ → List ℕ → List ℕ → Result Summary RunFault → Type 0
+abbrev pub IsPrintedTo : List FileSpan → List ℕ → List ℕ → List ℕ → Result Summary RunFault → Type 0
 IsPrintedTo spans bytes script text summary = AreAllRight spans bytes → OverFiles spans bytes (IsFileOver script text summary)
 
-abbrev pub IsPrinted : List Span → List ℕ → List ℕ → List ℕ → Ending → Type 0
+abbrev pub IsPrinted : List FileSpan → List ℕ → List ℕ → List ℕ → Ending → Type 0
 IsPrinted spans bytes script text Answered = ⊥
 IsPrinted spans bytes script text (Refused d) = IsOfFiles spans bytes d × (text ≡ denial_text d)
 IsPrinted spans bytes script text (Ran summary) = IsPrintedTo spans bytes script text (Ok summary)
@@ -170,18 +170,18 @@ IsPrinted spans bytes script text (Stopped fault) =
     IsOwn fault × (((fault ≡ run_fault.OutOfMemory) × (text ≡ [])) ⊎ IsPrintedTo spans bytes script text (Err fault))
 
 -- there is no survey if the square is empty, or if the tables or their values cannot be read
-abbrev pub IsSurveyDenial : (Denial → Type 0) → Start → ℕ → Denial → Type 0
+abbrev pub IsSurveyDenial : (RequestFault → Type 0) → Start → ℕ → RequestFault → Type 0
 IsSurveyDenial May start square denial.NoMan = man_at start.position.men square ≡ None
 IsSurveyDenial May start square d = May d
 
 -- the survey of the man, over right files
-abbrev pub IsSurveyed : List Span → List ℕ → ℕ → Stipulation → Start → List ℕ → Ending → Type 0
+abbrev pub IsSurveyed : List FileSpan → List ℕ → ℕ → Stipulation → Start → List ℕ → Ending → Type 0
 IsSurveyed spans bytes square st start =
     IsWhole (λ text. AreAllRight spans bytes → IsSurvey start.position square st text) (IsSurveyDenial (IsOfFileValues spans bytes start.position) start square)
     IsNoMemory
 
 -- the same over the files that the position needs; no others are opened
-abbrev pub IsSurveyedTo : List Span → List ℕ → ℕ → Stipulation → Start → List ℕ → Ending → Type 0
+abbrev pub IsSurveyedTo : List FileSpan → List ℕ → ℕ → Stipulation → Start → List ℕ → Ending → Type 0
 IsSurveyedTo spans bytes square st start text ended =
     (classes : List Class) × AreClassesNeeded (start.position ∷ []) classes
     × IsSurveyed (spans_for classes spans) bytes square st start text ended
@@ -196,21 +196,21 @@ IsPassedList start =
     IsWhole (λ text. text ≡ squares_text (passed_squares start.position.men start.position.to_move)) IsOutOfMemory IsNoMemory
 
 -- the piece of a list, if the opened files are right
-abbrev pub IsFoundOver : List Span → List ℕ → Piece → List ℕ → Ending → Type 0
+abbrev pub IsFoundOver : List FileSpan → List ℕ → Piece → List ℕ → Ending → Type 0
 IsFoundOver spans bytes piece = IsWhole (λ text. AreAllRight spans bytes → IsPiece piece text) (IsOfFileSearch spans bytes) IsNoMemory
 
 -- the same over the files of the class and of the classes that it needs; no others are opened
-abbrev pub IsFoundTo : List Span → List ℕ → Piece → List ℕ → Ending → Type 0
+abbrev pub IsFoundTo : List FileSpan → List ℕ → Piece → List ℕ → Ending → Type 0
 IsFoundTo spans bytes piece text ended =
     (classes : List Class) × AreLookedAt piece.request classes × IsFoundOver (spans_for classes spans) bytes piece text ended
 
 -- the number of only moves in a row from the position, if the opened files are right
-abbrev pub IsRowOver : List Span → List ℕ → SoughtOutcome → Start → List ℕ → Ending → Type 0
+abbrev pub IsRowOver : List FileSpan → List ℕ → SoughtOutcome → Start → List ℕ → Ending → Type 0
 IsRowOver spans bytes o start =
     IsWhole (λ text. AreAllRight spans bytes → IsRow o start.position text) (IsOfFileSearch spans bytes) IsNoMemory
 
 -- the same over the files that the position needs; no others are opened
-abbrev pub IsRowTo : List Span → List ℕ → SoughtOutcome → Start → List ℕ → Ending → Type 0
+abbrev pub IsRowTo : List FileSpan → List ℕ → SoughtOutcome → Start → List ℕ → Ending → Type 0
 IsRowTo spans bytes o start text ended =
     (classes : List Class) × AreClassesNeeded (start.position ∷ []) classes × IsRowOver (spans_for classes spans) bytes o start text ended
 
@@ -220,9 +220,9 @@ IsImported pgn given = IsWhole (λ text. text ≡ script_of (all_games given) pg
 
 -- ---- the answer
 
-abbrev pub IsAnswerTo : List Span → List ℕ → Bool → List ℕ → Asked → List ℕ → Ending → Type 0
+abbrev pub IsAnswerTo : List FileSpan → List ℕ → Bool → List ℕ → Asked → List ℕ → Ending → Type 0
 IsAnswerTo spans bytes by_pages script run text ended = IsRun spans bytes by_pages script text ended
-IsAnswerTo spans bytes by_pages script (make c) text ended = IsMade spans bytes c text ended
+IsAnswerTo spans bytes by_pages script (make c) text ended = IsMakeAnswer spans bytes c text ended
 IsAnswerTo spans bytes by_pages script (view steps) text ended = OverNeeded spans script (λ those. IsViewed those bytes script steps) text ended
 IsAnswerTo spans bytes by_pages script review text ended = OverNeeded spans script (λ those. IsReviewed those bytes script) text ended
 IsAnswerTo spans bytes by_pages script report text ended = OverNeeded spans script (λ those. IsPrinted those bytes script) text ended
@@ -235,14 +235,14 @@ IsAnswerTo spans bytes by_pages script (row o start) text ended = IsRowTo spans 
 IsAnswerTo spans bytes by_pages script (bring given) text ended = IsImported script given text ended
 
 -- the answer to the request, or the reason why the line is not a valid request
-abbrev pub IsAnswer : List Span → List ℕ → Bool → List ℕ → Asks → List ℕ → Ending → Type 0
+abbrev pub IsAnswer : List FileSpan → List ℕ → Bool → List ℕ → Asks → List ℕ → Ending → Type 0
 IsAnswer spans bytes by_pages script (Ok asked) text ended = IsAnswerTo spans bytes by_pages script asked text ended
 IsAnswer spans bytes by_pages script (Err refusal) text ended = IsDenied (denial.Refused refusal) text ended
 
 -- ---- the bytes that a module writes back
 
 -- three numbers for each span; numbers left over are ignored
-abbrev pub spans_of : List ℕ → List Span
+abbrev pub spans_of : List ℕ → List FileSpan
 spans_of (c ∷ s ∷ l ∷ more) = record { class = c; start = s; length = l } ∷ spans_of more
 spans_of _ = []
 

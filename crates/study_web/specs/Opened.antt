@@ -16,9 +16,9 @@ use Rattle.study_script.specs.State.{is_among, IsGiven, IsGivenAs}
 use Rattle.study_reply.specs.declared.refusal.Refusal.{Refusal}
 use Rattle.study_reply.specs.declared.refusal.Refusal.TheVariants.{OutOfMemory, Device}
 use Rattle.study_reply.specs.Names.{of_probe}
-use Rattle.study_web.specs.declared.denial.Denial.{Denial}
-use Rattle.study_web.specs.declared.denial.Denial.TheVariants as denial
-use Rattle.study_web.specs.declared.spans.Span.{Span}
+use Rattle.study_web.specs.declared.request_fault.RequestFault.{RequestFault}
+use Rattle.study_web.specs.declared.request_fault.RequestFault.TheVariants as denial
+use Rattle.study_web.specs.declared.file_spans.FileSpan.{FileSpan}
 use Rattle.study_web.specs.Spans.{file_in, header_given, file_faults, IsHonestIn}
 
 -- a table is loaded for each class whose header can be read, and for no class whose file cannot be opened
@@ -28,15 +28,15 @@ IsHeldAs (Some (Ok header)) held = held ≡ true
 IsHeldAs (Some (Err fault)) held = held ≡ false
 
 -- the classes whose files come with the request
-abbrev pub AreHandedIn : List Span → List ℕ → List Class → Type 0
+abbrev pub AreHandedIn : List FileSpan → List ℕ → List Class → Type 0
 AreHandedIn spans bytes classes = (c : Class) → is_among classes c ≡ is_some (file_in spans bytes c)
 
 -- each file of the request is the text of a right table
-abbrev pub AreAllRight : List Span → List ℕ → Type 0
+abbrev pub AreAllRight : List FileSpan → List ℕ → Type 0
 AreAllRight spans bytes = (c : Class) → IsHonestIn true (file_in spans bytes c)
 
 -- the refusal for a source of pages with this fault
-abbrev pub denial_of : Class → PagedFault → Denial
+abbrev pub denial_of : Class → PagedFault → RequestFault
 denial_of c paged.OutOfMemory = denial.Refused OutOfMemory
 denial_of c fault = denial.OfFile c (refusal_of_paged fault)
 
@@ -51,7 +51,7 @@ IsBadFile known faults c refusal =
 -- the headers and the faults of the classes' files
 module _ (headers : Class → Option (Result (List ℕ) StoreFault)) (faults : Class → SourceFault → Bool) where
   -- why the tables are not opened: a file is not a table, or there is no memory
-  abbrev pub IsOfTables : Denial → Type 0
+  abbrev pub IsOfTables : RequestFault → Type 0
   IsOfTables (denial.Refused refusal) = refusal ≡ OutOfMemory
   IsOfTables (denial.OfFile c refusal) = IsBadFile (headers c) (faults c) c refusal
   IsOfTables denial.NoMan = ⊥
@@ -65,7 +65,7 @@ module _ (headers : Class → Option (Result (List ℕ) StoreFault)) (faults : C
   IsValueUntold Right p (probe.PageDamaged c n) = Right → ⊥
 
   -- why the tables give no answer: they are not opened, or a value cannot be read
-  abbrev pub IsOfValues : Type 0 → Position → Denial → Type 0
+  abbrev pub IsOfValues : Type 0 → Position → RequestFault → Type 0
   IsOfValues Right p d = IsOfTables d ⊎ ((fault : ProbeFault) × IsValueUntold Right p fault × (d ≡ denial.Refused (of_probe fault)))
 
   -- Why a search has no answer: the tables are not opened, or a value cannot be read: there is no file for its class, or it cannot be read, or a page is
@@ -75,17 +75,17 @@ module _ (headers : Class → Option (Result (List ℕ) StoreFault)) (faults : C
   IsSearchUntold Right (probe.TableRead f) = (c : Class) × (faults c f ≡ true)
   IsSearchUntold Right (probe.PageDamaged c n) = Right → ⊥
 
-  abbrev pub IsOfSearch : Type 0 → Denial → Type 0
+  abbrev pub IsOfSearch : Type 0 → RequestFault → Type 0
   IsOfSearch Right d = IsOfTables d ⊎ ((fault : ProbeFault) × IsSearchUntold Right fault × (d ≡ denial.Refused (of_probe fault)))
 
 -- the same for the files of the request
-abbrev pub IsOfFiles : List Span → List ℕ → Denial → Type 0
+abbrev pub IsOfFiles : List FileSpan → List ℕ → RequestFault → Type 0
 IsOfFiles spans bytes = IsOfTables (λ c. Some (header_given (file_in spans bytes c))) (λ c. file_faults (file_in spans bytes c) c)
 
-abbrev pub IsOfFileValues : List Span → List ℕ → Position → Denial → Type 0
+abbrev pub IsOfFileValues : List FileSpan → List ℕ → Position → RequestFault → Type 0
 IsOfFileValues spans bytes =
     IsOfValues (λ c. Some (header_given (file_in spans bytes c))) (λ c. file_faults (file_in spans bytes c) c) (AreAllRight spans bytes)
 
-abbrev pub IsOfFileSearch : List Span → List ℕ → Denial → Type 0
+abbrev pub IsOfFileSearch : List FileSpan → List ℕ → RequestFault → Type 0
 IsOfFileSearch spans bytes =
     IsOfSearch (λ c. Some (header_given (file_in spans bytes c))) (λ c. file_faults (file_in spans bytes c) c) (AreAllRight spans bytes)

@@ -25,9 +25,9 @@ use Rattle.study_web.specs.declared.request.Request.{Request}
 use Rattle.study_web.specs.declared.request.Request.TheVariants as request
 
 -- nothing follows the word
-abbrev pub alone : Asked → List (List ℕ) → Asks
-alone asked [] = Ok asked
-alone asked (word ∷ more) = Err (Form BadArguments)
+abbrev pub without_arguments : Asked → List (List ℕ) → Asks
+without_arguments asked [] = Ok asked
+without_arguments asked (word ∷ more) = Err (Form BadArguments)
 
 -- ---- the arguments
 
@@ -109,7 +109,7 @@ row_asked (outcome ∷ more) text = row_for (outcome_named outcome) (behind_word
 -- nothing, or `SIDE GOAL`
 abbrev pub brought_for : Option (Stipulation × List ℕ) → Asks
 brought_for None = Err (Form UnknownStipulation)
-brought_for (Some (stipulation, rest)) = alone (bring (Some stipulation)) (words rest)
+brought_for (Some (stipulation, rest)) = without_arguments (bring (Some stipulation)) (words rest)
 
 abbrev pub import_asked : List (List ℕ) → List ℕ → Asks
 import_asked [] text = Ok (bring None)
@@ -120,12 +120,12 @@ import_asked (side ∷ more) text = brought_for (stipulation_begun (side ∷ mor
 -- the first word, and the text after it
 unfoldable pub word_asked : List ℕ → List ℕ → Asks
 word_asked word rest =
-    if bytes_eq word (codes "run") then alone run (words rest)
+    if bytes_eq word (codes "run") then without_arguments run (words rest)
     else (if bytes_eq word (codes "view") then view_asked (one_word (words rest))
-    else (if bytes_eq word (codes "review") then alone review (words rest)
-    else (if bytes_eq word (codes "report") then alone report (words rest)
+    else (if bytes_eq word (codes "review") then without_arguments review (words rest)
+    else (if bytes_eq word (codes "report") then without_arguments report (words rest)
     else (if bytes_eq word (codes "survey") then survey_asked (words rest) rest
-    else (if bytes_eq word (codes "tables") then alone tables (words rest)
+    else (if bytes_eq word (codes "tables") then without_arguments tables (words rest)
     else (if bytes_eq word (codes "passed") then with_start passed (start_of rest)
     else (if bytes_eq word (codes "make") then make_asked (one_word (words rest))
     else (if bytes_eq word (codes "find") then find_asked (words rest)

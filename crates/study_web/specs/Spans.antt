@@ -9,27 +9,27 @@ use Rattle.study_script.specs.declared.store.StoreFault.{StoreFault}
 use Rattle.study_script.specs.declared.store.StoreFault.TheVariants.{NoFile}
 use Rattle.study_script.specs.Memory.{IsRightText, text_faults}
 use Rattle.study_script.specs.Stores.{IsRightFile}
-use Rattle.study_web.specs.declared.spans.Span.{Span}
+use Rattle.study_web.specs.declared.file_spans.FileSpan.{FileSpan}
 
 -- a span for this class that lies within the bytes
-abbrev pub is_file_of : Class → List ℕ → Span → Bool
+abbrev pub is_file_of : Class → List ℕ → FileSpan → Bool
 is_file_of c bytes s = (s.class == class_number c) && nat_le (s.start + s.length) (length bytes)
 
 -- the file of a class: the bytes of the first such span
-abbrev pub file_in : List Span → List ℕ → Class → Option (List ℕ)
+abbrev pub file_in : List FileSpan → List ℕ → Class → Option (List ℕ)
 file_in [] bytes c = None
 file_in (s ∷ more) bytes c = if is_file_of c bytes s then Some (take s.length (drop s.start bytes)) else file_in more bytes c
 
 -- ---- the files of some classes
 
-abbrev pub is_for_one : List Class → Span → Bool
+abbrev pub is_for_one : List Class → FileSpan → Bool
 is_for_one classes s = list_any (λ c. s.class == class_number c) classes
 
-abbrev pub span_for : List Class → Span → List Span
+abbrev pub span_for : List Class → FileSpan → List FileSpan
 span_for classes s = if is_for_one classes s then s ∷ [] else []
 
 -- the spans of these classes
-abbrev pub spans_for : List Class → List Span → List Span
+abbrev pub spans_for : List Class → List FileSpan → List FileSpan
 spans_for classes [] = []
 spans_for classes (s ∷ more) = span_for classes s ++ spans_for classes more
 

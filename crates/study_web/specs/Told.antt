@@ -7,10 +7,10 @@ use Rattle.study_script.specs.declared.running.RunFault.{RunFault}
 use Rattle.study_script.specs.declared.running.RunFault.TheVariants.{ReadDevice, WriteDevice, LineTooLong, TooManyLines, OutOfMemory}
 use Rattle.study_listing.specs.declared.filter_words.Unread.{Unread}
 use Rattle.study_listing.specs.declared.filter_words.Unread.TheVariants as unread
-use Rattle.study_web.specs.declared.denial.Denial.{Denial}
-use Rattle.study_web.specs.declared.denial.Denial.TheVariants as denial
-use Rattle.study_web.specs.declared.reply.NoText.{NoText}
-use Rattle.study_web.specs.declared.reply.NoText.TheVariants as no_text
+use Rattle.study_web.specs.declared.request_fault.RequestFault.{RequestFault}
+use Rattle.study_web.specs.declared.request_fault.RequestFault.TheVariants as denial
+use Rattle.study_web.specs.declared.reply.AnswerFault.{AnswerFault}
+use Rattle.study_web.specs.declared.reply.AnswerFault.TheVariants as no_text
 use Rattle.study_web.specs.declared.reply.Ending.{Ending}
 use Rattle.study_web.specs.declared.reply.Ending.TheVariants.{Answered, Refused, Ran, Stopped}
 
@@ -25,7 +25,7 @@ unread_text unread.NoSuchFilter = codes "NoSuchFilter\n"
 unread_text unread.NoKeyMove = codes "NoKeyMove\n"
 
 -- `NoSuchNode`, `MissingTable KQK`, `KRK HeaderDamaged`
-abbrev pub denial_text : Denial → List ℕ
+abbrev pub denial_text : RequestFault → List ℕ
 denial_text (denial.Refused refusal) = line_of (words_of refusal)
 denial_text (denial.OfFile c refusal) = name_of c ++ (codes " " ++ line_of (words_of refusal))
 denial_text denial.NoMan = codes "NoMan\n"
@@ -51,13 +51,13 @@ ending_text (Ran summary) = codes "ran " ++ (decimal summary.lines ++ (codes " "
 ending_text (Stopped fault) = stop_text fault
 
 -- the request is refused by its name, or there is no memory for that
-abbrev pub IsDenied : Denial → List ℕ → Ending → Type 0
+abbrev pub IsDenied : RequestFault → List ℕ → Ending → Type 0
 IsDenied d text (Refused e) = (e ≡ d) × (text ≡ denial_text d)
 IsDenied d text (Stopped fault) = (fault ≡ OutOfMemory) × (text ≡ [])
 IsDenied d text Answered = ⊥
 IsDenied d text (Ran summary) = ⊥
 
 -- there is no text: the request is refused, or its script was not read to the end
-abbrev pub IsUntold : NoText → List ℕ → Ending → Type 0
-IsUntold (no_text.Denied d) text ended = IsDenied d text ended
-IsUntold (no_text.Stopped fault) text ended = (ended ≡ Stopped fault) × (text ≡ [])
+abbrev pub IsAnswerFault : AnswerFault → List ℕ → Ending → Type 0
+IsAnswerFault (no_text.Denied d) text ended = IsDenied d text ended
+IsAnswerFault (no_text.Stopped fault) text ended = (ended ≡ Stopped fault) × (text ≡ [])

@@ -2,20 +2,20 @@
 ghost use Rattle.std.specs.Prelude.{◌≡◌, ◌++◌, IfOk, OnOk};
 ghost use Rattle.study_web.specs.Spans.{is_for_one, span_for, spans_for};
 
-use crate::spans::Span;
+use crate::file_spans::FileSpan;
 use std::alloc::{AllocError, Allocator};
 use study_material::Class;
 
-fn is_for_one(classes: &[Class], span: &Span) -> bool
+fn is_for_one(classes: &[Class], span: &FileSpan) -> bool
     ensures { result ≡ is_for_one classes.now span.now }
 {
     classes.iter().any(|class| span.class == *class as usize)
 }
 
 fn add_span<A: Allocator>(
-    list: &mut Vec<Span, &A>,
+    list: &mut Vec<FileSpan, &A>,
     classes: &[Class],
-    span: &Span,
+    span: &FileSpan,
 ) -> Result<(), AllocError>
     ensures { OnOk result (list.new.items ≡ list.old.items ++ span_for classes.now span.now) }
 {
@@ -26,9 +26,9 @@ fn add_span<A: Allocator>(
 }
 
 fn add_spans<A: Allocator>(
-    list: &mut Vec<Span, &A>,
+    list: &mut Vec<FileSpan, &A>,
     classes: &[Class],
-    spans: &[Span],
+    spans: &[FileSpan],
 ) -> Result<(), AllocError>
     ensures { OnOk result (list.new.items ≡ list.old.items ++ spans_for classes.now spans.now) }
 {
@@ -45,8 +45,8 @@ fn add_spans<A: Allocator>(
 pub fn spans_for<'a, A: Allocator>(
     alloc: &'a A,
     classes: &[Class],
-    spans: &[Span],
-) -> Result<Vec<Span, &'a A>, AllocError>
+    spans: &[FileSpan],
+) -> Result<Vec<FileSpan, &'a A>, AllocError>
     ensures { IfOk result (λ list. list.items ≡ spans_for classes.now spans.now) }
 {
     let mut list = Vec::new(alloc);

@@ -7,7 +7,7 @@ use study_script::{RunFault, Summary};
 
 /// What a run wrote, and how it ended.
 #[derive(Drop)]
-pub struct Ended<'a, A: Allocator> {
+pub struct RunOutput<'a, A: Allocator> {
     /// The replies, the review or the pages, as far as the run came; empty if it stopped for want of memory.
     pub text: Vec<u8, &'a A>,
     pub summary: Result<Summary, RunFault>,
@@ -32,19 +32,19 @@ pub fn own_end<'a, A: Allocator>(
     alloc: &'a A,
     text: Vec<u8, &'a A>,
     summary: Result<Summary, RunFault>,
-) -> Ended<'a, A>
+) -> RunOutput<'a, A>
     ensures own { IsOwnEnd result.summary }
     ensures ended { ((result.text.items ≡ text.entry.items) × (result.summary ≡ summary))
         ⊎ ((result.text.items ≡ []) × (result.summary ≡ Err RunFault.OutOfMemory)) }
 {
     match summary {
-        Err(RunFault::ReadDevice) | Err(RunFault::WriteDevice) => Ended {
+        Err(RunFault::ReadDevice) | Err(RunFault::WriteDevice) => RunOutput {
             text: Vec::new(alloc),
             summary: Err(RunFault::OutOfMemory),
         },
         Ok(_)
         | Err(RunFault::LineTooLong(_))
         | Err(RunFault::TooManyLines)
-        | Err(RunFault::OutOfMemory) => Ended { text, summary },
+        | Err(RunFault::OutOfMemory) => RunOutput { text, summary },
     }
 }

@@ -5,11 +5,11 @@ ghost use Rattle.study_web.specs.Request.{request_of};
 ghost use Rattle.study_web.specs.Told.{ending_text};
 ghost use Rattle.study_web.specs.declared.reply.Ending.{Ending as AnEnding};
 
-use crate::answering::answer;
-use crate::reply::Reply;
+use crate::dispatch::answer;
+use crate::file_spans::{FileSpan, TableFiles};
+use crate::reply::Answer;
 use crate::saved::Saved;
-use crate::spans::{Span, TableFiles};
-use crate::told::put_ending;
+use crate::wire_text::put_ending;
 use std::alloc::{AllocError, Allocator};
 use study_text::{DeviceFailed, write_text};
 
@@ -57,14 +57,14 @@ pub fn answer_into<'a, A: Allocator>(
 fn read_spans<'a, A: Allocator>(
     alloc: &'a A,
     numbers: &[usize],
-) -> Result<Vec<Span, &'a A>, AllocError>
+) -> Result<Vec<FileSpan, &'a A>, AllocError>
     ensures { IfOk result (λ spans. spans.items ≡ spans_of numbers.now) }
 {
     let mut spans = Vec::new(alloc);
     let mut rest = numbers;
     while 3 <= rest.len() {
         let (span, behind) = rest.split_at(3);
-        spans.push(Span {
+        spans.push(FileSpan {
             class: span[0],
             start: span[1],
             length: span[2],
@@ -86,7 +86,7 @@ fn pages_of(pages: u16) -> Option<u16>
 }
 
 /// Copies as much of the answer to the front of `out` as fits. The result is the length of the answer, or 0 if there is no memory.
-fn hand_back<'a, A: Allocator>(alloc: &'a A, reply: &Reply<'a, A>, out: &mut [u8]) -> usize
+fn hand_back<'a, A: Allocator>(alloc: &'a A, reply: &Answer<'a, A>, out: &mut [u8]) -> usize
     ensures { IsNothing out.old out.new result ⊎ IsHanded (ending_text reply.now.ended ++ reply.now.text.items) out.old out.new result }
 {
     let mut text = Vec::new(alloc);
@@ -102,7 +102,7 @@ fn hand_back<'a, A: Allocator>(alloc: &'a A, reply: &Reply<'a, A>, out: &mut [u8
 /// Writes a line with how the answer ended, then its text.
 fn put_reply<'a, A: Allocator>(
     text: &mut Vec<u8, &'a A>,
-    reply: &Reply<'a, A>,
+    reply: &Answer<'a, A>,
 ) -> Result<(), DeviceFailed>
     ensures { OnOk result (text.new.items ≡ text.old.items ++ (ending_text reply.now.ended ++ reply.now.text.items)) }
 {

@@ -8,8 +8,8 @@ ghost use Rattle.study_web.specs.Answers.{MayEnd, IsNoMemory};
 ghost use Rattle.study_web.specs.Found.{of_stop};
 ghost use Rattle.study_web.specs.Opened.{IsOfSearch};
 
-use crate::denial::Denial;
-use crate::reply::NoText;
+use crate::reply::AnswerFault;
+use crate::request_fault::RequestFault;
 use crate::tables::open_tables;
 use std::alloc::Allocator;
 use study_listing::{Piece, Stop, write_piece};
@@ -19,13 +19,13 @@ use study_script::TableStore;
 use study_values::ProbeFault;
 
 /// Why a search fails. Writing into memory fails only for want of it.
-fn of_stop(stop: Stop) -> Denial
+fn of_stop(stop: Stop) -> RequestFault
     ensures { result ≡ of_stop stop }
 {
     match stop {
-        Stop::Values(fault) => Denial::Refused(of_probe(fault)),
-        Stop::TooManyStudies => Denial::Refused(Refusal::OutOfMemory),
-        Stop::WriteDevice => Denial::Refused(Refusal::OutOfMemory),
+        Stop::Values(fault) => RequestFault::Refused(of_probe(fault)),
+        Stop::TooManyStudies => RequestFault::Refused(Refusal::OutOfMemory),
+        Stop::WriteDevice => RequestFault::Refused(Refusal::OutOfMemory),
     }
 }
 
@@ -54,15 +54,15 @@ pub fn found_of<'a, S: TableStore, A: Allocator>(
     piece: &Piece,
     store: &mut S,
     pages: Option<u16>,
-) -> Result<Vec<u8, &'a A>, NoText>
+) -> Result<Vec<u8, &'a A>, AnswerFault>
     requires { IfSome pages (λ n. (1 ≤ n) × (n ≤ 4096)) }
     ensures text { ((c : AClass) → S.honest store.old true c) → IfOk result (λ text. IsPiece piece.now text.items) }
     ensures none { IfErr result (MayEnd (IsOfSearch (S.headers store.old) (S.faults store.old) ((c : AClass) → S.honest store.old true c)) IsNoMemory) }
 {
     match open_tables(alloc, store, pages) {
-        Err(denial) => Err(NoText::Denied(denial)),
+        Err(denial) => Err(AnswerFault::Denied(denial)),
         Ok(mut tables) => match piece_text(alloc, piece, &mut tables) {
-            Err(stop) => Err(NoText::Denied(of_stop(stop))),
+            Err(stop) => Err(AnswerFault::Denied(of_stop(stop))),
             Ok(text) => Ok(text),
         },
     }

@@ -6,7 +6,7 @@ ghost use Rattle.study_text.specs.Words.{words};
 ghost use Rattle.study_web.specs.FindWords.{find_piece, find_for, find_asked};
 ghost use Rattle.study_web.specs.Request.{asks_seen};
 
-use crate::request::{Request, class_named};
+use crate::request::{Request, read_class};
 use arrayvec::ArrayVec;
 use study_command::{SyntaxFault, as_text};
 use study_listing::{Piece, PieceFault, read_piece};
@@ -66,7 +66,7 @@ pub fn read_find(rest: &[u8]) -> Result<Request<'_>, Refusal>
     let Some((name, behind)) = next_word(rest) else {
         return Err(Refusal::Form(SyntaxFault::BadArguments));
     };
-    match class_named(as_text(name)) {
+    match read_class(as_text(name)) {
         None => Err(Refusal::NotAClass),
         Some(class) => find_for(class, behind),
     }

@@ -3,8 +3,8 @@ ghost use Rattle.std.specs.Prelude.{◌≡◌, IfOk, IfErr};
 ghost use Rattle.study_import.specs.Imported.{script_of, all_games};
 ghost use Rattle.study_web.specs.Answers.{MayEnd, IsNoMemory, IsOutOfMemory};
 
-use crate::denial::Denial;
-use crate::reply::NoText;
+use crate::reply::AnswerFault;
+use crate::request_fault::RequestFault;
 use std::alloc::{AllocError, Allocator};
 use study_import::import;
 use study_marks::Stipulation;
@@ -28,12 +28,12 @@ pub fn imported_of<'a, A: Allocator>(
     alloc: &'a A,
     pgn: &[u8],
     given: Option<Stipulation>,
-) -> Result<Vec<u8, &'a A>, NoText>
+) -> Result<Vec<u8, &'a A>, AnswerFault>
     ensures text { IfOk result (λ text. text.items ≡ script_of (all_games given) pgn.now) }
     ensures none { IfErr result (MayEnd IsOutOfMemory IsNoMemory) }
 {
     match script_of(alloc, pgn, given) {
         Ok(text) => Ok(text),
-        Err(_) => Err(NoText::Denied(Denial::Refused(Refusal::OutOfMemory))),
+        Err(_) => Err(AnswerFault::Denied(RequestFault::Refused(Refusal::OutOfMemory))),
     }
 }

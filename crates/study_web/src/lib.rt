@@ -6,42 +6,42 @@
 //! those that it needs and returns its file. Nothing is kept between two calls.
 #![tactic(auto)]
 
-mod answering;
 mod chosen;
-mod denial;
+mod dispatch;
 mod ended;
 mod export;
+mod file_spans;
 mod find;
 mod find_words;
 mod imported;
 mod laws;
 mod make;
-mod printed;
 mod refusals;
 mod replies;
 mod reply;
+mod report_pages;
 mod request;
+mod request_fault;
 mod row;
 mod saved;
 mod script;
 mod setup;
-mod spans;
 mod store;
-mod surveyed;
+mod survey;
 mod tables;
-mod told;
+mod wire_text;
 mod words;
 
-pub use answering::answer;
-pub use denial::Denial;
-pub use ended::Ended;
+pub use dispatch::answer;
+pub use ended::RunOutput;
 pub use export::{HandedIn, answer_into};
+pub use file_spans::{FileSpan, TableFiles, file_in};
 pub use laws::made_files_are_read_again;
 pub use make::{MakeFault, make_file};
 pub use replies::replies_over;
-pub use reply::{Ending, Reply};
+pub use reply::{Answer, Ending};
+pub use request_fault::RequestFault;
 pub use saved::{Saved, SavedFile, none_saved};
-pub use spans::{Span, TableFiles, file_in};
 pub use store::SpanStore;
 pub use study_script::{RunFault, Summary};
-pub use told::put_ending;
+pub use wire_text::put_ending;

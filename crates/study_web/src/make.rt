@@ -10,9 +10,9 @@ ghost use Rattle.study_tablefile.specs.Reading.{table_read};
 ghost use Rattle.study_web.specs.Spans.{file_in, IsHonestIn};
 ghost use Rattle.study_web.specs.Making.{IsRightFileOf, IsFaultIn, IsFirstFault, IsMakeFault, IsSoundIn, HasRightNeeds, HaveFiles};
 ghost use Rattle.study_web.specs.Making.{IsSettled, IsTaken, is_ascending};
-ghost use Rattle.study_web.specs.declared.spans.Span.{Span as ASpan};
+ghost use Rattle.study_web.specs.declared.file_spans.FileSpan.{FileSpan as ASpan};
 
-use crate::spans::{Span, file_in};
+use crate::file_spans::{FileSpan, file_in};
 use std::alloc::{AllocError, Allocator};
 use study_material::{Class, needs_come_first, order};
 use study_prober::WholeTables;
@@ -69,7 +69,7 @@ impl From<BuildFault> for MakeFault {
 pub fn make_file<'a, A: Allocator>(
     alloc: &'a A,
     class: Class,
-    spans: &[Span],
+    spans: &[FileSpan],
     bytes: &[u8],
 ) -> Result<Vec<u8, &'a A>, MakeFault>
     ensures right { HasRightNeeds spans.now bytes.now class → IfOk result (λ file. IsRightFileOf class file.items) }
@@ -121,7 +121,7 @@ fn text_of<'a, A: Allocator>(
 fn needed_tables<'a, A: Allocator>(
     alloc: &'a A,
     class: Class,
-    spans: &[Span],
+    spans: &[FileSpan],
     bytes: &[u8],
 ) -> Result<WholeTables<'a, A>, MakeFault>
     ensures right { HasRightNeeds spans.now bytes.now class → IfOk result (λ w. TablesAreRight w.tables) }
@@ -132,17 +132,17 @@ fn needed_tables<'a, A: Allocator>(
     needs_come_first();
     let mut tables = WholeTables::new(TableSet::new(alloc)?);
     let needed = order(class);
-    hold_each(alloc, &mut tables, class, needed.as_slice(), spans, bytes)?;
+    load_classes(alloc, &mut tables, class, needed.as_slice(), spans, bytes)?;
     Ok(tables)
 }
 
 /// Loads the tables of these classes, each after those that it needs.
-fn hold_each<'a, A: Allocator>(
+fn load_classes<'a, A: Allocator>(
     alloc: &'a A,
     tables: &mut WholeTables<'a, A>,
     class: Class,
     needed: &[Class],
-    spans: &[Span],
+    spans: &[FileSpan],
     bytes: &[u8],
 ) -> Result<(), MakeFault>
     requires needed { (d : AClass) → Contains needed.now d → IsNeeded class d }
@@ -157,19 +157,19 @@ fn hold_each<'a, A: Allocator>(
     match needed.split_first() {
         None => Ok(()),
         Some((need, rest)) => {
-            hold_needed(alloc, tables, class, *need, spans, bytes)?;
-            hold_each(alloc, tables, class, rest, spans, bytes)
+            load_needed(alloc, tables, class, *need, spans, bytes)?;
+            load_classes(alloc, tables, class, rest, spans, bytes)
         }
     }
 }
 
 /// The same for one needed class. The class itself is among those that it needs, and is skipped.
-fn hold_needed<'a, A: Allocator>(
+fn load_needed<'a, A: Allocator>(
     alloc: &'a A,
     tables: &mut WholeTables<'a, A>,
     class: Class,
     need: Class,
-    spans: &[Span],
+    spans: &[FileSpan],
     bytes: &[u8],
 ) -> Result<(), MakeFault>
     requires { IsNeeded class need }
@@ -185,15 +185,15 @@ fn hold_needed<'a, A: Allocator>(
     if need == class {
         return Ok(());
     }
-    hold(alloc, tables, need, spans, bytes)
+    load_class(alloc, tables, need, spans, bytes)
 }
 
 /// Loads the table of a class if it has a file and all that it needs is loaded.
-fn hold<'a, A: Allocator>(
+fn load_class<'a, A: Allocator>(
     alloc: &'a A,
     tables: &mut WholeTables<'a, A>,
     class: Class,
-    spans: &[Span],
+    spans: &[FileSpan],
     bytes: &[u8],
 ) -> Result<(), MakeFault>
     ensures right { IsHonestIn false (file_in spans.now bytes.now class) → TablesAreRight tables.old.tables

@@ -4,7 +4,7 @@ use std::alloc::Allocator;
 use std::io::Write;
 use study_facts::ReviewFault;
 use study_marks::Bench;
-use study_report::{Lines, NotTold, Report};
+use study_report::{Lines, Report, WriteFault};
 use study_values::Values;
 
 /// Refused lines as `refused 7 NoTable KRK`; nothing is printed for studies.
@@ -45,7 +45,7 @@ impl Report for Refusals {
         line: &[u8],
         reply: &[u8],
         out: &mut W,
-    ) -> Result<(), NotTold> {
+    ) -> Result<(), WriteFault> {
         Lines.add_refusal(alloc, number, line, reply, out)
     }
 
@@ -54,7 +54,7 @@ impl Report for Refusals {
         _alloc: &'a A,
         _line: &[u8],
         _out: &mut W,
-    ) -> Result<(), NotTold> {
+    ) -> Result<(), WriteFault> {
         Ok(())
     }
 }

@@ -1,16 +1,16 @@
 //! The replies to a script over the files of the request.
 ghost use Rattle.std.specs.Prelude.{◌≤◌, ℕ, Bool, true, List, [], Option, Some, IfSome, is_some};
 ghost use Rattle.study_material.specs.declared.class.Class.{Class as AClass};
-ghost use Rattle.study_script.specs.Outcome.{Outcome, Shape, begun_state};
-ghost use Rattle.study_script.specs.State.{Shelf};
+ghost use Rattle.study_script.specs.Outcome.{Outcome, Shape, initial_state};
+ghost use Rattle.study_script.specs.State.{StoreKnowledge};
 ghost use Rattle.study_script.specs.Written.{Fits};
 ghost use Rattle.study_script.specs.Stores.{AreTrusted};
 ghost use Rattle.study_web.specs.Answers.{IsOwnEnd};
 ghost use Rattle.study_web.specs.Store.{IsShelf, AreRightFiles};
 
-use crate::ended::{Ended, own_end};
+use crate::ended::{RunOutput, own_end};
+use crate::file_spans::FileSpan;
 use crate::saved::Saved;
-use crate::spans::Span;
 use crate::store::SpanStore;
 use std::alloc::Allocator;
 use study_script::{Settings, run};
@@ -22,18 +22,18 @@ use study_script::{Settings, run};
 pub fn replies_over<'f, 'a, A: Allocator>(
     alloc: &'a A,
     script: &[u8],
-    spans: &'f [Span],
+    spans: &'f [FileSpan],
     bytes: &'f [u8],
     saved: &[Saved<'a, A>],
     pages: Option<u16>,
-) -> Ended<'a, A>
+) -> RunOutput<'a, A>
     requires { IfSome pages (λ n. (1 ≤ n) × (n ≤ 4096)) }
     ensures own { IsOwnEnd result.summary }
     ensures shape { (left : Option (List ℕ)) × Shape script.now left result.summary }
     ensures fits { (left : Option (List ℕ)) × Fits script.now left (Some []) (Some result.text.items) result.summary }
     ensures outcome { (trusted : AClass → Bool) → AreRightFiles trusted (is_some pages) spans.now bytes.now → AreTrusted trusted script.now
-        → (shelf : Shelf) × IsShelf spans.now bytes.now shelf × (left : Option (List ℕ))
-        × Outcome true (begun_state shelf (is_some pages)) script.now left (Some []) (Some result.text.items) result.summary }
+        → (shelf : StoreKnowledge) × IsShelf spans.now bytes.now shelf × (left : Option (List ℕ))
+        × Outcome true (initial_state shelf (is_some pages)) script.now left (Some []) (Some result.text.items) result.summary }
 {
     let mut store = SpanStore::new(alloc, spans, bytes, saved);
     let mut reader = script;

@@ -1,9 +1,9 @@
 //! An answer, and how it ended.
 ghost use Rattle.std.specs.Prelude.{◌≡◌, [], IfOk, IfErr};
-ghost use Rattle.study_web.specs.Told.{IsDenied, IsUntold, ending_of};
+ghost use Rattle.study_web.specs.Told.{IsDenied, IsAnswerFault, ending_of};
 
-use crate::denial::Denial;
-use crate::told::put_denial;
+use crate::request_fault::RequestFault;
+use crate::wire_text::put_request_fault;
 use std::alloc::Allocator;
 use study_script::{RunFault, Summary};
 
@@ -13,7 +13,7 @@ pub enum Ending {
     /// The text is the whole answer.
     Answered,
     /// The text is the name of the refusal, and a line feed.
-    Refused(Denial),
+    Refused(RequestFault),
     /// Each line of the script was read; the text has the replies or the report.
     Ran(Summary),
     /// The script was not read to the end, or there is no memory. The text has what was written before, or is empty.
@@ -22,25 +22,25 @@ pub enum Ending {
 
 /// The answer to a request.
 #[derive(Drop)]
-pub struct Reply<'a, A: Allocator> {
+pub struct Answer<'a, A: Allocator> {
     pub text: Vec<u8, &'a A>,
     pub ended: Ending,
 }
 
 /// Why there is no text: the request is refused, or the script was not read to the end.
 #[derive(Clone, Copy, Debug, PartialEq, Eq)]
-pub enum NoText {
-    Denied(Denial),
+pub enum AnswerFault {
+    Denied(RequestFault),
     Stopped(RunFault),
 }
 
 /// The name of the refusal.
-pub fn denied<'a, A: Allocator>(alloc: &'a A, denial: Denial) -> Reply<'a, A>
+pub fn fault_answer<'a, A: Allocator>(alloc: &'a A, denial: RequestFault) -> Answer<'a, A>
     ensures { IsDenied denial result.text.items result.ended }
 {
     let mut text = Vec::new(alloc);
-    match put_denial(&mut text, denial) {
-        Ok(()) => Reply {
+    match put_request_fault(&mut text, denial) {
+        Ok(()) => Answer {
             text,
             ended: Ending::Refused(denial),
         },
@@ -49,28 +49,31 @@ pub fn denied<'a, A: Allocator>(alloc: &'a A, denial: Denial) -> Reply<'a, A>
 }
 
 /// An empty text, and this fault.
-fn stopped<'a, A: Allocator>(alloc: &'a A, fault: RunFault) -> Reply<'a, A>
+fn stopped<'a, A: Allocator>(alloc: &'a A, fault: RunFault) -> Answer<'a, A>
     ensures ended { result.ended ≡ Ending.Stopped fault }
     ensures text { result.text.items ≡ [] }
 {
-    Reply {
+    Answer {
         text: Vec::new(alloc),
         ended: Ending::Stopped(fault),
     }
 }
 
 /// A text, or why there is none.
-pub fn told<'a, A: Allocator>(alloc: &'a A, made: Result<Vec<u8, &'a A>, NoText>) -> Reply<'a, A>
+pub fn told<'a, A: Allocator>(
+    alloc: &'a A,
+    made: Result<Vec<u8, &'a A>, AnswerFault>,
+) -> Answer<'a, A>
     ensures text { IfOk made.entry (λ text. (result.ended ≡ Ending.Answered) × (result.text.items ≡ text.items)) }
-    ensures none { IfErr made.entry (λ why. IsUntold why result.text.items result.ended) }
+    ensures none { IfErr made.entry (λ why. IsAnswerFault why result.text.items result.ended) }
 {
     match made {
-        Ok(text) => Reply {
+        Ok(text) => Answer {
             text,
             ended: Ending::Answered,
         },
-        Err(NoText::Denied(denial)) => denied(alloc, denial),
-        Err(NoText::Stopped(fault)) => stopped(alloc, fault),
+        Err(AnswerFault::Denied(denial)) => fault_answer(alloc, denial),
+        Err(AnswerFault::Stopped(fault)) => stopped(alloc, fault),
     }
 }
 
@@ -78,7 +81,7 @@ pub fn told<'a, A: Allocator>(alloc: &'a A, made: Result<Vec<u8, &'a A>, NoText>
 pub fn ran<'a, A: Allocator>(
     text: Vec<u8, &'a A>,
     summary: Result<Summary, RunFault>,
-) -> Reply<'a, A>
+) -> Answer<'a, A>
     ensures ended { result.ended ≡ ending_of summary }
     ensures text { result.text.items ≡ text.entry.items }
 {
@@ -86,5 +89,5 @@ pub fn ran<'a, A: Allocator>(
         Ok(summary) => Ending::Ran(summary),
         Err(fault) => Ending::Stopped(fault),
     };
-    Reply { text, ended }
+    Answer { text, ended }
 }

@@ -8,7 +8,7 @@ ghost use Rattle.study_text.specs.Words.{words};
 ghost use Rattle.study_marks.specs.Edits.{is_printable};
 ghost use Rattle.study_script.specs.Replies.{class_told};
 ghost use Rattle.study_listing.specs.Requests.{outcome_named};
-ghost use Rattle.study_web.specs.Request.{alone, make_asked, view_asked, with_start, goal_begun, stipulation_begun};
+ghost use Rattle.study_web.specs.Request.{without_arguments, make_asked, view_asked, with_start, goal_begun, stipulation_begun};
 ghost use Rattle.study_web.specs.Request.{survey_asked, row_asked, import_asked, word_asked, request_of, request_seen, asks_seen};
 ghost use Rattle.study_web.specs.Asked.{passed as passed_asked};
 
@@ -16,7 +16,7 @@ use crate::find_words::read_find;
 use crate::words::read_square;
 use study_board::Square;
 use study_command::{
-    PathWord, SyntaxFault, as_text, read_mate_moves, read_one_word, read_path_word, read_side,
+    PathText, SyntaxFault, as_text, read_mate_moves, read_one_word, read_path_word, read_side,
 };
 use study_listing::{Piece, Unread};
 use study_marks::{Goal, Stipulation, is_printable};
@@ -28,7 +28,7 @@ use study_text::next_word;
 
 /// A man of a position, and the stipulation to survey it for.
 #[derive(Drop)]
-pub struct Surveyed {
+pub struct SurveyRequest {
     pub square: Square,
     pub stipulation: Stipulation,
     pub start: Start,
@@ -49,13 +49,13 @@ pub enum Request<'r> {
     /// `make CLASS`: the file of the class's table.
     Make(Class),
     /// `view PATH`: the view of the study that the script leaves in the document.
-    View(PathWord<'r>),
+    View(PathText<'r>),
     /// `review`: the review of the script's studies.
     Review,
     /// `report`: the page of the script's studies.
     Report,
     /// `survey SQUARE SIDE GOAL FEN`: the result with the man of the square on each other square.
-    Survey(Surveyed),
+    Survey(SurveyRequest),
     /// `tables`: the classes that the script's positions need.
     Tables,
     /// `passed FEN`: the squares that a pawn may have passed in a double step just before.
@@ -90,17 +90,17 @@ fn read_words<'r>(word: &'r [u8], rest: &'r [u8]) -> Result<Request<'r>, Refusal
     ensures { asks_seen result ≡ word_asked word.now rest.now }
 {
     if word == b"run".as_slice() {
-        alone(rest, Request::Run)
+        without_arguments(rest, Request::Run)
     } else if word == b"view".as_slice() {
         read_view(rest)
     } else if word == b"review".as_slice() {
-        alone(rest, Request::Review)
+        without_arguments(rest, Request::Review)
     } else if word == b"report".as_slice() {
-        alone(rest, Request::Report)
+        without_arguments(rest, Request::Report)
     } else if word == b"survey".as_slice() {
         read_survey(rest)
     } else if word == b"tables".as_slice() {
-        alone(rest, Request::Tables)
+        without_arguments(rest, Request::Tables)
     } else if word == b"passed".as_slice() {
         read_passed(rest)
     } else if word == b"make".as_slice() {
@@ -117,8 +117,8 @@ fn read_words<'r>(word: &'r [u8], rest: &'r [u8]) -> Result<Request<'r>, Refusal
 }
 
 /// A request without arguments.
-fn alone<'r>(rest: &[u8], request: Request<'r>) -> Result<Request<'r>, Refusal>
-    ensures { asks_seen result ≡ alone (request_seen request.entry) (words rest.now) }
+fn without_arguments<'r>(rest: &[u8], request: Request<'r>) -> Result<Request<'r>, Refusal>
+    ensures { asks_seen result ≡ without_arguments (request_seen request.entry) (words rest.now) }
 {
     match next_word(rest) {
         None => Ok(request),
@@ -132,7 +132,7 @@ fn read_make(rest: &[u8]) -> Result<Request<'_>, Refusal>
 {
     match read_one_word(rest) {
         None => Err(Refusal::Form(SyntaxFault::BadArguments)),
-        Some(name) => match class_named(as_text(name)) {
+        Some(name) => match read_class(as_text(name)) {
             Some(class) => Ok(Request::Make(class)),
             None => Err(Refusal::NotAClass),
         },
@@ -140,7 +140,7 @@ fn read_make(rest: &[u8]) -> Result<Request<'_>, Refusal>
 }
 
 #[tactic(auto, unfolding(study_script::specs::Replies::class_told))]
-pub(crate) fn class_named(name: &str) -> Option<Class>
+pub(crate) fn read_class(name: &str) -> Option<Class>
     ensures { result ≡ class_told name.now }
 {
     match Class::parse(name) {
@@ -228,7 +228,7 @@ fn read_survey(rest: &[u8]) -> Result<Request<'_>, Refusal>
     };
     match read_start(rest) {
         Err(fault) => Err(Refusal::Fen(fault)),
-        Ok(start) => Ok(Request::Survey(Surveyed {
+        Ok(start) => Ok(Request::Survey(SurveyRequest {
             square,
             stipulation,
             start,
@@ -277,6 +277,9 @@ fn read_import(rest: &[u8]) -> Result<Request<'_>, Refusal>
     }
     match read_stipulation(rest) {
         None => Err(Refusal::Form(SyntaxFault::UnknownStipulation)),
-        Some((stipulation, behind)) => alone(behind, Request::Import(Some(stipulation))),
+        Some((stipulation, behind)) => without_arguments(
+            behind,
+            Request::Import(Some(stipulation)),
+        ),
     }
 }

@@ -8,9 +8,9 @@ ghost use Rattle.study_web.specs.Opened.{IsOfSearch};
 ghost use Rattle.study_web.specs.Row.{row_text, IsRow};
 ghost use Rattle.study_web.specs.Told.{line_of};
 
-use crate::denial::Denial;
-use crate::reply::NoText;
+use crate::reply::AnswerFault;
 use crate::request::Rowed;
+use crate::request_fault::RequestFault;
 use crate::setup::add;
 use crate::tables::open_tables;
 use itoa::Buffer;
@@ -45,13 +45,13 @@ fn row_text<'a, A: Allocator>(alloc: &'a A, most: Option<u8>) -> Result<Vec<u8, 
 }
 
 /// The same, or want of memory.
-fn told_row<'a, A: Allocator>(alloc: &'a A, most: Option<u8>) -> Result<Vec<u8, &'a A>, NoText>
+fn told_row<'a, A: Allocator>(alloc: &'a A, most: Option<u8>) -> Result<Vec<u8, &'a A>, AnswerFault>
     ensures text { IfOk result (λ text. text.items ≡ row_text most) }
-    ensures none { IfErr result (λ why. why ≡ NoText.Denied (Denial.Refused Refusal.OutOfMemory)) }
+    ensures none { IfErr result (λ why. why ≡ AnswerFault.Denied (RequestFault.Refused Refusal.OutOfMemory)) }
 {
     match row_text(alloc, most) {
         Ok(text) => Ok(text),
-        Err(_) => Err(NoText::Denied(Denial::Refused(Refusal::OutOfMemory))),
+        Err(_) => Err(AnswerFault::Denied(RequestFault::Refused(Refusal::OutOfMemory))),
     }
 }
 
@@ -70,16 +70,16 @@ pub fn row_of<'a, S: TableStore, A: Allocator>(
     asked: &Rowed,
     store: &mut S,
     pages: Option<u16>,
-) -> Result<Vec<u8, &'a A>, NoText>
+) -> Result<Vec<u8, &'a A>, AnswerFault>
     requires { IfSome pages (λ n. (1 ≤ n) × (n ≤ 4096)) }
     ensures text { ((c : AClass) → S.honest store.old true c)
         → IfOk result (λ text. IsRow asked.now.outcome asked.now.start.position text.items) }
     ensures none { IfErr result (MayEnd (IsOfSearch (S.headers store.old) (S.faults store.old) ((c : AClass) → S.honest store.old true c)) IsNoMemory) }
 {
     match open_tables(alloc, store, pages) {
-        Err(denial) => Err(NoText::Denied(denial)),
+        Err(denial) => Err(AnswerFault::Denied(denial)),
         Ok(mut tables) => match most_of(asked, &mut tables) {
-            Err(fault) => Err(NoText::Denied(Denial::Refused(of_probe(fault)))),
+            Err(fault) => Err(AnswerFault::Denied(RequestFault::Refused(of_probe(fault)))),
             Ok(most) => told_row(alloc, most),
         },
     }

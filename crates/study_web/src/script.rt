@@ -7,7 +7,7 @@ ghost use Rattle.study_marks.specs.BenchState.{marked, IsKeptRight};
 ghost use Rattle.study_marks.specs.Study.{plain_study};
 ghost use Rattle.study_command.specs.Paths.{steps_of, is_path_word};
 ghost use Rattle.study_prober.specs.PagedTables.{held_of, SourcesAreRight, MayFail};
-ghost use Rattle.study_script.specs.Held.{document_seen, tables_honest, IsMarked, Holds};
+ghost use Rattle.study_script.specs.SessionHolds.{document_seen, tables_honest, IsMarked, Holds};
 ghost use Rattle.study_script.specs.State.{State, is_among, study};
 ghost use Rattle.study_view.specs.View.{IsViewOf};
 ghost use Rattle.study_view.specs.Words.{start_lines};
@@ -15,10 +15,10 @@ ghost use Rattle.study_web.specs.Answers.{MayEnd, IsNever, IsOwnEnd, IsReviewOve
 ghost use Rattle.study_web.specs.Opened.{IsOfTables};
 ghost use Rattle.study_web.specs.Views.{IsDocumentView, IsLeft, IsUntoldOver, IsViewOver, LacksNode, LacksNodeOver, OverStore, IsViewUntold, StudyStopped};
 
-use crate::denial::Denial;
-use crate::ended::{Ended, own_end, own_fault};
+use crate::ended::{RunOutput, own_end, own_fault};
 use crate::refusals::Refusals;
-use crate::reply::NoText;
+use crate::reply::AnswerFault;
+use crate::request_fault::RequestFault;
 use crate::tables::open_tables;
 use std::alloc::{AllocError, Allocator};
 use study_command::{Line, read_path};
@@ -39,7 +39,7 @@ pub fn review_of<'a, S: TableStore, A: Allocator>(
     script: &[u8],
     store: &mut S,
     pages: Option<u16>,
-) -> Result<Ended<'a, A>, Denial>
+) -> Result<RunOutput<'a, A>, RequestFault>
     requires { IfSome pages (λ n. (1 ≤ n) × (n ≤ 4096)) }
     ensures own { IfOk result (λ told. IsOwnEnd told.summary) }
     ensures review { ((c : AClass) → S.honest store.old true c) → IfOk result (λ told.
@@ -71,7 +71,7 @@ fn bench_view<'a, A: Allocator, V: Values>(
     bench: &Bench<'a, A>,
     path: &[u8],
     values: &mut V,
-) -> Result<Vec<u8, &'a A>, NoText>
+) -> Result<Vec<u8, &'a A>, AnswerFault>
     requires { is_path_word path.now ≡ true }
     ensures none { IfErr result (MayEnd (IsViewDenial
         (λ fault. StudyStopped V.held V.gives V.may_fail V.asked_of V.failed_of V.is_honest (study (plain_study (marked bench.now)))
@@ -82,15 +82,19 @@ fn bench_view<'a, A: Allocator, V: Values>(
 {
     let first = bench.start();
     let Ok(path) = read_path(alloc, path) else {
-        return Err(NoText::Denied(Denial::Refused(Refusal::OutOfMemory)));
+        return Err(AnswerFault::Denied(RequestFault::Refused(Refusal::OutOfMemory)));
     };
     let mut text = Vec::new(alloc);
     match write_view(alloc, bench, &path, values, &mut text) {
         Ok(()) => Ok(text),
-        Err(ViewFault::NoSuchNode) => Err(NoText::Denied(Denial::Refused(Refusal::NoSuchNode))),
-        Err(ViewFault::Values(fault)) => Err(NoText::Denied(Denial::Refused(of_probe(fault)))),
+        Err(ViewFault::NoSuchNode) => Err(AnswerFault::Denied(RequestFault::Refused(
+            Refusal::NoSuchNode,
+        ))),
+        Err(ViewFault::Values(fault)) => Err(AnswerFault::Denied(RequestFault::Refused(of_probe(
+            fault,
+        )))),
         Err(ViewFault::OutOfMemory) | Err(ViewFault::Device) => {
-            Err(NoText::Denied(Denial::Refused(Refusal::OutOfMemory)))
+            Err(AnswerFault::Denied(RequestFault::Refused(Refusal::OutOfMemory)))
         }
     }
 }
@@ -107,26 +111,26 @@ fn lines_of<'a, A: Allocator>(alloc: &'a A, start: &Start) -> Result<Vec<u8, &'a
 }
 
 /// The view of a start without a stipulation.
-fn start_view<'a, A: Allocator>(alloc: &'a A, start: &Start) -> Result<Vec<u8, &'a A>, NoText>
-    ensures none { IfErr result (λ why. why ≡ NoText.Denied (Denial.Refused Refusal.OutOfMemory)) }
+fn start_view<'a, A: Allocator>(alloc: &'a A, start: &Start) -> Result<Vec<u8, &'a A>, AnswerFault>
+    ensures none { IfErr result (λ why. why ≡ AnswerFault.Denied (RequestFault.Refused Refusal.OutOfMemory)) }
     ensures text { IfOk result (λ text. text.items ≡ start_lines start.now) }
 {
     match lines_of(alloc, start) {
         Ok(text) => Ok(text),
-        Err(_) => Err(NoText::Denied(Denial::Refused(Refusal::OutOfMemory))),
+        Err(_) => Err(AnswerFault::Denied(RequestFault::Refused(Refusal::OutOfMemory))),
     }
 }
 
 /// A document that has only a root has no other node.
 #[tactic(auto, using(crate::proofs::Nodes::places_other), unfolding(study_command::specs::Paths::steps_of))]
-fn at_root(path: &[u8]) -> Result<(), NoText>
+fn require_root(path: &[u8]) -> Result<(), AnswerFault>
     ensures root { OnOk result (steps_of path.now ≡ []) }
-    ensures none { IfErr result (λ why. (why ≡ NoText.Denied (Denial.Refused Refusal.NoSuchNode)) × (steps_of path.now ≢ [])) }
+    ensures none { IfErr result (λ why. (why ≡ AnswerFault.Denied (RequestFault.Refused Refusal.NoSuchNode)) × (steps_of path.now ≢ [])) }
 {
     if path == b"root".as_slice() {
         Ok(())
     } else {
-        Err(NoText::Denied(Denial::Refused(Refusal::NoSuchNode)))
+        Err(AnswerFault::Denied(RequestFault::Refused(Refusal::NoSuchNode)))
     }
 }
 
@@ -136,7 +140,7 @@ fn document_view<'a, A: Allocator, V: Values>(
     document: &Document<'a, A>,
     path: &[u8],
     values: &mut V,
-) -> Result<Vec<u8, &'a A>, NoText>
+) -> Result<Vec<u8, &'a A>, AnswerFault>
     requires { is_path_word path.now ≡ true }
     ensures none { IfErr result (MayEnd (IsViewDenial
         (λ fault. StudyStopped V.held V.gives V.may_fail V.asked_of V.failed_of V.is_honest (document_seen document.now) values.old fault values.new)
@@ -147,11 +151,11 @@ fn document_view<'a, A: Allocator, V: Values>(
     match document {
         Document::Study(bench) => bench_view(alloc, bench, path, values),
         Document::Start(start) => {
-            at_root(path)?;
+            require_root(path)?;
             start_view(alloc, start)
         }
         Document::Empty => {
-            at_root(path)?;
+            require_root(path)?;
             Ok(Vec::new(alloc))
         }
     }
@@ -159,19 +163,19 @@ fn document_view<'a, A: Allocator, V: Values>(
 
 /// What a script leaves: the document, the tables, and its refused lines.
 #[derive(Drop)]
-struct Left<'a, P: PageSource, A: Allocator> {
+struct ScriptEnd<'a, P: PageSource, A: Allocator> {
     document: Document<'a, A>,
     tables: Tables<'a, P, A>,
     refused: Vec<u8, &'a A>,
 }
 
 /// Follows a script over these tables. No file of the store is opened: table commands are skipped.
-fn left_by<'a, S: TableStore, A: Allocator>(
+fn run_to_end<'a, S: TableStore, A: Allocator>(
     alloc: &'a A,
     script: &[u8],
     tables: PagedTables<'a, S::Pages, A>,
     store: &mut S,
-) -> Result<Left<'a, S::Pages, A>, RunFault>
+) -> Result<ScriptEnd<'a, S::Pages, A>, RunFault>
     ensures left { (classes : List AClass) → SourcesAreRight S.Pages.honest tables.entry.sources
         → ((c : AClass) → is_some (held_of tables.entry.sources c) ≡ is_among classes c)
         → ((c : AClass) (f : ASourceFault) → MayFail S.Pages.gives (held_of tables.entry.sources c) c f → S.faults store.old c f ≡ true)
@@ -206,7 +210,7 @@ fn left_by<'a, S: TableStore, A: Allocator>(
                 tables,
                 ..
             } = session;
-            Ok(Left {
+            Ok(ScriptEnd {
                 document,
                 tables,
                 refused,
@@ -216,11 +220,11 @@ fn left_by<'a, S: TableStore, A: Allocator>(
 }
 
 /// The view at a path of the document that is left, then the refused lines.
-fn left_view<'a, P: PageSource, A: Allocator>(
+fn view_of_end<'a, P: PageSource, A: Allocator>(
     alloc: &'a A,
-    left: Left<'a, P, A>,
+    left: ScriptEnd<'a, P, A>,
     path: &[u8],
-) -> Result<Vec<u8, &'a A>, NoText>
+) -> Result<Vec<u8, &'a A>, AnswerFault>
     requires { is_path_word path.now ≡ true }
     ensures none { IfErr result (MayEnd (IsViewDenial
         (λ fault. (state : State) → Holds P.honest P.gives left.entry.document left.entry.tables state → IsViewUntold state fault)
@@ -229,7 +233,7 @@ fn left_view<'a, P: PageSource, A: Allocator>(
         → IfOk result (λ text. (view : List ℕ) × IsDocumentView (document_seen left.entry.document) (steps_of path.now) view
         × (text.items ≡ view ++ left.entry.refused.items)) }
 {
-    let Left {
+    let ScriptEnd {
         document,
         mut tables,
         refused,
@@ -237,7 +241,7 @@ fn left_view<'a, P: PageSource, A: Allocator>(
     let mut text = document_view(alloc, &document, path, &mut tables)?;
     match write_text(&mut text, refused.as_slice()) {
         Ok(()) => Ok(text),
-        Err(_) => Err(NoText::Denied(Denial::Refused(Refusal::OutOfMemory))),
+        Err(_) => Err(AnswerFault::Denied(RequestFault::Refused(Refusal::OutOfMemory))),
     }
 }
 
@@ -248,7 +252,7 @@ pub fn view_of<'a, S: TableStore, A: Allocator>(
     script: &[u8],
     store: &mut S,
     pages: Option<u16>,
-) -> Result<Vec<u8, &'a A>, NoText>
+) -> Result<Vec<u8, &'a A>, AnswerFault>
     requires pages { IfSome pages (λ n. (1 ≤ n) × (n ≤ 4096)) }
     requires path { is_path_word path.now ≡ true }
     ensures text { ((c : AClass) → S.honest store.old true c)
@@ -259,10 +263,10 @@ pub fn view_of<'a, S: TableStore, A: Allocator>(
         d) (IsUnread script.now)) }
 {
     match open_tables(alloc, store, pages) {
-        Err(denial) => Err(NoText::Denied(denial)),
-        Ok(tables) => match left_by(alloc, script, tables, store) {
-            Err(fault) => Err(NoText::Stopped(fault)),
-            Ok(left) => left_view(alloc, left, path),
+        Err(denial) => Err(AnswerFault::Denied(denial)),
+        Ok(tables) => match run_to_end(alloc, script, tables, store) {
+            Err(fault) => Err(AnswerFault::Stopped(fault)),
+            Ok(left) => view_of_end(alloc, left, path),
         },
     }
 }

@@ -9,8 +9,8 @@ ghost use Rattle.study_web.specs.Told.{line_of};
 ghost use Rattle.study_notation.specs.FenSpelling.{square_text};
 ghost use Rattle.study_material.specs.Class.{name_of};
 
-use crate::denial::Denial;
-use crate::reply::NoText;
+use crate::reply::AnswerFault;
+use crate::request_fault::RequestFault;
 use std::alloc::{AllocError, Allocator};
 use study_board::{Position, Square};
 use study_command::{Command, Line, LineFault, read_byte, read_command};
@@ -130,21 +130,27 @@ fn needs_of<'a, A: Allocator>(
 }
 
 /// The classes that the positions of a script need, each after those that it needs, one a line.
-pub fn tables_of<'a, A: Allocator>(alloc: &'a A, script: &[u8]) -> Result<Vec<u8, &'a A>, NoText>
+pub fn tables_of<'a, A: Allocator>(
+    alloc: &'a A,
+    script: &[u8],
+) -> Result<Vec<u8, &'a A>, AnswerFault>
     ensures text { IfOk result (λ text. AreTables (script_lines script.now) text.items) }
     ensures none { IfErr result (MayEnd IsOutOfMemory (IsUnread script.now)) }
 {
     match positions_in(alloc, script) {
-        Err(fault) => Err(NoText::Stopped(fault)),
+        Err(fault) => Err(AnswerFault::Stopped(fault)),
         Ok(positions) => match needs_of(alloc, positions.as_slice()) {
             Ok(text) => Ok(text),
-            Err(_) => Err(NoText::Denied(Denial::Refused(Refusal::OutOfMemory))),
+            Err(_) => Err(AnswerFault::Denied(RequestFault::Refused(Refusal::OutOfMemory))),
         },
     }
 }
 
 /// The squares that a pawn may have passed in a double step just before, in a position, one a line.
-pub fn passed_of<'a, A: Allocator>(alloc: &'a A, start: &Start) -> Result<Vec<u8, &'a A>, NoText>
+pub fn passed_of<'a, A: Allocator>(
+    alloc: &'a A,
+    start: &Start,
+) -> Result<Vec<u8, &'a A>, AnswerFault>
     ensures text { IfOk result (λ text. text.items ≡ squares_text (passed_squares start.now.position.men start.now.position.to_move)) }
     ensures none { IfErr result (MayEnd IsOutOfMemory IsNoMemory) }
 {
@@ -153,6 +159,6 @@ pub fn passed_of<'a, A: Allocator>(alloc: &'a A, start: &Start) -> Result<Vec<u8
     let mut text = Vec::new(alloc);
     match add_squares(&mut text, squares.as_slice()) {
         Ok(()) => Ok(text),
-        Err(_) => Err(NoText::Denied(Denial::Refused(Refusal::OutOfMemory))),
+        Err(_) => Err(AnswerFault::Denied(RequestFault::Refused(Refusal::OutOfMemory))),
     }
 }

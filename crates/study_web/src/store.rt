@@ -3,8 +3,8 @@ ghost use Rattle.std.specs.Prelude.{◌≡◌, false, replicate, length, IfOk, I
 ghost use Rattle.study_web.specs.Spans.{bytes_given, header_given, file_in, IsHonestIn};
 ghost use Rattle.study_web.specs.Store.{known, faults_known, IsFileGiven, IsWithheld};
 
+use crate::file_spans::{FileSpan, file_in};
 use crate::saved::{Saved, SavedFile};
-use crate::spans::{Span, file_in};
 use std::alloc::Allocator;
 use study_material::{CLASS_COUNT, Class};
 use study_script::{StoreFault, TableStore};
@@ -16,7 +16,7 @@ use study_text::MemoryReader;
 #[derive(Drop)]
 pub struct SpanStore<'f, 'w, 'a, A: Allocator> {
     alloc: &'a A,
-    spans: &'f [Span],
+    spans: &'f [FileSpan],
     bytes: &'f [u8],
     saved: &'w [Saved<'a, A>],
     /// The classes whose files were opened for writing.
@@ -25,7 +25,12 @@ pub struct SpanStore<'f, 'w, 'a, A: Allocator> {
 }
 
 impl<'f, 'w, 'a, A: Allocator> SpanStore<'f, 'w, 'a, A> {
-    pub fn new(alloc: &'a A, spans: &'f [Span], bytes: &'f [u8], saved: &'w [Saved<'a, A>]) -> Self
+    pub fn new(
+        alloc: &'a A,
+        spans: &'f [FileSpan],
+        bytes: &'f [u8],
+        saved: &'w [Saved<'a, A>],
+    ) -> Self
         ensures spans { result.spans.now ≡ spans.now }
         ensures bytes { result.bytes.now ≡ bytes.now }
         ensures written { result.written ≡ replicate 36 false }

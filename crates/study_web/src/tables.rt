@@ -7,7 +7,7 @@ ghost use Rattle.study_script.specs.declared.store.StoreFault.TheVariants.{NoFil
 ghost use Rattle.study_script.specs.State.{is_among, IsGiven, IsOpened};
 ghost use Rattle.study_web.specs.Opened.{denial_of, IsHeldAs, IsOfTables};
 
-use crate::denial::Denial;
+use crate::request_fault::RequestFault;
 use std::alloc::Allocator;
 use study_material::Class;
 use study_prober::{PagedFault, PagedTables};
@@ -19,7 +19,7 @@ use study_values::Values;
 const PAGES: u16 = 1024;
 
 /// Why the file of a class is not a table, as a script's reply names it; or want of memory.
-fn denial_of(class: Class, fault: PagedFault) -> Denial
+fn denial_of(class: Class, fault: PagedFault) -> RequestFault
     ensures { result ≡ denial_of class fault }
 {
     let refusal = match fault {
@@ -27,9 +27,9 @@ fn denial_of(class: Class, fault: PagedFault) -> Denial
         PagedFault::TableRead(fault) => Refusal::TableRead(fault),
         PagedFault::Header(fault) => Refusal::File(fault),
         PagedFault::OtherClass(other) => Refusal::OtherClass(other),
-        PagedFault::OutOfMemory => return Denial::Refused(Refusal::OutOfMemory),
+        PagedFault::OutOfMemory => return RequestFault::Refused(Refusal::OutOfMemory),
     };
-    Denial::OfFile(class, refusal)
+    RequestFault::OfFile(class, refusal)
 }
 
 /// Opens the file of a class, if there is one and it is not open.
@@ -37,7 +37,7 @@ fn open_table<'a, S: TableStore, A: Allocator>(
     tables: &mut PagedTables<'a, S::Pages, A>,
     store: &mut S,
     class: Class,
-) -> Result<(), Denial>
+) -> Result<(), RequestFault>
     ensures right { S.honest store.old true class → SourcesAreRight S.Pages.honest tables.old.sources
         → OnOk result (SourcesAreRight S.Pages.honest tables.new.sources) }
     ensures grows { (c : AClass) → is_some (held_of tables.old.sources c) ≡ true → OnOk result (is_some (held_of tables.new.sources c) ≡ true) }
@@ -56,7 +56,7 @@ fn open_table<'a, S: TableStore, A: Allocator>(
     }
     match store.pages(class) {
         Err(StoreFault::NoFile) => Ok(()),
-        Err(StoreFault::Device) => Err(Denial::OfFile(class, Refusal::Device)),
+        Err(StoreFault::Device) => Err(RequestFault::OfFile(class, Refusal::Device)),
         Ok(source) => match tables.add(class, source) {
             Ok(()) => Ok(()),
             Err(fault) => Err(denial_of(class, fault)),
@@ -69,7 +69,7 @@ fn open_each<'a, S: TableStore, A: Allocator>(
     tables: &mut PagedTables<'a, S::Pages, A>,
     store: &mut S,
     classes: &[Class],
-) -> Result<(), Denial>
+) -> Result<(), RequestFault>
     ensures right { ((c : AClass) → S.honest store.old true c) → SourcesAreRight S.Pages.honest tables.old.sources
         → OnOk result (SourcesAreRight S.Pages.honest tables.new.sources) }
     ensures grows { (c : AClass) → is_some (held_of tables.old.sources c) ≡ true → OnOk result (is_some (held_of tables.new.sources c) ≡ true) }
@@ -96,7 +96,7 @@ pub fn open_tables<'a, S: TableStore, A: Allocator>(
     alloc: &'a A,
     store: &mut S,
     pages: Option<u16>,
-) -> Result<PagedTables<'a, S::Pages, A>, Denial>
+) -> Result<PagedTables<'a, S::Pages, A>, RequestFault>
     requires { IfSome pages (λ n. (1 ≤ n) × (n ≤ 4096)) }
     ensures right { ((c : AClass) → S.honest store.old true c) → IfOk result (λ w. SourcesAreRight S.Pages.honest w.sources) }
     ensures named { IfErr result (IsOfTables (S.headers store.old) (S.faults store.old)) }
@@ -109,7 +109,7 @@ pub fn open_tables<'a, S: TableStore, A: Allocator>(
         Some(n) => n,
     };
     let Ok(mut tables) = PagedTables::new(alloc, room) else {
-        return Err(Denial::Refused(Refusal::OutOfMemory));
+        return Err(RequestFault::Refused(Refusal::OutOfMemory));
     };
     match open_each(&mut tables, store, Class::all().as_slice()) {
         Err(denial) => Err(denial),

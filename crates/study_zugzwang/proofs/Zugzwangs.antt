@@ -8,7 +8,7 @@ use Rattle.study_board.specs.declared.men.Side.{Side}
 use Rattle.study_board.specs.declared.men.Side.TheVariants.{White, Black}
 use Rattle.study_board.specs.Men.{other_side}
 use Rattle.study_board.specs.Position.{Position, IsValid}
-use Rattle.study_moves.specs.EnPassant.{has_legal_en_passant, bare, without_passed}
+use Rattle.study_moves.specs.EnPassant.{has_legal_en_passant, without_idle_passed_square, without_passed}
 use Rattle.study_moves.specs.Laws.{AllAgreeWithBare, EachHasAtMostOneValue, HasSameValue}
 use Rattle.study_index.proofs.MenInOrder.{ascending_same}
 use Rattle.study_values.specs.declared.value.Value.{Value}
@@ -103,7 +103,7 @@ other-twice : (s : Side) → other_side (other_side s) ≡ s
 other-twice White = refl
 other-twice Black = refl
 
-bare-quiet : (p : Position) → has_legal_en_passant p ≡ false → bare p ≡ without_passed p
+bare-quiet : (p : Position) → has_legal_en_passant p ≡ false → without_idle_passed_square p ≡ without_passed p
 bare-quiet p e = go (has_legal_en_passant p) e
   where
     go : (b : Bool) → b ≡ false → cond b p (without_passed p) ≡ without_passed p
@@ -122,10 +122,10 @@ both-ways law p valid z = record {
     z.less.1,
     z.less.0,
     z.less.3,
-    ((z.less.2).0, subst (λ (q : Position). IsValueOf q (z.less.2).0) back (value-along p (bare p) (law p valid).value (z.less.2).0 (z.less.2).1), (z.less.2).2),
+    ((z.less.2).0, subst (λ (q : Position). IsValueOf q (z.less.2).0) back (value-along p (without_idle_passed_square p) (law p valid).value (z.less.2).0 (z.less.2).1), (z.less.2).2),
     (let less = z.less.4 in let turned : z.less.1 + z.less.0 < 2 = omega (arith, less) in turned),
   );
 }
   where
-    back : bare p ≡ handed_on (handed_on p)
+    back : without_idle_passed_square p ≡ handed_on (handed_on p)
     back = bare-quiet p z.none_passed ∙ ap (λ s. of p.men s None) (sym (other-twice p.to_move))

@@ -6,7 +6,7 @@ use std::alloc::Allocator;
 use std::io::Write;
 use study_material::Class;
 use study_prober::PagedTables;
-use study_reply::{Refusal, refuse};
+use study_reply::{Refusal, write_refusal};
 use study_script::{StoreFault, TableStore, refusal_of_paged};
 use study_text::MemoryWriter;
 
@@ -38,7 +38,7 @@ fn open_table<'a, S: TableStore, A: Allocator>(
 /// Writes the fault of a file. A failure of standard error cannot be reported.
 fn put_fault<A: Allocator, E: Write>(alloc: &A, errors: &mut E, class: Class, refusal: Refusal) {
     let mut reply = MemoryWriter::new(alloc);
-    if refuse(&mut reply, refusal).is_ok() {
+    if write_refusal(&mut reply, refusal).is_ok() {
         let _ = put_file_fault(errors, class, without_error(reply.taken.as_slice()));
     }
 }

@@ -5,8 +5,8 @@ use std::alloc::Global;
 use std::process::Abort;
 use study_board::Position;
 use study_facts::{
-    Continuation, Defence, alternatives, best_play, children_in, defences, drawing_moves,
-    holding_moves, is_in_solution, made_in, missing_moves, place_in, refutations,
+    Defence, EvaluatedMove, alternatives, best_play, children_in, defences, drawing_moves,
+    holding_moves, is_in_solution, missing_moves, move_context_at, node_position_at, refutations,
     timed_alternatives,
 };
 use study_marks::Bench;
@@ -58,14 +58,14 @@ fn list_of<'a, V: Values>(
     steps: &[u16],
     list: List,
     values: &mut V,
-) -> (Position, ArrayVec<Continuation, MAX_MOVES>) {
+) -> (Position, ArrayVec<EvaluatedMove, MAX_MOVES>) {
     if list == List::Alternatives {
-        let made = made_in(bench, steps).expect(rt, "a move");
+        let made = move_context_at(bench, steps).expect(rt, "a move");
         assert!(rt; made.before.depth <= 256);
         let list = alternatives(&node(&made.before), made.played, values).ok();
         return (made.before.position, list.expect(rt, "values"));
     }
-    let place = place_in(bench, steps).expect(rt, "a node");
+    let place = node_position_at(bench, steps).expect(rt, "a node");
     assert!(rt; place.depth <= 256);
     let there = children_in(alloc, bench, steps).ok().expect(rt, "memory");
     let there = there.expect(rt, "a node");
@@ -153,12 +153,12 @@ fn the_defence_has_one_answer_in_the_solution(rt: HostRuntime) {
     let alloc = rt.alloc();
     let mut values = tables_of(&rt, &alloc, &[Class::KK, Class::KRK]);
     let bench = waiting(&rt, &alloc, 3, &mut values);
-    let place = place_in(&bench, &[0]).expect(&rt, "a node");
+    let place = node_position_at(&bench, &[0]).expect(&rt, "a node");
     assert!(rt; place.depth <= 256);
     let list = defences(&node(&place), &[], &mut values).ok();
     let list = list.expect(&rt, "values");
-    let reply = made_in(&bench, &[0, 0]).expect(&rt, "a move");
-    let answer = made_in(&bench, &[0, 0, 0]).expect(&rt, "a move");
+    let reply = move_context_at(&bench, &[0, 0]).expect(&rt, "a move");
+    let answer = move_context_at(&bench, &[0, 0, 0]).expect(&rt, "a move");
     let wanted = Defence {
         played: reply.played,
         value: Value::Win(3),
@@ -166,7 +166,7 @@ fn the_defence_has_one_answer_in_the_solution(rt: HostRuntime) {
         only: Some(answer.played),
     };
     assert!(rt; list.as_slice() == [wanted].as_slice());
-    assert!(rt; place_in(&bench, &[3]).is_none() && made_in(&bench, &[]).is_none());
+    assert!(rt; node_position_at(&bench, &[3]).is_none() && move_context_at(&bench, &[]).is_none());
     for (steps, is_in) in [(&[0, 0, 0][..], true), (&[0, 0, 1], false), (&[1], false)] {
         assert!(rt; is_in_solution(&place.aim, steps) == is_in, "{steps:?}");
     }
@@ -178,7 +178,7 @@ fn best_play_goes_on_to_the_mate(rt: HostRuntime) {
     let alloc = rt.alloc();
     let mut values = tables_of(&rt, &alloc, &[Class::KK, Class::KRK]);
     let bench = waiting(&rt, &alloc, 3, &mut values);
-    let end = place_in(&bench, &[0, 0, 1, 0]).expect(&rt, "a node");
+    let end = node_position_at(&bench, &[0, 0, 1, 0]).expect(&rt, "a node");
     let mut p = end.position;
     let play = best_play(&p, &mut values).ok().expect(&rt, "values");
     let moves = ["Rc7+", "Ka8", "Kb5", "Kb8", "Kb6", "Ka8", "Rc8#"];
@@ -202,7 +202,7 @@ fn one_alternative_of_a_win_loses_time(rt: HostRuntime) {
     let fen = "k7/8/1K6/8/8/8/8/6Q1 w - - 0 1";
     let bench = study(&rt, &alloc, fen, white(&rt, None), moves, &mut values);
     for (steps, back, count) in [(&[0][..], "none", 21), (&[0, 0, 0], "Qg1", 27)] {
-        let made = made_in(&bench, steps).expect(&rt, "a move");
+        let made = move_context_at(&bench, steps).expect(&rt, "a move");
         assert!(rt; made.before.depth <= 256);
         let list = timed_alternatives(&made.before, made.played, &mut values).ok();
         let list = list.expect(&rt, "values");

@@ -2,7 +2,7 @@
 use crate::studies::{position_of, tables_of};
 use arrayvec::ArrayVec;
 use std::process::Abort;
-use study_facts::{Node, Place, best_play, defences, timed_alternatives};
+use study_facts::{NodeContext, NodePosition, best_play, defences, timed_alternatives};
 use study_marks::{Aim, Goal};
 use study_material::Class;
 use study_notation::read_san;
@@ -31,13 +31,13 @@ fn fault_of<V: Values>(rt: &impl Abort, call: Call, values: &mut V) -> Option<Pr
     let reply = position_of(rt, "8/8/8/8/8/2k4Q/8/K7 b - - 0 1");
     let mut line = ArrayVec::new();
     line.push(position.copied());
-    let root = Place {
+    let root = NodePosition {
         aim: WIN,
         depth: 0,
         position,
         line,
     };
-    let node = Node {
+    let node = NodeContext {
         aim: &WIN,
         depth: 1,
         position: &reply,

@@ -3,7 +3,9 @@ use crate::studies::{position_of, tables_of};
 use std::alloc::Global;
 use std::process::Abort;
 use study_board::Position;
-use study_facts::{Continuation, Node, alternatives, best_move, is_back, time_lost};
+use study_facts::{
+    EvaluatedMove, NodeContext, alternatives, best_move, is_repeatable_within, waste_of_time,
+};
 use study_marks::{Aim, Goal};
 use study_material::Class;
 use study_moves::{is_legal, played};
@@ -13,13 +15,13 @@ use study_values::Values;
 type Counts = (usize, [usize; 3]);
 
 /// The best move, and the value after it.
-fn best_at<V: Values>(rt: &impl Abort, p: &Position, values: &mut V) -> Continuation {
+fn best_at<V: Values>(rt: &impl Abort, p: &Position, values: &mut V) -> EvaluatedMove {
     let best = best_move(p, values).ok().expect(rt, "values");
     best.expect(rt, "a move")
 }
 
 /// The position after a move, which has to be legal.
-fn after(rt: &impl Abort, p: &Position, by: &Continuation) -> Position {
+fn after(rt: &impl Abort, p: &Position, by: &EvaluatedMove) -> Position {
     assert!(rt; is_legal(p, by.played));
     played(p, by.played)
 }
@@ -29,10 +31,10 @@ fn counts_at<V: Values>(
     rt: &impl Abort,
     line: &[Position],
     p: &Position,
-    best: &Continuation,
+    best: &EvaluatedMove,
     values: &mut V,
 ) -> Counts {
-    let node = Node {
+    let node = NodeContext {
         aim: &Aim {
             goal: Goal::Win,
             hero_first: true,
@@ -44,7 +46,7 @@ fn counts_at<V: Values>(
     let also = also.expect(rt, "values");
     let mut counts = [0usize; 3];
     for x in also.as_slice() {
-        let lost = time_lost(line, &after(rt, p, x), values).ok();
+        let lost = waste_of_time(line, &after(rt, p, x), values).ok();
         if let Some(least) = lost.expect(rt, "values") {
             for (within, count) in [0u8, 1, 2].iter().zip(counts.iter_mut()) {
                 *count = count.saturating_add(usize::from(least <= *within));
@@ -66,7 +68,7 @@ fn check_line<V: Values>(
     let mut p = position_of(rt, fen);
     for counts in wanted {
         assert!(rt; line.push(p.copied()).is_ok());
-        assert!(rt; is_back(line.as_slice(), 0, &p, values) == Ok(true));
+        assert!(rt; is_repeatable_within(line.as_slice(), 0, &p, values) == Ok(true));
         let best = best_at(rt, &p, values);
         let found = counts_at(rt, line.as_slice(), &p, &best, values);
         assert_eq!(rt; found, *counts, "{fen}");

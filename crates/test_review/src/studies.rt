@@ -4,7 +4,7 @@ ghost use Rattle.std.specs.Prelude.{◌≡◌};
 use std::alloc::Allocator;
 use std::process::Abort;
 use study_board::{Position, Side};
-use study_facts::{Node, Place};
+use study_facts::{NodeContext, NodePosition};
 use study_marks::{Bench, Goal, MateMoves, Stipulation};
 use study_material::Class;
 use study_moves::{Move, is_legal};
@@ -75,10 +75,10 @@ pub(crate) fn study<'a, A: Allocator, V: Values>(
     bench
 }
 
-pub(crate) fn node(place: &Place) -> Node<'_>
+pub(crate) fn node(place: &NodePosition) -> NodeContext<'_>
     ensures { result.depth ≡ place.now.depth }
 {
-    Node {
+    NodeContext {
         aim: &place.aim,
         depth: place.depth,
         position: &place.position,

@@ -3,7 +3,7 @@ use crate::men::square;
 use crate::rows::{field, number};
 use std::process::Abort;
 use study_board::Square;
-use study_index::{Departure, RowDeparture, row_of_last};
+use study_index::{IndexAfterMove, RowIndexAfterMove, row_of_last_man};
 use study_material::Class;
 use study_values::cells;
 
@@ -52,15 +52,15 @@ fn expect_numbers(rt: &impl Abort, row: &str) {
     let from = square(field(row, 2)).expect(rt, row);
     assert!(rt; start < cells(class), "{row}");
     for slot in 0..5 {
-        expect_numbers_by(rt, row, &Departure::new(class, start, from, slot));
-        if let Some(departure) = RowDeparture::new(class, start / 64, from, slot) {
+        expect_numbers_by(rt, row, &IndexAfterMove::new(class, start, from, slot));
+        if let Some(departure) = RowIndexAfterMove::new(class, start / 64, from, slot) {
             expect_numbers_in_row(rt, row, &departure, start);
         }
     }
 }
 
 /// The departure by the numbers of a row leads from the number to each number of the text.
-fn expect_numbers_in_row(rt: &impl Abort, row: &str, departure: &RowDeparture, start: u32) {
+fn expect_numbers_in_row(rt: &impl Abort, row: &str, departure: &RowIndexAfterMove, start: u32) {
     let last = Square::new((start % 64) as u8).expect(rt, row);
     let mut wants = field(row, 4).split(' ');
     for word in field(row, 3).split(' ') {
@@ -74,7 +74,7 @@ fn expect_numbers_in_row(rt: &impl Abort, row: &str, departure: &RowDeparture, s
 }
 
 /// The departure leads to each number of the row.
-fn expect_numbers_by(rt: &impl Abort, row: &str, departure: &Departure) {
+fn expect_numbers_by(rt: &impl Abort, row: &str, departure: &IndexAfterMove) {
     let mut wants = field(row, 4).split(' ');
     for word in field(row, 3).split(' ') {
         let to = square(word).expect(rt, row);
@@ -99,7 +99,7 @@ fn expect_rows(rt: &impl Abort, row: &str) {
     let filled = number(field(row, 4)).expect(rt, row);
     assert!(rt; start < cells(class), "{row}");
     for slot in 0..5 {
-        let departure = RowDeparture::new(class, start / 64, from, slot);
+        let departure = RowIndexAfterMove::new(class, start / 64, from, slot);
         let before_last = slot as usize + 1 < field(row, 0).len();
         assert!(rt;
             departure.is_some() == (slot == filled && before_last),
@@ -110,7 +110,7 @@ fn expect_rows(rt: &impl Abort, row: &str) {
 }
 
 /// The departure leads to each row, if the slot is the man's.
-fn expect_rows_by(rt: &impl Abort, row: &str, departure: Option<RowDeparture>, filled: bool) {
+fn expect_rows_by(rt: &impl Abort, row: &str, departure: Option<RowIndexAfterMove>, filled: bool) {
     let mut wants = field(row, 5).split(' ');
     for word in field(row, 3).split(' ') {
         let to = square(word).expect(rt, row);
@@ -134,7 +134,7 @@ fn expect_row_of_last(rt: &impl Abort, row: &str) {
     let start = number(field(row, 1)).expect(rt, row);
     assert!(rt; start < cells(class), "{row}");
     let want = number(field(row, 2));
-    assert!(rt; row_of_last(class, start / 64) == want, "{row}");
+    assert!(rt; row_of_last_man(class, start / 64) == want, "{row}");
 }
 
 #[test]

@@ -3,7 +3,7 @@ use crate::men::{man, side, square};
 use crate::rows::{field, number};
 use std::process::Abort;
 use study_board::Man;
-use study_index::{number_moved, number_stepped, told};
+use study_index::{decode_men, index_after_move, index_after_step};
 use study_material::Class;
 use study_values::cells;
 
@@ -37,7 +37,7 @@ KPKP,26081051,K3 k31 P28 p27,b";
 fn numbers_tell_their_men(rt: HostRuntime) {
     for row in TOLD.lines() {
         let (class, number) = start(&rt, row);
-        let setup = told(class, number);
+        let setup = decode_men(class, number);
         let mut slot = 0usize;
         for word in field(row, 2).split_ascii_whitespace() {
             assert!(rt; is_man(setup.men.as_slice(), slot, word), "{row}");
@@ -89,13 +89,13 @@ fn leads_on(rt: &impl Abort, row: &str) -> bool {
     let to = square(field(row, 3)).expect(rt, row);
     let want = number(field(row, 4));
     assert!(rt; from < cells(class), "{row}");
-    let setup = told(class, from);
+    let setup = decode_men(class, from);
     assert!(rt; (slot as usize) < setup.men.len(), "{row}");
     match setup.men.as_slice().get(slot as usize) {
         None => false,
         Some(m) => {
-            want == Some(number_stepped(class, from, slot, to))
-                && want == Some(number_moved(class, from, m.at, to))
+            want == Some(index_after_step(class, from, slot, to))
+                && want == Some(index_after_move(class, from, m.at, to))
         }
     }
 }

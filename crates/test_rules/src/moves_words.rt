@@ -4,7 +4,7 @@ use crate::rows::{field, number};
 use arrayvec::ArrayVec;
 use std::process::Abort;
 use study_board::{Man, Side};
-use study_moves::{origins, safe_targets};
+use study_moves::{safe_targets, unmove_origins};
 
 /// The men of the row's first field, in the order of that field.
 fn men(rt: &impl Abort, row: &str) -> ArrayVec<Man, 4> {
@@ -72,9 +72,8 @@ fn came(men: &[Man], to_move: Side, word: &str) -> bool {
         square(squares.next().unwrap_or("")),
         square(squares.next().unwrap_or("")),
     ) {
-        (Some(from), Some(to)) => men
-            .iter()
-            .any(|m| m.at == to && origins(men, to_move, m).contains(from)),
+        (Some(from), Some(to)) => men.iter().any(|m| m.at == to
+            && unmove_origins(men, to_move, m).contains(from)),
         _ => false,
     }
 }
@@ -94,7 +93,7 @@ fn origins_are_where_the_men_came_from(rt: HostRuntime) {
         let mut count = 0u32;
         for m in men.as_slice() {
             if m.side != to_move {
-                count = count.saturating_add(origins(men.as_slice(), to_move, m).len());
+                count = count.saturating_add(unmove_origins(men.as_slice(), to_move, m).len());
             }
         }
         for word in field(row, 2).split_ascii_whitespace() {

@@ -2,7 +2,7 @@
 //! since it asserts what it expects.
 use std::alloc::{Allocator, Global};
 use study_marks::{
-    Bench, Edit, Mark, MarkedChild, MarkedNode, Refusal, Shown, Stipulation, Stopped,
+    Bench, Edit, Mark, MarkedChild, MarkedNode, NodeView, Refusal, Stipulation, Stopped,
 };
 use study_moves::Move;
 use study_notation::Start;
@@ -86,7 +86,7 @@ pub(crate) fn relabelled<A: Allocator>(bench: &Bench<'_, A>) -> u64 {
     bench.relabelled()
 }
 
-pub(crate) fn shown<A: Allocator>(bench: &Bench<'_, A>, steps: &[u16]) -> Option<Shown> {
+pub(crate) fn shown<A: Allocator>(bench: &Bench<'_, A>, steps: &[u16]) -> Option<NodeView> {
     bench.shown(steps)
 }
 

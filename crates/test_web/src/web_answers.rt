@@ -6,7 +6,7 @@ use std::alloc::{Allocator, Global};
 use std::test::Fail;
 use study_material::Class;
 use study_web::{
-    Ending, Reply, RunFault, Span, Summary, TableFiles, answer, make_file, put_ending,
+    Answer, Ending, FileSpan, RunFault, Summary, TableFiles, answer, make_file, put_ending,
 };
 
 const SCRIPT: &str = r#"position k7/1R6/8/K7/8/8/8/8 w - - 0 1
@@ -145,9 +145,9 @@ fn ask<'a>(
     alloc: &'a Global,
     request: &str,
     script: &str,
-    spans: &[Span],
+    spans: &[FileSpan],
     bytes: &[u8],
-) -> Reply<'a, Global> {
+) -> Answer<'a, Global> {
     let files = TableFiles {
         spans,
         bytes,
@@ -161,7 +161,7 @@ fn refusal<'a>(
     alloc: &'a Global,
     request: &str,
     script: &str,
-    spans: &[Span],
+    spans: &[FileSpan],
     bytes: &[u8],
 ) -> Result<Vec<u8, &'a Global>, Fail> {
     let given = ask(alloc, request, script, spans, bytes);
@@ -239,7 +239,7 @@ fn pages_over_tables(rt: HostRuntime) -> Result<(), Fail> {
                 refused: 1
             })
     );
-    let other = [Span {
+    let other = [FileSpan {
         class: Class::KRK as usize,
         start: 0,
         length: 80,
@@ -335,7 +335,7 @@ fn files_that_are_none(rt: HostRuntime) -> Result<(), Fail> {
     let alloc = rt.alloc();
     let bytes = make_file(&alloc, Class::KK, &[], &[])?;
     let request = "survey a1 white draw k7/8/8/8/8/8/8/K7 w - -";
-    let at = |class: Class, start: usize, length: usize| Span {
+    let at = |class: Class, start: usize, length: usize| FileSpan {
         class: class as usize,
         start,
         length,
@@ -366,12 +366,12 @@ const KINGS: &str =
 fn files_that_are_not_needed(rt: HostRuntime) -> Result<(), Fail> {
     let alloc = rt.alloc();
     let bytes = make_file(&alloc, Class::KK, &[], &[])?;
-    let whole = Span {
+    let whole = FileSpan {
         class: Class::KK as usize,
         start: 0,
         length: bytes.len(),
     };
-    let cut = Span {
+    let cut = FileSpan {
         class: Class::KRK as usize,
         start: 0,
         length: 63,
@@ -424,7 +424,7 @@ const FOUND: &str = "6kR/8/5K2/8/8/8/8/8 b - - 0 1 draw Kxh8\nto 81920 of 81920\
 fn found_over_tables(rt: HostRuntime) -> Result<(), Fail> {
     let alloc = rt.alloc();
     let (bytes, two) = two_files(&alloc)?;
-    let cut = Span {
+    let cut = FileSpan {
         class: Class::KQK as usize,
         start: 0,
         length: 63,
@@ -459,7 +459,7 @@ fn found_over_tables(rt: HostRuntime) -> Result<(), Fail> {
 fn rows_over_tables(rt: HostRuntime) -> Result<(), Fail> {
     let alloc = rt.alloc();
     let (bytes, two) = two_files(&alloc)?;
-    let cut = Span {
+    let cut = FileSpan {
         class: Class::KQK as usize,
         start: 0,
         length: 63,

@@ -6,7 +6,7 @@ use std::test::Fail;
 use study_material::Class;
 use study_tablefile::read_table;
 use study_values::FileFault;
-use study_web::{MakeFault, Span, file_in, make_file};
+use study_web::{FileSpan, MakeFault, file_in, make_file};
 
 const KK_DIGEST: &str = "bfe492baf731a0dbf6e1e050f5bc3fe8c1b049383194dcdf82f023bfa409f462";
 
@@ -14,8 +14,8 @@ const KRK_DIGEST: &str = "c44ba016cdd825eddc9b922d55db18a9147c60cb9978c9a8b62eb2
 
 /// The span of a file that begins there.
 /// No contract: only tests call it, and the files that are made from it are compared with digests.
-pub fn span(class: Class, start: usize, file: &[u8]) -> Span {
-    Span {
+pub fn span(class: Class, start: usize, file: &[u8]) -> FileSpan {
+    FileSpan {
         class: class as usize,
         start,
         length: file.len(),
@@ -75,7 +75,7 @@ fn files_are_refused(rt: HostRuntime) -> Result<(), Fail> {
 #[test]
 fn spans_that_fit(rt: HostRuntime) -> Result<(), Fail> {
     let bytes = [1u8, 2, 3, 4];
-    let at = |class: usize, start: usize, length: usize| Span {
+    let at = |class: usize, start: usize, length: usize| FileSpan {
         class,
         start,
         length,

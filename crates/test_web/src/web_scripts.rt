@@ -6,7 +6,7 @@ use std::alloc::{Allocator, Global};
 use std::test::Fail;
 use study_material::Class;
 use study_web::{
-    Ended, HandedIn, RunFault, Span, answer_into, make_file, none_saved, replies_over,
+    FileSpan, HandedIn, RunFault, RunOutput, answer_into, make_file, none_saved, replies_over,
 };
 
 const LOADS: &[u8] = b"load KK
@@ -28,7 +28,7 @@ mark 0 loss 0 only faults 0
 
 /// The files of KK and KRK, one after the other.
 /// No contract: only tests call it, and they compare the replies of scripts that read the files.
-pub fn two_files<'a, A: Allocator>(alloc: &'a A) -> Result<(Vec<u8, &'a A>, [Span; 2]), Fail> {
+pub fn two_files<'a, A: Allocator>(alloc: &'a A) -> Result<(Vec<u8, &'a A>, [FileSpan; 2]), Fail> {
     let mut bytes = make_file(alloc, Class::KK, &[], &[])?;
     let kings = span(Class::KK, 0, bytes.as_slice());
     let rook = make_file(alloc, Class::KRK, &[kings], bytes.as_slice())?;

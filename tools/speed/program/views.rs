@@ -8,7 +8,7 @@ use study_marks::Bench;
 use study_values::Values;
 use study_text::MemoryWriter;
 use study_tree::Path;
-use study_view::{Question, ViewFault, write_survey, write_view};
+use study_view::{SurveyQuestion, ViewFault, write_survey, write_view};
 
 /// How often each text is made.
 const GOES: u16 = 200;
@@ -52,7 +52,7 @@ fn tell_view<'a, A: Allocator, V: Values>(
 /// Tells of the survey of a man.
 fn tell_survey<V: Values>(
     rt: HostRuntime,
-    question: &Question<'_>,
+    question: &SurveyQuestion<'_>,
     values: &mut V,
 ) -> io::Result<()> {
     let alloc = rt.alloc();
@@ -89,7 +89,7 @@ pub fn measure<'a, A: Allocator, V: Values>(
     let position = &bench.start().position;
     let stipulation = bench.stipulation();
     for man in position.men() {
-        let question = Question {
+        let question = SurveyQuestion {
             position,
             square: man.at,
             stipulation: &stipulation,

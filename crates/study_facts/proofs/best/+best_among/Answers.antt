@@ -3,7 +3,7 @@ use Rattle.study_board.specs.Position.{Position}
 use Rattle.study_moves.specs.declared.moves.Move.{Move}
 use Rattle.study_moves.specs.Rules.{after}
 use Rattle.study_values.specs.Game.{IsValueOf}
-use Rattle.study_marks.specs.Told.{IsUntold, WasAsked}
+use Rattle.study_marks.specs.Evaluated.{IsProbeFaultOf, ProbeCount}
 use Rattle.study_marks.proofs.ValuesAsked.{untold-here, untold-later, held-told, asked-more}
 use Rattle.study_facts.proofs.BestSteps.{best-more}
 use Rattle.study_facts.proofs.best.+best_among.Goals as goal
@@ -13,9 +13,9 @@ returns-in-Err-clause-untold g t c =
     let held = g.V.Values.held c.args.values.now in
     let p = c.args.p.now in
     let rest = map (after p) c.in-Some.rest.now in
-    subst (λ (ms : List Move). IsUntold held (map (after p) ms) c.in-Err.fault)
+    subst (λ (ms : List Move). IsProbeFaultOf held (map (after p) ms) c.in-Err.fault)
     (sym c.in-Some.ensures.cases.0)
-    (subst (λ (q : Position). IsUntold held (q ∷ rest) c.in-Err.fault) c.played-next.ensures.value
+    (subst (λ (q : Position). IsProbeFaultOf held (q ∷ rest) c.in-Err.fault) c.played-next.ensures.value
     (untold-here held c.played-next.result rest c.value.result c.in-Err.fault c.in-Err.is c.value.ensures.no_table
     c.value.ensures.damaged))
 
@@ -24,9 +24,9 @@ returns-in-Err-best_among-clause-untold g t c =
     let held = g.V.Values.held c.args.values.now in
     let p = c.args.p.now in
     let rest = map (after p) c.in-Some.rest.now in
-    subst (λ (ms : List Move). IsUntold held (map (after p) ms) c.in-Err-best_among.fault)
+    subst (λ (ms : List Move). IsProbeFaultOf held (map (after p) ms) c.in-Err-best_among.fault)
     (sym c.in-Some.ensures.cases.0)
-    (subst (λ (q : Position). IsUntold held (q ∷ rest) c.in-Err-best_among.fault) c.played-next.ensures.value
+    (subst (λ (q : Position). IsProbeFaultOf held (q ∷ rest) c.in-Err-best_among.fault) c.played-next.ensures.value
     (untold-later held (g.V.Values.held c.value.new.self) c.played-next.result rest c.in-Err-best_among.fault
     (held-told held c.played-next.result c.value.result c.in-Ok.value c.in-Ok.is c.value.ensures.no_table) c.value.ensures.same_tables
     c.in-Err-best_among.ensures.untold))
@@ -34,7 +34,7 @@ returns-in-Err-best_among-clause-untold g t c =
 pub returns-in-Err-best_among-clause-asked : goal.returns-in-Err-best_among-clause-asked
 returns-in-Err-best_among-clause-asked g t c =
     let long : suc (length c.in-Some.rest.now) ≡ length c.args.moves.now = sym (ap length c.in-Some.ensures.cases.0) in
-    subst (λ n. WasAsked n false (g.V.Values.asked_of c.args.values.now) (g.V.Values.asked_of c.best_among.new.values)) long
+    subst (λ n. ProbeCount n false (g.V.Values.asked_of c.args.values.now) (g.V.Values.asked_of c.best_among.new.values)) long
     (asked-more (length c.in-Some.rest.now) false (g.V.Values.asked_of c.args.values.now)
     (g.V.Values.asked_of c.value.new.self) (g.V.Values.asked_of c.best_among.new.values) c.value.ensures.asked
     c.in-Err-best_among.ensures.asked)

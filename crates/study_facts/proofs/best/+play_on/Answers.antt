@@ -4,7 +4,7 @@ use Rattle.study_moves.specs.LegalList.{legal_list}
 use Rattle.study_facts.specs.Asked.{within}
 use Rattle.study_facts.proofs.Within.{leads-to, each-legal, some-told, has-wider, some-fault}
 use Rattle.study_facts.proofs.NotHeld.{untold-not-held}
-use Rattle.study_facts.specs.declared.continuation.Continuation.{Continuation}
+use Rattle.study_facts.specs.declared.continuation.EvaluatedMove.{EvaluatedMove}
 use Rattle.study_facts.specs.Best.{IsBestMove}
 use Rattle.study_facts.proofs.AskedSteps.{asked-then}
 use Rattle.study_facts.proofs.BestSteps.{play-ends, play-goes-on, legal-goes-on}
@@ -13,13 +13,13 @@ use Rattle.study_facts.proofs.best.+play_on.Goals as goal
 pub returns-in-Ok-None-clause-game : goal.returns-in-Ok-None-clause-game
 returns-in-Ok-None-clause-game g t c h =
     play-ends c.args.plies c.args.p.now c.args.list.now.items c.if-plies-eq0.false
-    (subst (λ (o : Option Continuation). IsBestMove c.args.p.now o) c.in-Ok-None.field-0-is (c.in-Ok-None.ensures.game h))
+    (subst (λ (o : Option EvaluatedMove). IsBestMove c.args.p.now o) c.in-Ok-None.field-0-is (c.in-Ok-None.ensures.game h))
 
 pub returns-in-Ok-Some-clause-game : goal.returns-in-Ok-Some-clause-game
 returns-in-Ok-Some-clause-game g t c h =
     play-goes-on c.args.plies c.args.p.now c.played-next.result c.in-Ok-Some.best c.args.list.now.items c.push.new.self.items
     c.play_on.new.list.items c.play_on.result c.if-plies-eq0.false
-    (subst (λ (o : Option Continuation). IsBestMove c.args.p.now o) c.in-Ok-Some.field-0-is (c.in-Ok-Some.ensures.game h))
+    (subst (λ (o : Option EvaluatedMove). IsBestMove c.args.p.now o) c.in-Ok-Some.field-0-is (c.in-Ok-Some.ensures.game h))
     c.played-next.ensures.value c.push.ensures.items (c.play_on.ensures.game (c.best_move.ensures.honest h))
 
 pub returns-in-Err-clause-untold : goal.returns-in-Err-clause-untold
@@ -35,14 +35,14 @@ returns-in-Ok-Some-clause-told g t c =
     (each-legal c.args.p.now) c.in-Ok-Some.ensures.told)
     (has-wider g.V.Values.may_fail g.V.Values.asked_of g.V.Values.gives c.args.p.now c.played-next.result
     (leads-to c.args.p.now c.played-next.result c.in-Ok-Some.best.played
-    (subst (λ (o : Option Continuation). IfSome o (λ x. is_legal c.args.p.now x.played ≡ true)) c.in-Ok-Some.field-0-is c.in-Ok-Some.ensures.legal) c.played-next.ensures.value)
+    (subst (λ (o : Option EvaluatedMove). IfSome o (λ x. is_legal c.args.p.now x.played ≡ true)) c.in-Ok-Some.field-0-is c.in-Ok-Some.ensures.legal) c.played-next.ensures.value)
     c.best_move.new.values c.play_on.new.values c.play_on.result c.play_on.ensures.told)
 
 pub returns-in-Ok-Some-clause-legal : goal.returns-in-Ok-Some-clause-legal
 returns-in-Ok-Some-clause-legal g t c =
     legal-goes-on c.args.p.now c.played-next.result c.in-Ok-Some.best c.args.list.now.items c.push.new.self.items c.play_on.new.list.items
     c.play_on.result
-    (subst (λ (o : Option Continuation). IfSome o (λ x. is_legal c.args.p.now x.played ≡ true)) c.in-Ok-Some.field-0-is c.in-Ok-Some.ensures.legal)
+    (subst (λ (o : Option EvaluatedMove). IfSome o (λ x. is_legal c.args.p.now x.played ≡ true)) c.in-Ok-Some.field-0-is c.in-Ok-Some.ensures.legal)
     c.played-next.ensures.value c.push.ensures.items c.play_on.ensures.legal
 
 pub returns-in-Err-clause-told : goal.returns-in-Err-clause-told

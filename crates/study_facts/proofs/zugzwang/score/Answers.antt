@@ -1,7 +1,7 @@
 use Rattle.std.proofs.Common.{rules, sym, subst}
 use Rattle.study_board.specs.Position.{IsValid}
 use Rattle.study_values.specs.Values.{ProbeAnswer}
-use Rattle.study_facts.specs.Asked.{HasTold, within}
+use Rattle.study_facts.specs.Asked.{HasProbed, within}
 use Rattle.study_facts.proofs.Within.{own-answer}
 use Rattle.study_facts.proofs.AskedSteps.{asked-one}
 use Rattle.study_facts.proofs.zugzwang.score.Goals as goal
@@ -12,7 +12,7 @@ returns-in-Ok-clause-game g c h = (c.in-Ok.value, c.in-Ok.ensures.game h, sym c.
 pub returns-in-Err-clause-told : goal.returns-in-Err-clause-told
 returns-in-Err-clause-told g c =
     let valid : IsValid c.args.q.now = search rules in
-    subst (λ (r : ProbeAnswer). HasTold (within c.args.q.now g.V.Values.gives) g.V.Values.may_fail g.V.Values.asked_of c.args.values.now r c.value.new.self) c.in-Err.is
+    subst (λ (r : ProbeAnswer). HasProbed (within c.args.q.now g.V.Values.gives) g.V.Values.may_fail g.V.Values.asked_of c.args.values.now r c.value.new.self) c.in-Err.is
     (asked-one (within c.args.q.now g.V.Values.gives) g.V.Values.may_fail g.V.Values.asked_of c.args.values.now
     c.value.new.self c.args.q.now c.value.result valid
     (own-answer g.V.Values.gives c.args.values.now c.args.q.now c.value.result c.value.ensures.given (λ k e. ((c.value.ensures.no_table k).0 e).0)) c.value.ensures.asked
@@ -21,7 +21,7 @@ returns-in-Err-clause-told g c =
 pub returns-in-Ok-clause-told : goal.returns-in-Ok-clause-told
 returns-in-Ok-clause-told g c =
     let valid : IsValid c.args.q.now = search rules in
-    subst (λ (r : ProbeAnswer). HasTold (within c.args.q.now g.V.Values.gives) g.V.Values.may_fail g.V.Values.asked_of c.args.values.now r c.value.new.self) c.in-Ok.is
+    subst (λ (r : ProbeAnswer). HasProbed (within c.args.q.now g.V.Values.gives) g.V.Values.may_fail g.V.Values.asked_of c.args.values.now r c.value.new.self) c.in-Ok.is
     (asked-one (within c.args.q.now g.V.Values.gives) g.V.Values.may_fail g.V.Values.asked_of c.args.values.now
     c.value.new.self c.args.q.now c.value.result valid
     (own-answer g.V.Values.gives c.args.values.now c.args.q.now c.value.result c.value.ensures.given (λ k e. ((c.value.ensures.no_table k).0 e).0)) c.value.ensures.asked

@@ -9,11 +9,11 @@ use Rattle.study_index.proofs.departure.way_from.Goals as goal
 pub way_of-requires-clause-stands : goal.way_of-requires-clause-stands
 way_of-requires-clause-stands c =
     subst (λ (ss : List Slot). (d : Man) → (slice_index_or (told_men ss (without_bit c.args.number)) c.args.slot d).at ≡ c.args.from)
-    c.slots-slots.ensures (c.stands_in.ensures c.if-not-stands_in.false).1
+    c.slots-slots.ensures (c.is_slot_square.ensures c.if-not-is_slot_square.false).1
 
 pub returns-then-slot-eq0 : goal.returns-then-slot-eq0
 returns-then-slot-eq0 c =
     found_king c.args.class c.args.number c.args.from
     (subst (λ (ss : List Slot). (d : Man) → (slice_index_or (told_men ss (without_bit c.args.number)) 0 d).at ≡ c.args.from) c.slots-slots.ensures
     (subst (λ (i : ℕ). (d : Man) → (slice_index_or (told_men c.slots-slots.result.now (without_bit c.args.number)) i d).at ≡ c.args.from)
-    (let z : c.args.slot ≡ 0 = c.if-slot-eq0.true in z) (c.stands_in.ensures c.if-not-stands_in.false).1))
+    (let z : c.args.slot ≡ 0 = c.if-slot-eq0.true in z) (c.is_slot_square.ensures c.if-not-is_slot_square.false).1))

@@ -1,6 +1,6 @@
 use Rattle.std.proofs.Common.{sym, ap, subst, ◌∙◌, List, Contains}
 use Rattle.std.proofs.lemmas.List.{take_all}
-use Rattle.study_table.specs.Forced.{Gives}
+use Rattle.study_table.specs.Forced.{GivesValue}
 use Rattle.study_moves.specs.declared.moves.Move.{Move}
 use Rattle.study_values.specs.declared.value.Value.{Value}
 use Rattle.study_levels.specs.Numbered.{label_by, leads_in}
@@ -31,5 +31,5 @@ returns g c =
     (λ m h. c.moves-moves.ensures.only m (subst (λ (xs : List Move). Contains xs m) same h))
     c.is_mate.result c.loop-by.replies.lost c.loop-by.replies.won c.loop-by.replies.drawn c.is_mate.ensures t in
     subst
-    (λ (v : Value). Gives (leads_in (g.G.Game.numbered c.args.game.now)) (g.G.Game.numbered c.args.game.now).mate
+    (λ (v : Value). GivesValue (leads_in (g.G.Game.numbered c.args.game.now)) (g.G.Game.numbered c.args.game.now).mate
     labels c.args.at.now v) (sym c.value.ensures) is

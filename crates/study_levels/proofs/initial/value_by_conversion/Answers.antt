@@ -9,7 +9,7 @@ use Rattle.study_levels.specs.Numbered.{leads_in}
 use Rattle.study_table.proofs.ClassLemmas.{true_or_false}
 use Rattle.study_levels.proofs.DueTally.{IsTallyOf, IsTallyOf-empty, IsTallyOf-in, IsTallyOf-out, GivesOutside-given_by}
 use Rattle.study_levels.proofs.initial.value_by_conversion.Goals as goal
-use Rattle.study_levels.proofs.initial.value_by_conversion.Goals.{then-leaves, else-leaves}
+use Rattle.study_levels.proofs.initial.value_by_conversion.Goals.{then-may_convert, else-may_convert}
 
 pub loop-by-init : goal.loop-by-init
 loop-by-init g c =
@@ -24,8 +24,8 @@ with_conversion-replies-requires g c =
     let d = c.by-item.result in
     let m : Move = slice_index_or ms c.loop-by.by-index d in
     let there = subst (λ (xs : List Move). Contains xs m) c.as_slice-by-items.ensures.value (Contains-get_or ms c.loop-by.by-index d c.loop-by-test.true) in
-    let here = subst (λ (x : Move). Contains c.leaving-moves.result.items x) (sym c.by-item.is) there in
-    c.requires.laws.closed c.args.at.now c.played-to.result c.requires.known c.requires.home (d, c.leaving-moves.ensures.only d here, sym c.played-to.ensures)
+    let here = subst (λ (x : Move). Contains c.conversions-moves.result.items x) (sym c.by-item.is) there in
+    c.requires.laws.closed c.args.at.now c.played-to.result c.requires.known c.requires.home (d, c.conversions-moves.ensures.only d here, sym c.played-to.ensures)
 
 pub loop-by-preserved : goal.loop-by-preserved
 loop-by-preserved g c =
@@ -36,8 +36,8 @@ loop-by-preserved g c =
     let item : (g.G.Game.numbered c.args.game.now).after c.args.at.now (slice_index_or ms c.loop-by.by-index d)
     ≡ (g.G.Game.numbered c.args.game.now).after c.args.at.now d =
     ap ((g.G.Game.numbered c.args.game.now).after c.args.at.now) (sym c.by-item.is) in
-    elim c.if-leaves.branch [
-      | then-leaves w ↦ (
+    elim c.if-may_convert.branch [
+      | then-may_convert w ↦ (
           let e = w.with_conversion-replies.ensures in
           let to = w.played-to.ensures in
           let is = w.replies-is in
@@ -50,10 +50,10 @@ loop-by-preserved g c =
                 (ap (g.G.Game.numbered c.args.game.now).outside (item ∙ sym to)) c.loop-by.invariant
                 (ap (λ (t : BestReplies). t.lost) is ∙ e.out_lost h) (ap (λ (t : BestReplies). t.won) is ∙ e.out_won h) (ap (λ (t : BestReplies). t.drawn) is ∙ e.out_drawn h)
           ])
-      | else-leaves w ↦ (
+      | else-may_convert w ↦ (
           let is = w.replies-is in
           IsTallyOf-out Ok f ms c.loop-by.by-index d _ _ _ _ _ _ c.loop-by-test.true
-          (λ o. let h = c.leaves.ensures w.if-leaves.false in
+          (λ o. let h = c.may_convert.ensures w.if-may_convert.false in
           let no : true ≡ false = sym h ∙ (ap (g.G.Game.numbered c.args.game.now).home (sym item) ∙ o) in cc)
           c.loop-by.invariant
           (ap (λ (t : BestReplies). t.lost) is) (ap (λ (t : BestReplies). t.won) is) (ap (λ (t : BestReplies). t.drawn) is))
@@ -71,8 +71,8 @@ returns g c =
     let is =
     GivesOutside-given_by (g.G.Game.numbered c.args.game.now).legal (g.G.Game.numbered c.args.game.now).after
     (g.G.Game.numbered c.args.game.now).home (g.G.Game.numbered c.args.game.now).outside c.args.at.now ms
-    (λ m l o. subst (λ (xs : List Move). Contains xs m) (sym same) (c.leaving-moves.ensures.all m l o))
-    (λ m h. c.leaving-moves.ensures.only m (subst (λ (xs : List Move). Contains xs m) same h))
+    (λ m l o. subst (λ (xs : List Move). Contains xs m) (sym same) (c.conversions-moves.ensures.all m l o))
+    (λ m h. c.conversions-moves.ensures.only m (subst (λ (xs : List Move). Contains xs m) same h))
     c.loop-by.replies.lost c.loop-by.replies.won c.loop-by.replies.drawn t in
     let gives =
     subst (λ (v : Value). GivesOutside (leads_in (g.G.Game.numbered c.args.game.now))

@@ -3,8 +3,8 @@ use Rattle.study_board.specs.Position.{Position}
 use Rattle.study_moves.specs.declared.moves.Move.{Move}
 use Rattle.study_moves.specs.Rules.{after}
 use Rattle.study_values.specs.Game.{IsValueOf}
-use Rattle.study_marks.specs.Tally.{Tally}
-use Rattle.study_marks.specs.Told.{IsUntold, WasAsked}
+use Rattle.study_marks.specs.MoveOutcomes.{MoveOutcomes}
+use Rattle.study_marks.specs.Evaluated.{IsProbeFaultOf, ProbeCount}
 use Rattle.study_marks.proofs.ValuesAsked.{counted-more, untold-here, untold-more, asked-more, legal-rest, room-with}
 use Rattle.study_marks.proofs.evaluate.+tally_moves.Goals as goal
 
@@ -16,7 +16,7 @@ tally_moves-requires g t c κs within =
         within,
         (
           legal-rest c.args.p.now _ c.args.moves.now c.in-Some.rest.now c.in-Some.ensures.cases.0 c.requires.legal,
-          subst (λ (u : Tally). length u.mates + u.draws + length c.in-Some.rest.now ≤ 62) (sym c.add.ensures)
+          subst (λ (u : MoveOutcomes). length u.mates + u.draws + length c.in-Some.rest.now ≤ 62) (sym c.add.ensures)
               (room-with c.args.tally.now c.in-Ok.value (length c.in-Some.rest.now)
               (subst (λ n. length c.args.tally.now.mates + c.args.tally.now.draws + n ≤ 62) long
               c.requires.room)),
@@ -28,9 +28,9 @@ pub returns-in-Err-clause-untold : goal.returns-in-Err-clause-untold
 returns-in-Err-clause-untold g t c =
     let held = g.V.Values.held c.args.values.now in
     let rest = map (after c.args.p.now) c.in-Some.rest.now in
-    subst (λ (ms : List Move). IsUntold held (map (after c.args.p.now) ms) c.in-Err.fault)
+    subst (λ (ms : List Move). IsProbeFaultOf held (map (after c.args.p.now) ms) c.in-Err.fault)
     (sym c.in-Some.ensures.cases.0)
-    (subst (λ (q : Position). IsUntold held (q ∷ rest) c.in-Err.fault) c.played-next.ensures.value
+    (subst (λ (q : Position). IsProbeFaultOf held (q ∷ rest) c.in-Err.fault) c.played-next.ensures.value
     (untold-here held c.played-next.result rest c.value.result c.in-Err.fault c.in-Err.is c.value.ensures.no_table
     c.value.ensures.damaged))
 
@@ -51,9 +51,9 @@ returns-in-Ok-clause-untold g t c =
     let next = c.played-next.ensures.value in
     subst
     (λ (ms : List Move). IfErr c.tally_moves.result
-    (IsUntold (g.V.Values.held c.args.values.now) (map (after c.args.p.now) ms)))
+    (IsProbeFaultOf (g.V.Values.held c.args.values.now) (map (after c.args.p.now) ms)))
     (sym c.in-Some.ensures.cases.0)
-    (subst (λ (q : Position). IfErr c.tally_moves.result (IsUntold (g.V.Values.held c.args.values.now) (q ∷ map (after c.args.p.now) c.in-Some.rest.now))) next
+    (subst (λ (q : Position). IfErr c.tally_moves.result (IsProbeFaultOf (g.V.Values.held c.args.values.now) (q ∷ map (after c.args.p.now) c.in-Some.rest.now))) next
     (untold-more (g.V.Values.held c.args.values.now) (g.V.Values.held c.value.new.self) c.played-next.result
     (map (after c.args.p.now) c.in-Some.rest.now) c.value.result c.in-Ok.value c.tally_moves.result c.in-Ok.is
     c.value.ensures.no_table c.value.ensures.same_tables c.tally_moves.ensures.untold))
@@ -61,7 +61,7 @@ returns-in-Ok-clause-untold g t c =
 pub returns-in-Ok-clause-asked : goal.returns-in-Ok-clause-asked
 returns-in-Ok-clause-asked g t c =
     let long : suc (length c.in-Some.rest.now) ≡ length c.args.moves.now = sym (ap length c.in-Some.ensures.cases.0) in
-    subst (λ n. WasAsked n (is_ok c.tally_moves.result) (g.V.Values.asked_of c.args.values.now) (g.V.Values.asked_of c.tally_moves.new.values)) long
+    subst (λ n. ProbeCount n (is_ok c.tally_moves.result) (g.V.Values.asked_of c.args.values.now) (g.V.Values.asked_of c.tally_moves.new.values)) long
     (asked-more (length c.in-Some.rest.now) (is_ok c.tally_moves.result) (g.V.Values.asked_of c.args.values.now)
     (g.V.Values.asked_of c.value.new.self) (g.V.Values.asked_of c.tally_moves.new.values) c.value.ensures.asked
     c.tally_moves.ensures.asked)

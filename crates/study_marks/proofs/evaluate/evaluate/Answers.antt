@@ -2,7 +2,7 @@ use Rattle.std.proofs.Common.{◌≡◌, List, map, length, suc, ◌<◌, arith,
 use Rattle.study_moves.specs.declared.moves.Move.{Move}
 use Rattle.study_moves.specs.Rules.{after}
 use Rattle.study_moves.specs.LegalList.{legal_list}
-use Rattle.study_marks.specs.Told.{IsUntold, WasAsked}
+use Rattle.study_marks.specs.Evaluated.{IsProbeFaultOf, ProbeCount}
 use Rattle.study_marks.proofs.ValuesAsked.{held-told, untold-here, untold-later, asked-more, length-map}
 use Rattle.study_marks.proofs.evaluate.evaluate.Goals as goal
 
@@ -22,7 +22,7 @@ returns-in-Err-tally_moves-clause-untold g c =
     untold-later (g.V.Values.held c.args.values.now) (g.V.Values.held c.value.new.self) c.args.p.now
     (map (after c.args.p.now) (legal_list c.args.p.now)) c.in-Err-tally_moves.fault
     (held-told (g.V.Values.held c.args.values.now) c.args.p.now c.value.result c.in-Ok.value c.in-Ok.is c.value.ensures.no_table) c.value.ensures.same_tables
-    (subst (λ (ms : List Move). IsUntold (g.V.Values.held c.value.new.self) (map (after c.args.p.now) ms)
+    (subst (λ (ms : List Move). IsProbeFaultOf (g.V.Values.held c.value.new.self) (map (after c.args.p.now) ms)
     c.in-Err-tally_moves.fault) moves c.in-Err-tally_moves.ensures.untold)
 
 pub returns-in-Err-tally_moves-clause-asked : goal.returns-in-Err-tally_moves-clause-asked
@@ -33,5 +33,5 @@ returns-in-Err-tally_moves-clause-asked g c =
     asked-more (length (map (after c.args.p.now) (legal_list c.args.p.now))) false
     (g.V.Values.asked_of c.args.values.now) (g.V.Values.asked_of c.value.new.self)
     (g.V.Values.asked_of c.tally_moves.new.values) c.value.ensures.asked
-    (subst (λ n. WasAsked n false (g.V.Values.asked_of c.value.new.self) (g.V.Values.asked_of c.tally_moves.new.values)) long
+    (subst (λ n. ProbeCount n false (g.V.Values.asked_of c.value.new.self) (g.V.Values.asked_of c.tally_moves.new.values)) long
     c.in-Err-tally_moves.ensures.asked)

@@ -1,7 +1,7 @@
 use Rattle.std.proofs.Common.{length, ap, sym, ◌∙◌}
 use Rattle.study_tree.specs.Tree.{plain_tree}
-use Rattle.study_marks.specs.declared.label.Label.{Label}
-use Rattle.study_marks.specs.BenchState.{own, told_tree}
+use Rattle.study_marks.specs.declared.node_label.NodeLabel.{NodeLabel}
+use Rattle.study_marks.specs.BenchState.{own_fault, evaluation_tree}
 use Rattle.study_marks.proofs.SameShape.{mapped-with_child}
 use Rattle.study_marks.proofs.PathRenewed.{no-spot}
 use Rattle.study_marks.proofs.ChildrenChanged.{child-there, added-found, added-off, told-spot, count-two}
@@ -25,13 +25,13 @@ update_faults-requires-clause-off g c =
     added-off c.args.aim.now t (plain_tree c.add_last.new.self) c.args.steps.now c.args.m.now
     (record { told = c.args.told; faults = c.own_faults-faults.result }) c.in-Ok.place c.counted_faults-plus.result
     c.in-Ok.ensures.added c.in-Ok.ensures.place c.counted_faults-plus.ensures
-    (c.own_faults-faults.ensures.value ∙ ap (λ q. own c.args.aim.now (length c.args.steps.now) q c.args.told.value)
+    (c.own_faults-faults.ensures.value ∙ ap (λ q. own_fault c.args.aim.now (length c.args.steps.now) q c.args.told.value)
     (sym (told-spot t c.args.steps.now _ c.in-Some.ensures))) c.requires.right
 
 pub returns-clause-added : goal.returns-clause-added
 returns-clause-added g c =
-    c.update_faults.ensures.told ∙ ap told_tree c.in-Ok.ensures.added
-    ∙ mapped-with_child (λ (l : Label). l.told) (plain_tree c.args.tree.now) c.args.steps.now c.args.m.now
+    c.update_faults.ensures.told ∙ ap evaluation_tree c.in-Ok.ensures.added
+    ∙ mapped-with_child (λ (l : NodeLabel). l.told) (plain_tree c.args.tree.now) c.args.steps.now c.args.m.now
     (record { told = c.args.told; faults = c.own_faults-faults.result })
 
 pub returns-clause-count : goal.returns-clause-count

@@ -1,7 +1,7 @@
 use Rattle.std.proofs.Common.{ap, ◌∙◌}
 use Rattle.study_tree.specs.Tree.{plain_tree}
-use Rattle.study_marks.specs.declared.label.Label.{Label}
-use Rattle.study_marks.specs.BenchState.{told_tree}
+use Rattle.study_marks.specs.declared.node_label.NodeLabel.{NodeLabel}
+use Rattle.study_marks.specs.BenchState.{evaluation_tree}
 use Rattle.study_marks.proofs.SameShape.{mapped-moved_up}
 use Rattle.study_marks.proofs.ChildrenChanged.{raised-front, raised-off, raising-there}
 use Rattle.study_marks.proofs.tree_edits.promote_node.Goals as goal
@@ -24,5 +24,5 @@ update_faults-requires-clause-off g c =
     (raising-there t c.args.steps.now c.move_up.result c.in_ok-move_up.field-0 c.in_ok-move_up.was c.move_up.ensures.refusal) c.requires
 
 pub returns-in-Some-clause-raised : goal.returns-in-Some-clause-raised
-returns-in-Some-clause-raised g c = c.update_faults.ensures.told ∙ ap told_tree c.in_ok-move_up.ensures.moved
-    ∙ mapped-moved_up (λ (l : Label). l.told) (plain_tree c.args.tree.now) c.args.steps.now
+returns-in-Some-clause-raised g c = c.update_faults.ensures.told ∙ ap evaluation_tree c.in_ok-move_up.ensures.moved
+    ∙ mapped-moved_up (λ (l : NodeLabel). l.told) (plain_tree c.args.tree.now) c.args.steps.now

@@ -1,7 +1,7 @@
 use Rattle.std.proofs.Common.{ap, ◌∙◌}
 use Rattle.study_tree.specs.Tree.{plain_tree}
-use Rattle.study_marks.specs.declared.label.Label.{Label}
-use Rattle.study_marks.specs.BenchState.{told_tree}
+use Rattle.study_marks.specs.declared.node_label.NodeLabel.{NodeLabel}
+use Rattle.study_marks.specs.BenchState.{evaluation_tree}
 use Rattle.study_marks.proofs.SameShape.{mapped-without}
 use Rattle.study_marks.proofs.ChildrenChanged.{removed-front, removed-off, removal-there}
 use Rattle.study_marks.proofs.tree_edits.remove_node.Goals as goal
@@ -24,5 +24,5 @@ update_faults-requires-clause-off g c =
     (removal-there t c.args.steps.now c.remove.result c.in_ok-remove.field-0 c.in_ok-remove.was c.remove.ensures.refusal) c.requires
 
 pub returns-in-Some-clause-removed : goal.returns-in-Some-clause-removed
-returns-in-Some-clause-removed g c = c.update_faults.ensures.told ∙ ap told_tree c.in_ok-remove.ensures.removed
-    ∙ mapped-without (λ (l : Label). l.told) (plain_tree c.args.tree.now) c.args.steps.now
+returns-in-Some-clause-removed g c = c.update_faults.ensures.told ∙ ap evaluation_tree c.in_ok-remove.ensures.removed
+    ∙ mapped-without (λ (l : NodeLabel). l.told) (plain_tree c.args.tree.now) c.args.steps.now

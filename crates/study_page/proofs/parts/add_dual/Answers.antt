@@ -1,5 +1,5 @@
 use Rattle.std.proofs.Common.{List, sym, subst}
-use Rattle.study_facts.specs.declared.time.Alternative.{Alternative}
+use Rattle.study_facts.specs.declared.time_loss.Alternative.{Alternative}
 use Rattle.study_facts.specs.Time.{AreTimedAlternatives}
 use Rattle.study_page.proofs.MadeRows.{dual-listed, dual-counted, dual-carded}
 use Rattle.study_page.proofs.parts.add_dual.Goals as goal

@@ -4,7 +4,7 @@ use Rattle.study_notation.specs.declared.start.Start.{Start}
 use Rattle.study_marks.specs.declared.mark.MoveMark.TheVariants as variant
 use Rattle.study_marks.specs.BenchState.{marked}
 use Rattle.study_facts.specs.Made.{Grew}
-use Rattle.study_facts.specs.Nodes.{OnlyWhere}
+use Rattle.study_facts.specs.Nodes.{EmptyUnless}
 use Rattle.study_page.specs.Rows.{IsFaultOf, IsCardOf}
 use Rattle.study_facts.proofs.TimeCounted.{time-none, time-unplayed}
 use Rattle.study_facts.proofs.Within.{leads-at}
@@ -22,7 +22,7 @@ returns-in-Some-Dual-clause-faults g c h =
     on_ok_weaker c.add_dual.result
     (λ grew. fault-listed (marked c.args.bench.now) c.args.steps.now made (c.fill_made.ensures.made c.if-not-fill_made.false) v mark listed c.args.parts.now.faults c.add_dual.new.parts.faults
     c.is_solution_move-listed.ensures (sym (c.in-Some-Dual.is ∙ ap Some c.in-Some-Dual.field-0-is) ∙ c.mark_at.ensures) c.value_at-value.ensures
-    (subst (λ (st : Start). Grew (OnlyWhere listed (IsFaultOf st before.aim before.depth before.line.items before.position made.played v mark))
+    (subst (λ (st : Start). Grew (EmptyUnless listed (IsFaultOf st before.aim before.depth before.line.items before.position made.played v mark))
     c.args.parts.now.faults c.add_dual.new.parts.faults) c.start-first.ensures.value grew))
     (c.add_dual.ensures.faults h)
 

@@ -1,5 +1,5 @@
 use Rattle.std.proofs.Common.{refl}
-use Rattle.study_script.specs.Held.{are_paged}
+use Rattle.study_script.specs.SessionHolds.{are_paged}
 use Rattle.study_report.specs.Outcome.{over_tables}
 use Rattle.study_print.proofs.following.follow_pages.Goals as goal
 

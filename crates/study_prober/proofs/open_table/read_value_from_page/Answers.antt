@@ -2,7 +2,7 @@ use Rattle.std.proofs.Common.{ℕ, List, take, get_or, inl, inr, sym, ◌∙◌,
 use Rattle.std.proofs.lemmas.List.{get_or-take}
 use Rattle.study_values.specs.Cells.{value_of}
 use Rattle.study_prober.specs.Sources.{IsGivenPage}
-use Rattle.study_tablefile.specs.Source.{page_of}
+use Rattle.study_tablefile.specs.PageSource.{page_of}
 use Rattle.study_prober.proofs.Cells.{cells_of_text}
 use Rattle.study_prober.proofs.Faults.{passed_on}
 use Rattle.study_prober.proofs.open_table.read_value_from_page.Goals as goal

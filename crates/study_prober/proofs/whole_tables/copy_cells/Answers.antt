@@ -1,5 +1,5 @@
 use Rattle.std.proofs.Common.{◌∙◌, ap}
-use Rattle.study_tablefile.specs.File.{page_cells_of}
+use Rattle.study_tablefile.specs.Format.{page_cells_of}
 use Rattle.study_prober.proofs.ReadPages.{copied}
 use Rattle.study_prober.proofs.whole_tables.copy_cells.Goals as goal
 

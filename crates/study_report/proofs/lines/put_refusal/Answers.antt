@@ -35,4 +35,4 @@ returns-clause-err g c =
     c.in_ok-write_text.ensures.ok (TakesPrefix-second one two new (decimal c.args.number) (codes " " ++ drop 6 c.args.reply.now)
     (rw (c.as_bytes.ensures.value, c.format.ensures.text) at c.in_ok-write_text-2.ensures.ok)
     (TakesPrefix-second two three new (codes " ") (drop 6 c.args.reply.now) c.in_ok-write_text-3.ensures.ok
-    (rw c.without_error.ensures at h)))) c.write_text-4.ensures.err
+    (rw c.refusal_words.ensures at h)))) c.write_text-4.ensures.err

@@ -1,9 +1,9 @@
 use Rattle.std.proofs.Common.{◌≡◌, true, List, ◌++◌, OnOk, refl, sym, ap, subst, ◌∙◌}
 use Rattle.std.proofs.lemmas.List.{append-nil}
-use Rattle.study_marks.specs.Edits.{Plainly}
+use Rattle.study_marks.specs.Edits.{PlainStudy}
 use Rattle.study_marks.specs.BenchState.{marked}
 use Rattle.study_marks.specs.Study.{plain_study}
-use Rattle.study_script.specs.Held.{document_seen, IsMarked, tables_held, are_paged, tables_may_fail}
+use Rattle.study_script.specs.SessionHolds.{document_seen, IsMarked, tables_held, are_paged, tables_may_fail}
 use Rattle.study_script.specs.State.{Document, empty, start, study, is_among}
 use Rattle.study_report.specs.Told.{IsUntoldBy, Entry, studies_on}
 use Rattle.study_report.specs.Written.{IsSection, IsSectionPart}
@@ -37,7 +37,7 @@ returns-in-Study-clause-why g c s plain fault h b e =
     let same : plain_study (marked c.in-Study.bench) ≡ plain = cc in
     untold-same (tables_held c.args.tables.now) (is_among s.classes) (are_paged c.args.tables.now) s.paged
     (tables_may_fail g.P.PageSource.gives c.args.tables.now) (λ d f. s.shelf.faults d f ≡ true) fault h.classes h.paged h.faults plain.start.position
-    (subst (λ (x : Plainly). IsUntoldBy (tables_held c.args.tables.now) (are_paged c.args.tables.now) (tables_may_fail g.P.PageSource.gives c.args.tables.now) x.start.position fault) same
+    (subst (λ (x : PlainStudy). IsUntoldBy (tables_held c.args.tables.now) (are_paged c.args.tables.now) (tables_may_fail g.P.PageSource.gives c.args.tables.now) x.start.position fault) same
     (c.add_study.ensures.why fault h.values e))
 
 pub returns-in-Study-clause-holds : goal.returns-in-Study-clause-holds

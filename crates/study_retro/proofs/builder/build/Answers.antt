@@ -25,24 +25,24 @@ invariant_of-game g c = record {
   closed = c.table-held.ensures.closed;
 }
 
-pub fill-filled-requires-clause-laws : goal.fill-filled-requires-clause-laws
-fill-filled-requires-clause-laws g c = chess_class c.args.class c.args.tables.now c.table-held.ensures.closed
+pub solve_cells-filled-requires-clause-laws : goal.solve_cells-filled-requires-clause-laws
+solve_cells-filled-requires-clause-laws g c = chess_class c.args.class c.args.tables.now c.table-held.ensures.closed
 
 pub returns-then-not-filled-clause-far : goal.returns-then-not-filled-clause-far
 returns-then-not-filled-clause-far g c = λ needs is.
     let held = c.args.tables.now in
     let ready = first_missing-none held _ (sym c.first_missing.ensures ∙ c.in_default.is) in
     let outer = outside_right held c.args.class c.table-held.ensures.closed ready needs in
-    far-from c.args.class (c.fill-filled.ensures.far outer (unfit_where c.fill-filled.result.fits c.if-not-filled.true))
+    far-from c.args.class (c.solve_cells-filled.ensures.far outer (unfit_where c.solve_cells-filled.result.fits c.if-not-filled.true))
 
 pub returns-clause-right : goal.returns-clause-right
 returns-clause-right g c = λ needs.
     let held = c.args.tables.now in
     let ready = first_missing-none held _ (sym c.first_missing.ensures ∙ c.in_default.is) in
     let outer = outside_right held c.args.class c.table-held.ensures.closed ready needs in
-    let right = c.fill-filled.ensures.right outer (fits_where c.fill-filled.result.fits c.if-not-filled.false) in
-    table_right c.from_cells.result c.args.class c.fill-filled.new.cells (sym (ap (λ (t : Table). t.class) c.from_cells.ensures))
-    (sym (ap (λ (t : Table). t.cells) c.from_cells.ensures ∙ written _ c.fill-filled.new.cells _ (c.fill-filled.auto.cells ∙ c.as_mut_slice.ensures.len))) right
+    let right = c.solve_cells-filled.ensures.right outer (fits_where c.solve_cells-filled.result.fits c.if-not-filled.false) in
+    table_right c.from_cells.result c.args.class c.solve_cells-filled.new.cells (sym (ap (λ (t : Table). t.class) c.from_cells.ensures))
+    (sym (ap (λ (t : Table). t.cells) c.from_cells.ensures ∙ written _ c.solve_cells-filled.new.cells _ (c.solve_cells-filled.auto.cells ∙ c.as_mut_slice.ensures.len))) right
 
 pub returns-clause-deepest_win : goal.returns-clause-deepest_win
 returns-clause-deepest_win g c =

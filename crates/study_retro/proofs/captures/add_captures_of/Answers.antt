@@ -9,11 +9,11 @@ use Rattle.study_board.specs.Sets.{has}
 use Rattle.study_moves.specs.declared.moves.Move.{Move}
 use Rattle.study_moves.specs.Rules.{is_legal}
 use Rattle.study_moves.specs.AnyOrder.{is_safe_target}
-use Rattle.study_retro.specs.Still.{GoesPlainly, move_to}
+use Rattle.study_retro.specs.Still.{GoesWithoutPromotion, move_to}
 use Rattle.study_retro.proofs.CaptureLemmas.{more_kept, more_only, more_here, each_man, goes_legally, goes_not}
 use Rattle.study_retro.proofs.StillChess.{takes_none}
 use Rattle.study_retro.proofs.captures.add_captures_of.Goals as goal
-use Rattle.study_retro.proofs.captures.add_captures_of.Goals.{then-goes_plainly, else-goes_plainly}
+use Rattle.study_retro.proofs.captures.add_captures_of.Goals.{then-goes_without_promotion, else-goes_without_promotion}
 
 pub returns-then-not-has_man_in-clause-all : goal.returns-then-not-has_man_in-clause-all
 returns-then-not-has_man_in-clause-all c = λ o among g.
@@ -35,30 +35,30 @@ loop-other-preserved c =
     let xs = c.loop-other.list.items in
     let word : (x : ℕ) → x < 64 → has c.safe_targets-safe.result x ≡ is_safe_target men q.to_move man x =
     λ x l. c.safe_targets-safe.ensures x l ∙ ap (λ (s : Side). is_safe_target men s man x) c.to_move-side.ensures in
-    elim c.if-goes_plainly.branch [
-      | then-goes_plainly w ↦ rw w.list-is (
+    elim c.if-goes_without_promotion.branch [
+      | then-goes_without_promotion w ↦ rw w.list-is (
           let more : w.push.new.self.items ≡ xs ++ move_to man o.at ∷ [] =
           w.push.ensures.items ∙ ap (λ (m : Move). xs ++ m ∷ []) w.move_to.ensures in
           let legal = goes_legally q c.men-men.ensures.valid men c.men-men.ensures.value c.loop-other.other-index _ o c.loop-other-test.true c.other-item.is
-          c.requires.tells man c.requires.man c.requires.side c.safe_targets-safe.result word c.goes_plainly.result c.goes_plainly.ensures w.if-goes_plainly.true in
+          c.requires.tells man c.requires.man c.requires.side c.safe_targets-safe.result word c.goes_without_promotion.result c.goes_without_promotion.ensures w.if-goes_without_promotion.true in
           record {
             few = (let f = inv.few in omega (arith, f, ap length more));
             only = more_only xs w.push.new.self.items (move_to man o.at) more (λ m. is_legal q m ≡ true) inv.only legal;
             kept = λ m k. more_kept xs w.push.new.self.items (move_to man o.at) more m (inv.kept m k);
             all = each_man q c.men-men.ensures.valid men c.men-men.ensures.value c.loop-other.other-index _ o c.loop-other-test.true c.other-item.is
-                (λ (k : Man). GoesPlainly q man k.at → Contains w.push.new.self.items (move_to man k.at))
+                (λ (k : Man). GoesWithoutPromotion q man k.at → Contains w.push.new.self.items (move_to man k.at))
                 (λ k i g. more_kept xs w.push.new.self.items (move_to man o.at) more (move_to man k.at) (inv.all k i g))
                 (λ g. more_here xs w.push.new.self.items (move_to man o.at) more);
           })
-      | else-goes_plainly w ↦ rw w.list-is (
+      | else-goes_without_promotion w ↦ rw w.list-is (
           let none = goes_not q c.men-men.ensures.valid men c.men-men.ensures.value c.loop-other.other-index _ o c.loop-other-test.true c.other-item.is
-          c.requires.tells man c.requires.man c.requires.side c.safe_targets-safe.result word c.goes_plainly.result c.goes_plainly.ensures w.if-goes_plainly.false in
+          c.requires.tells man c.requires.man c.requires.side c.safe_targets-safe.result word c.goes_without_promotion.result c.goes_without_promotion.ensures w.if-goes_without_promotion.false in
           record {
             few = (let f = inv.few in omega (arith, f));
             only = inv.only;
             kept = inv.kept;
             all = each_man q c.men-men.ensures.valid men c.men-men.ensures.value c.loop-other.other-index _ o c.loop-other-test.true c.other-item.is
-                (λ (k : Man). GoesPlainly q man k.at → Contains xs (move_to man k.at)) inv.all (λ g. absurd (none g));
+                (λ (k : Man). GoesWithoutPromotion q man k.at → Contains xs (move_to man k.at)) inv.all (λ g. absurd (none g));
           })
     ]
 

@@ -22,13 +22,13 @@ loop-man-preserved c =
     let side : c.eq.result ≡ same_side man.side q.to_move = c.eq.ensures ∙ side_same _ _ ∙ ap (λ (s : Side). same_side man.side s) c.to_move-side.ensures in
     elim c.if-eq.branch [
       | then-eq w ↦ rw w.list-is (record {
-        few = (let f = inv.few in let g = w.add_leaving_of.ensures.few in omega (arith, f, g));
-        only = w.add_leaving_of.ensures.only;
+        few = (let f = inv.few in let g = w.add_conversions_of.ensures.few in omega (arith, f, g));
+        only = w.add_conversions_of.ensures.only;
         all = each_man q c.men-men.ensures.valid men c.men-men.ensures.value c.loop-man.man-index _ man c.loop-man-test.true c.man-item.is
             (λ (k : Man). same_side k.side q.to_move ≡ true → (m : Move) → m.origin ≡ k.at → is_legal q m ≡ true → (IsQuiet q m → ⊥)
-            → Contains w.add_leaving_of.new.list.items m)
-            (λ k i s m o l f. w.add_leaving_of.ensures.kept m (inv.all k i s m o l f))
-            (λ s m o l f. w.add_leaving_of.ensures.all m o l f);
+            → Contains w.add_conversions_of.new.list.items m)
+            (λ k i s m o l f. w.add_conversions_of.ensures.kept m (inv.all k i s m o l f))
+            (λ s m o l f. w.add_conversions_of.ensures.all m o l f);
       })
       | else-eq w ↦ rw w.list-is (record {
         few = (let f = inv.few in omega (arith, f));

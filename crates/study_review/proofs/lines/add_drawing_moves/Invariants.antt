@@ -1,6 +1,6 @@
 use Rattle.std.proofs.Common.{◌≡◌, ◌++◌, take}
 use Rattle.std.specs.List.{flat_map}
-use Rattle.study_review.specs.Told.{drawing}
+use Rattle.study_review.specs.NodeFacts.{drawing}
 use Rattle.study_facts.specs.Words.{move_words}
 use Rattle.study_review.proofs.lines.add_drawing_moves.Given as goal
 

@@ -1,6 +1,6 @@
 use Rattle.std.proofs.Common.{◌≡◌, ◌++◌, take}
 use Rattle.std.specs.List.{flat_map}
-use Rattle.study_review.specs.Told.{failing}
+use Rattle.study_review.specs.NodeFacts.{failing}
 use Rattle.study_facts.specs.Words.{refuted_line}
 use Rattle.study_review.proofs.lines.add_refuted_lines.Given as goal
 

@@ -8,8 +8,8 @@ use Rattle.study_review.proofs.walk.add_all.Goals as goal
 
 pub add_below-requires-clause-stands : goal.add_below-requires-clause-stands
 add_below-requires-clause-stands g c =
-    root-stands (marked c.args.bench.now) c.in_ok-trail.trail.steps.items c.in_ok-trail.trail.stands.items c.root_stand-stand.result
-    c.in_ok-trail.ensures.steps c.in_ok-trail.ensures.stands c.root_stand-stand.ensures
+    root-stands (marked c.args.bench.now) c.in_ok-trail.trail.steps.items c.in_ok-trail.trail.stands.items c.root_walk_state-stand.result
+    c.in_ok-trail.ensures.steps c.in_ok-trail.ensures.stands c.root_walk_state-stand.ensures
 
 pub returns-in_err-add_below-clause-asked : goal.returns-in_err-add_below-clause-asked
 returns-in_err-add_below-clause-asked g c =

@@ -3,7 +3,7 @@ use Rattle.study_marks.specs.BenchState.{marked}
 use Rattle.study_facts.specs.Asked.{within}
 use Rattle.study_facts.proofs.Within.{leads-at, all-wider, asks-wider}
 use Rattle.study_facts.proofs.Asking.{asks-then}
-use Rattle.study_facts.specs.Nodes.{front_of, is_mistake, is_idle}
+use Rattle.study_facts.specs.Nodes.{parent_path, is_mistake, is_idle}
 use Rattle.study_facts.proofs.Stands.{arrival-played, arrival-mark, arrival-children, arrival-there, legal-before, node-before, solution-move, tried-move}
 use Rattle.study_review.proofs.walk.add_lines.Goals as goal
 
@@ -42,7 +42,7 @@ returns-clause-asked g c =
     asks-then g.V.Values.held (within (marked c.args.bench.now).start.position g.V.Values.gives) g.V.Values.may_fail g.V.Values.asked_of g.V.Values.failed_of g.V.Values.is_honest
     c.args.values.now c.add_move.new.values c.add_here.new.values c.add_here.result
     (all-wider g.V.Values.held g.V.Values.gives g.V.Values.may_fail g.V.Values.asked_of g.V.Values.failed_of g.V.Values.is_honest (marked c.args.bench.now).start.position c.args.stands.0.now.position
-    (leads-at (marked c.args.bench.now) (front_of c.args.steps.now) c.args.stands.0.now.position c.start-first.ensures.study.playable c.requires.before.position)
+    (leads-at (marked c.args.bench.now) (parent_path c.args.steps.now) c.args.stands.0.now.position c.start-first.ensures.study.playable c.requires.before.position)
     c.args.values.now c.add_move.new.values c.in_ok-add_move.ensures.asked)
     (asks-wider g.V.Values.held g.V.Values.gives g.V.Values.may_fail g.V.Values.asked_of g.V.Values.failed_of g.V.Values.is_honest (marked c.args.bench.now).start.position c.args.stands.1.now.position
     (leads-at (marked c.args.bench.now) c.args.steps.now c.args.stands.1.now.position c.start-first.ensures.study.playable c.requires.here.position)
@@ -51,5 +51,5 @@ returns-clause-asked g c =
 pub returns-in_err-add_move-clause-asked : goal.returns-in_err-add_move-clause-asked
 returns-in_err-add_move-clause-asked g c =
     asks-wider g.V.Values.held g.V.Values.gives g.V.Values.may_fail g.V.Values.asked_of g.V.Values.failed_of g.V.Values.is_honest (marked c.args.bench.now).start.position c.args.stands.0.now.position
-    (leads-at (marked c.args.bench.now) (front_of c.args.steps.now) c.args.stands.0.now.position c.start-first.ensures.study.playable c.requires.before.position)
+    (leads-at (marked c.args.bench.now) (parent_path c.args.steps.now) c.args.stands.0.now.position c.start-first.ensures.study.playable c.requires.before.position)
     c.args.values.now c.add_move.new.values _ (search rules)

@@ -1,7 +1,7 @@
 use Rattle.std.specs.Prelude.{codes}
 use Rattle.study_marks.specs.Study.{plain_study}
 use Rattle.study_marks.specs.BenchState.{marked}
-use Rattle.study_marks.specs.Edits.{deleted, delete_refusal}
+use Rattle.study_marks.specs.Edits.{with_deletion, delete_refusal}
 use Rattle.study_tree.specs.Paths.{path_text}
 use Rattle.study_reply.specs.Words.{reply_line}
 use Rattle.study_script.specs.State.{quiet}
@@ -13,7 +13,7 @@ use Rattle.study_script.proofs.changes.delete.Goals as goal
 pub returns-in-Ok : goal.returns-in-Ok
 returns-in-Ok g c = λ s h.
     let old = plain_study (marked c.args.bench.now) in
-    let new = deleted old c.args.path in
+    let new = with_deletion old c.args.path in
     let text = reply_line (codes "delete ") (path_text c.args.path) in
     let why = delete_refusal {A = g.row.A.Denot} old c.args.path in
     let reason = delete_refusal {A = Unit {0}} old c.args.path in
@@ -27,7 +27,7 @@ returns-in-Ok g c = λ s h.
 pub returns : goal.returns
 returns g c = λ s h.
     let old = plain_study (marked c.args.bench.now) in
-    let new = deleted old c.args.path in
+    let new = with_deletion old c.args.path in
     let text = reply_line (codes "delete ") (path_text c.args.path) in
     let why = delete_refusal {A = g.row.A.Denot} old c.args.path in
     let reason = delete_refusal {A = Unit {0}} old c.args.path in

@@ -4,8 +4,8 @@ use Rattle.study_marks.specs.BenchState.{marked}
 use Rattle.study_command.specs.Paths.{steps_of}
 use Rattle.study_script.specs.declared.document.Document.TheVariants as held
 use Rattle.study_reply.specs.declared.refusal.Refusal.TheVariants.{NoStudy}
-use Rattle.study_script.specs.State.{Document, Outside, quiet, study}
-use Rattle.study_script.specs.Held.{Holds}
+use Rattle.study_script.specs.State.{Document, Environment, quiet, study}
+use Rattle.study_script.specs.SessionHolds.{Holds}
 use Rattle.study_script.specs.Replies.{refused, IsInsertReply}
 use Rattle.study_script.proofs.Executions.{executed_weaker}
 use Rattle.study_script.proofs.Documents.{holds_of, seen_of}
@@ -13,8 +13,8 @@ use Rattle.study_script.proofs.changes.insert.Goals as goal
 
 pub returns-in-Study : goal.returns-in-Study
 returns-in-Study g c = λ s h. executed_weaker
-    {I = λ (o : Outside). IsInsertReply s o (study (plain_study (marked c.in-Study.bench))) (steps_of c.args.path.now) c.args.san.now}
-    {J = λ (o : Outside). IsInsertReply s o s.document (steps_of c.args.path.now) c.args.san.now}
+    {I = λ (o : Environment). IsInsertReply s o (study (plain_study (marked c.in-Study.bench))) (steps_of c.args.path.now) c.args.san.now}
+    {J = λ (o : Environment). IsInsertReply s o s.document (steps_of c.args.path.now) c.args.san.now}
     {H = Holds g.P.PageSource.honest g.P.PageSource.gives (held.Study c.insert_in_study.new.bench) c.insert_in_study.new.tables}
     {K = Holds g.P.PageSource.honest g.P.PageSource.gives (held.Study c.insert_in_study.new.bench) c.insert_in_study.new.tables} c.insert_in_study.result
     (λ o r i. subst (λ (x : Document). IsInsertReply s o x (steps_of c.args.path.now) c.args.san.now r)

@@ -6,8 +6,8 @@ use Rattle.study_marks.specs.Study.{plain_study}
 use Rattle.study_marks.specs.BenchState.{marked}
 use Rattle.study_script.specs.declared.document.Document.TheVariants as held
 use Rattle.study_reply.specs.declared.refusal.Refusal.TheVariants.{NoSuchNode}
-use Rattle.study_script.specs.State.{Outside, quiet}
-use Rattle.study_script.specs.Held.{Holds}
+use Rattle.study_script.specs.State.{Environment, quiet}
+use Rattle.study_script.specs.SessionHolds.{Holds}
 use Rattle.study_script.specs.Replies.{refused, IsMoveReply, IsMoveReplyAt}
 use Rattle.study_script.proofs.Executions.{executed_weaker}
 use Rattle.study_script.proofs.PlainNodes.{start_there, start_gone, position_at-plain}
@@ -22,8 +22,8 @@ returns-in-Some g c = λ s h.
     let shown = marked c.args.bench.now in
     let old = plain_study shown in
     let there = start_there shown c.args.path c.in-Some.start (sym c.in-Some.is ∙ c.start_at.ensures) in executed_weaker
-    {I = λ (o : Outside). IsMoveReply s o old c.args.path (move_of c.in-Some.start.position c.args.san.now)}
-    {J = λ (o : Outside). IsMoveReplyAt s o old c.args.path c.args.san.now (has_spot old.tree c.args.path)}
+    {I = λ (o : Environment). IsMoveReply s o old c.args.path (move_of c.in-Some.start.position c.args.san.now)}
+    {J = λ (o : Environment). IsMoveReplyAt s o old c.args.path c.args.san.now (has_spot old.tree c.args.path)}
     {H = Holds g.P.PageSource.honest g.P.PageSource.gives (held.Study c.insert_san.new.bench) c.insert_san.new.tables}
     {K = Holds g.P.PageSource.honest g.P.PageSource.gives (held.Study c.insert_san.new.bench) c.insert_san.new.tables} c.insert_san.result
     (λ o r i. subst (λ (x : Bool). IsMoveReplyAt s o old c.args.path c.args.san.now x r) (sym there.0)

@@ -5,8 +5,8 @@ use Rattle.study_marks.specs.Study.{plain_study}
 use Rattle.study_marks.specs.BenchState.{marked}
 use Rattle.study_script.specs.declared.document.Document.TheVariants as held
 use Rattle.study_command.specs.Paths.{steps_of}
-use Rattle.study_script.specs.State.{Outside, no_path, study}
-use Rattle.study_script.specs.Held.{Holds}
+use Rattle.study_script.specs.State.{Environment, no_path, study}
+use Rattle.study_script.specs.SessionHolds.{Holds}
 use Rattle.study_script.specs.Replies.{IsMoveReplyAt, IsInsertReply}
 use Rattle.study_script.proofs.Executions.{executed_told}
 use Rattle.study_script.proofs.PlainNodes.{no_path_insert}
@@ -15,8 +15,8 @@ use Rattle.study_script.proofs.changes.insert_in_study.Goals as goal
 
 pub returns-in-Ok : goal.returns-in-Ok
 returns-in-Ok g c = λ s h. let old = plain_study (marked c.args.bench.now) in executed_told
-    {I = λ (o : Outside). IsMoveReplyAt s o old c.in-Ok.path c.args.san.now (has_spot old.tree c.in-Ok.path)}
-    {J = λ (o : Outside). IsInsertReply s o (study old) (steps_of c.args.path.now) c.args.san.now}
+    {I = λ (o : Environment). IsMoveReplyAt s o old c.in-Ok.path c.args.san.now (has_spot old.tree c.in-Ok.path)}
+    {J = λ (o : Environment). IsInsertReply s o (study old) (steps_of c.args.path.now) c.args.san.now}
     {H = Holds g.P.PageSource.honest g.P.PageSource.gives (held.Study c.insert_at.new.bench) c.insert_at.new.tables}
     {K = Holds g.P.PageSource.honest g.P.PageSource.gives (held.Study c.insert_at.new.bench) c.insert_at.new.tables} c.insert_at.result
     (λ o r i. with_path s old (steps_of c.args.path.now) c.args.san.now o r

@@ -6,9 +6,9 @@ use Rattle.study_marks.specs.Study.{plain_study, position_at}
 use Rattle.study_marks.specs.BenchState.{marked}
 use Rattle.study_marks.specs.Queries.{asked_at, AllHeld, IsOutside}
 use Rattle.study_marks.specs.Answers.{TellsFirstFault}
-use Rattle.study_marks.specs.Edits.{inserted, insert_refusal}
+use Rattle.study_marks.specs.Edits.{with_insertion, insert_refusal}
 use Rattle.study_script.specs.State.{quiet}
-use Rattle.study_script.specs.Held.{tables_held, tables_give, tables_may_fail, tables_asked, are_paged}
+use Rattle.study_script.specs.SessionHolds.{tables_held, tables_give, tables_may_fail, tables_asked, are_paged}
 use Rattle.study_script.specs.Replies.{accepted, holding, inserted_text, IsInserted}
 use Rattle.study_script.proofs.AskingEdits.{accepted_outside}
 use Rattle.study_script.proofs.HeldBehindReplies.{study_edited, study_same}
@@ -23,7 +23,7 @@ returns-in-Ok g c = λ s h.
     let old = plain_study shown in
     let steps = c.args.path in
     let m = c.args.by.now in
-    let new = inserted old steps m in
+    let new = with_insertion old steps m in
     let said = inserted_text old steps m in
     let tables = c.args.tables.now in
     rw c.write_san-san.ensures (rw (inserted_said shown steps steps c.in-Ok.place c.args.start.now.position m refl c.in-Ok.ensures.place c.requires.at) (

@@ -4,8 +4,8 @@ use Rattle.study_marks.specs.BenchState.{marked}
 use Rattle.study_command.specs.Paths.{steps_of}
 use Rattle.study_script.specs.declared.document.Document.TheVariants as held
 use Rattle.study_reply.specs.declared.refusal.Refusal.TheVariants.{NoStudy}
-use Rattle.study_script.specs.State.{Document, Outside, quiet, study}
-use Rattle.study_script.specs.Held.{HoldsFrom, HoldsBenchFrom}
+use Rattle.study_script.specs.State.{Document, Environment, quiet, study}
+use Rattle.study_script.specs.SessionHolds.{HoldsFrom, HoldsBenchFrom}
 use Rattle.study_script.specs.Replies.{refused, IsStudyReplyAt}
 use Rattle.study_script.proofs.Executions.{executed_weaker}
 use Rattle.study_script.proofs.HeldBehindReplies.{document_kept, document_of, bench_of, empty_seen, start_seen, study_seen}
@@ -13,8 +13,8 @@ use Rattle.study_script.proofs.changes.node_command.Goals as goal
 
 pub returns-in-Study : goal.returns-in-Study
 returns-in-Study g c = λ s h. executed_weaker
-    {I = λ (o : Outside). IsStudyReplyAt s o c.args.word (study (plain_study (marked c.in-Study.bench))) (steps_of c.args.path.now)}
-    {J = λ (o : Outside). IsStudyReplyAt s o c.args.word s.document (steps_of c.args.path.now)} {H = HoldsBenchFrom s c.node_command_on.new.bench}
+    {I = λ (o : Environment). IsStudyReplyAt s o c.args.word (study (plain_study (marked c.in-Study.bench))) (steps_of c.args.path.now)}
+    {J = λ (o : Environment). IsStudyReplyAt s o c.args.word s.document (steps_of c.args.path.now)} {H = HoldsBenchFrom s c.node_command_on.new.bench}
     {K = HoldsFrom {A = g.row.A.Denot} s (held.Study c.node_command_on.new.bench)} c.node_command_on.result
     (λ o r i. subst (λ (x : Document). IsStudyReplyAt s o c.args.word x (steps_of c.args.path.now) r)
     (study_seen c.args.document.now c.in-Study.bench s c.in-Study.is h) i)

@@ -3,8 +3,8 @@ use Rattle.std.proofs.lemmas.Bool.{false≢true}
 use Rattle.study_marks.specs.Study.{plain_study}
 use Rattle.study_marks.specs.BenchState.{marked}
 use Rattle.study_command.specs.Paths.{steps_of}
-use Rattle.study_script.specs.State.{Outside, no_path, study}
-use Rattle.study_script.specs.Held.{HoldsBenchFrom}
+use Rattle.study_script.specs.State.{Environment, no_path, study}
+use Rattle.study_script.specs.SessionHolds.{HoldsBenchFrom}
 use Rattle.study_script.specs.Replies.{IsStudyReply, IsStudyReplyAt}
 use Rattle.study_script.proofs.Executions.{executed_told}
 use Rattle.study_script.proofs.HeldBehindReplies.{bench_kept}
@@ -14,8 +14,8 @@ use Rattle.study_script.proofs.changes.node_command_on.Goals as goal
 
 pub returns-in-Ok : goal.returns-in-Ok
 returns-in-Ok g c = λ s h. let old = plain_study (marked c.args.bench.now) in executed_told
-    {I = λ (o : Outside). IsStudyReply s c.args.word old c.in-Ok.path}
-    {J = λ (o : Outside). IsStudyReplyAt s o c.args.word (study old) (steps_of c.args.path.now)}
+    {I = λ (o : Environment). IsStudyReply s c.args.word old c.in-Ok.path}
+    {J = λ (o : Environment). IsStudyReplyAt s o c.args.word (study old) (steps_of c.args.path.now)}
     {H = HoldsBenchFrom s c.node_command_at.new.bench} {K = HoldsBenchFrom s c.node_command_at.new.bench} c.node_command_at.result
     (λ o r i. node_command_on s old c.args.word (steps_of c.args.path.now) o r
     (subst (λ (x : List ℕ). IsStudyReply s c.args.word old x r) c.in-Ok.ensures.path i)) (λ t m. m) (c.node_command_at.ensures s h)

@@ -1,7 +1,7 @@
 use Rattle.std.specs.Prelude.{codes}
 use Rattle.study_marks.specs.Study.{plain_study}
 use Rattle.study_marks.specs.BenchState.{marked}
-use Rattle.study_marks.specs.Edits.{promoted, promote_refusal}
+use Rattle.study_marks.specs.Edits.{with_promotion, promote_refusal}
 use Rattle.study_tree.specs.Paths.{path_text}
 use Rattle.study_reply.specs.Words.{raised}
 use Rattle.study_reply.specs.Words.{reply_line}
@@ -14,7 +14,7 @@ use Rattle.study_script.proofs.changes.promote.Goals as goal
 pub returns-in-Ok : goal.returns-in-Ok
 returns-in-Ok g c = λ s h.
     let old = plain_study (marked c.args.bench.now) in
-    let new = promoted old c.args.path in
+    let new = with_promotion old c.args.path in
     let text = reply_line (codes "promote ") (path_text (raised c.args.path)) in
     let why = promote_refusal {A = g.row.A.Denot} old c.args.path in
     let reason = promote_refusal {A = Unit {0}} old c.args.path in
@@ -28,7 +28,7 @@ returns-in-Ok g c = λ s h.
 pub returns : goal.returns
 returns g c = λ s h.
     let old = plain_study (marked c.args.bench.now) in
-    let new = promoted old c.args.path in
+    let new = with_promotion old c.args.path in
     let text = reply_line (codes "promote ") (path_text (raised c.args.path)) in
     let why = promote_refusal {A = g.row.A.Denot} old c.args.path in
     let reason = promote_refusal {A = Unit {0}} old c.args.path in

@@ -1,7 +1,7 @@
 use Rattle.std.specs.Prelude.{codes}
 use Rattle.study_marks.specs.Study.{plain_study, tag_name}
 use Rattle.study_marks.specs.BenchState.{marked}
-use Rattle.study_marks.specs.Edits.{tagged, tag_refusal}
+use Rattle.study_marks.specs.Edits.{with_tag, tag_refusal}
 use Rattle.study_reply.specs.Words.{reply_line}
 use Rattle.study_script.specs.State.{quiet}
 use Rattle.study_script.specs.Replies.{holding}
@@ -12,7 +12,7 @@ use Rattle.study_script.proofs.changes.set_study_tag.Goals as goal
 pub returns-in-Ok : goal.returns-in-Ok
 returns-in-Ok g c = λ s h.
     let old = plain_study (marked c.args.bench.now) in
-    let new = tagged old c.args.name c.args.text.now in
+    let new = with_tag old c.args.name c.args.text.now in
     let text = reply_line (codes "tag ") (tag_name c.args.name) in
     let why = tag_refusal {A = g.row.A.Denot} c.args.text.now in
     let reason = tag_refusal {A = Unit {0}} c.args.text.now in
@@ -26,7 +26,7 @@ returns-in-Ok g c = λ s h.
 pub returns-in-Err : goal.returns-in-Err
 returns-in-Err g c = λ s h.
     let old = plain_study (marked c.args.bench.now) in
-    let new = tagged old c.args.name c.args.text.now in
+    let new = with_tag old c.args.name c.args.text.now in
     let text = reply_line (codes "tag ") (tag_name c.args.name) in
     let why = tag_refusal {A = g.row.A.Denot} c.args.text.now in
     let reason = tag_refusal {A = Unit {0}} c.args.text.now in

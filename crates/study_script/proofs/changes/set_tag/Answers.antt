@@ -3,8 +3,8 @@ use Rattle.study_marks.specs.Study.{plain_study}
 use Rattle.study_marks.specs.BenchState.{marked}
 use Rattle.study_script.specs.declared.document.Document.TheVariants as held
 use Rattle.study_reply.specs.declared.refusal.Refusal.TheVariants.{NoStudy}
-use Rattle.study_script.specs.State.{Document, Outside, quiet, study}
-use Rattle.study_script.specs.Held.{HoldsFrom, HoldsBenchFrom}
+use Rattle.study_script.specs.State.{Document, Environment, quiet, study}
+use Rattle.study_script.specs.SessionHolds.{HoldsFrom, HoldsBenchFrom}
 use Rattle.study_script.specs.Replies.{Reply, refused, tag_reply}
 use Rattle.study_script.proofs.Executions.{executed_weaker}
 use Rattle.study_script.proofs.HeldBehindReplies.{document_kept, document_of, bench_of, empty_seen, start_seen, study_seen}
@@ -12,8 +12,8 @@ use Rattle.study_script.proofs.changes.set_tag.Goals as goal
 
 pub returns-in-Study : goal.returns-in-Study
 returns-in-Study g c = λ s h. executed_weaker
-    {I = λ (o : Outside) (r : Reply). r ≡ tag_reply s (study (plain_study (marked c.in-Study.bench))) c.args.name c.args.text.now}
-    {J = λ (o : Outside) (r : Reply). r ≡ tag_reply s s.document c.args.name c.args.text.now} {H = HoldsBenchFrom s c.set_study_tag.new.bench}
+    {I = λ (o : Environment) (r : Reply). r ≡ tag_reply s (study (plain_study (marked c.in-Study.bench))) c.args.name c.args.text.now}
+    {J = λ (o : Environment) (r : Reply). r ≡ tag_reply s s.document c.args.name c.args.text.now} {H = HoldsBenchFrom s c.set_study_tag.new.bench}
     {K = HoldsFrom {A = g.row.A.Denot} s (held.Study c.set_study_tag.new.bench)} c.set_study_tag.result
     (λ o r i. subst (λ (x : Document). r ≡ tag_reply s x c.args.name c.args.text.now)
     (study_seen c.args.document.now c.in-Study.bench s c.in-Study.is h) i)

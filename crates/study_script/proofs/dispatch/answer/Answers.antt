@@ -5,7 +5,7 @@ use Rattle.study_text.proofs.TextTaken.{OnErr-known}
 use Rattle.study_reply.specs.declared.refusal.Refusal.TheVariants.{Form}
 use Rattle.study_command.specs.Parser.{Asks, line_seen, command_of, command_seen}
 use Rattle.study_script.specs.State.{quiet}
-use Rattle.study_script.specs.Held.{Answered, BrokenOff}
+use Rattle.study_script.specs.SessionHolds.{Answered, BrokenOff}
 use Rattle.study_script.specs.Replies.{accepted, refused, IsReplyTo, IsReplyWhere, IsReply}
 use Rattle.study_script.proofs.Executions.{executed_answered, executed_broken}
 use Rattle.study_script.specs.Stores.{HonestOn, IsTrustedAsk}
@@ -28,25 +28,25 @@ returns-in-Ok-None-clause-ok g c =
       refl,
     )
 
-pub returns-in_err-refuse-in-Err-clause-err : goal.returns-in_err-refuse-in-Err-clause-err
-returns-in_err-refuse-in-Err-clause-err g c =
+pub returns-in_err-write_refusal-in-Err-clause-err : goal.returns-in_err-write_refusal-in-Err-clause-err
+returns-in_err-write_refusal-in-Err-clause-err g c =
     λ trusted s may d. let part : BrokenOff (IsReply s c.args.line.now) (g.W.Write.contents c.args.out.now)
-    (g.W.Write.contents c.refuse.new.out) = (
+    (g.W.Write.contents c.write_refusal.new.out) = (
       quiet,
       refused s (Form c.in-Err.fault),
       subst (λ (x : Asks). IsReplyWhere s quiet x (refused s (Form c.in-Err.fault))) c.read_command.ensures
           (subst (λ x. IsReplyWhere s quiet (line_seen x) (refused s (Form c.in-Err.fault))) (sym c.in-Err.is) refl),
-      c.in_err-refuse-in-Err.ensures.err,
+      c.in_err-write_refusal-in-Err.ensures.err,
     ) in OnErr-known _ _ part
 
-pub returns-in_ok-refuse-in-Err-clause-ok : goal.returns-in_ok-refuse-in-Err-clause-ok
-returns-in_ok-refuse-in-Err-clause-ok g c =
+pub returns-in_ok-write_refusal-in-Err-clause-ok : goal.returns-in_ok-write_refusal-in-Err-clause-ok
+returns-in_ok-write_refusal-in-Err-clause-ok g c =
     λ trusted s may d. (
       quiet,
       refused s (Form c.in-Err.fault),
       subst (λ (x : Asks). IsReplyWhere s quiet x (refused s (Form c.in-Err.fault))) c.read_command.ensures
           (subst (λ x. IsReplyWhere s quiet (line_seen x) (refused s (Form c.in-Err.fault))) (sym c.in-Err.is) refl),
-      c.in_ok-refuse-in-Err.ensures.ok,
+      c.in_ok-write_refusal-in-Err.ensures.ok,
       d,
       refl,
     )
@@ -85,22 +85,22 @@ returns-in-Ok-None-clause-written g c = (
   refl,
 )
 
-pub returns-in_ok-refuse-in-Err-clause-written : goal.returns-in_ok-refuse-in-Err-clause-written
-returns-in_ok-refuse-in-Err-clause-written g c =
+pub returns-in_ok-write_refusal-in-Err-clause-written : goal.returns-in_ok-write_refusal-in-Err-clause-written
+returns-in_ok-write_refusal-in-Err-clause-written g c =
     let piece = error_of (words_of (Form c.in-Err.fault)) in (
       piece,
       subst (λ (x : Asks). IsPieceWhere x piece) c.read_command.ensures (subst (λ x. IsPieceWhere (line_seen x) piece) (sym c.in-Err.is) refl),
-      c.in_ok-refuse-in-Err.ensures.ok,
+      c.in_ok-write_refusal-in-Err.ensures.ok,
       refl,
     )
 
-pub returns-in_err-refuse-in-Err-clause-cut_off : goal.returns-in_err-refuse-in-Err-clause-cut_off
-returns-in_err-refuse-in-Err-clause-cut_off g c =
+pub returns-in_err-write_refusal-in-Err-clause-cut_off : goal.returns-in_err-write_refusal-in-Err-clause-cut_off
+returns-in_err-write_refusal-in-Err-clause-cut_off g c =
     let piece = error_of (words_of (Form c.in-Err.fault)) in
-    let part : IsCutOff c.args.line.now (g.W.Write.contents c.args.out.now) (g.W.Write.contents c.refuse.new.out) = (
+    let part : IsCutOff c.args.line.now (g.W.Write.contents c.args.out.now) (g.W.Write.contents c.write_refusal.new.out) = (
       piece,
       subst (λ (x : Asks). IsPieceWhere x piece) c.read_command.ensures (subst (λ x. IsPieceWhere (line_seen x) piece) (sym c.in-Err.is) refl),
-      c.in_err-refuse-in-Err.ensures.err,
+      c.in_err-write_refusal-in-Err.ensures.err,
     ) in OnErr-known _ _ part
 
 pub returns-in-Ok-Some-clause-written : goal.returns-in-Ok-Some-clause-written

@@ -1,6 +1,6 @@
 use Rattle.std.proofs.Common.{true}
 use Rattle.study_text.proofs.TextTaken.{OnErr-known}
-use Rattle.study_script.specs.Held.{BrokenOff}
+use Rattle.study_script.specs.SessionHolds.{BrokenOff}
 use Rattle.study_script.specs.Replies.{IsReplyIn}
 use Rattle.study_script.specs.Session.{SessionHolds}
 use Rattle.study_script.specs.Stores.{HonestOn}

@@ -2,8 +2,8 @@ use Rattle.std.proofs.Common.{sym, ap, subst}
 use Rattle.study_notation.specs.Fen.{start_of}
 use Rattle.study_command.specs.Paths.{steps_of}
 use Rattle.study_command.specs.Parser.{Asked, fen_command, node_query, node_command, table_command, stipulate, insert, tag, solve, pgn, command_seen}
-use Rattle.study_script.specs.State.{State, Outside}
-use Rattle.study_script.specs.Held.{Holds, HoldsFrom, TablesFrom}
+use Rattle.study_script.specs.State.{State, Environment}
+use Rattle.study_script.specs.SessionHolds.{Holds, HoldsFrom, TablesFrom}
 use Rattle.study_script.specs.Stores.{StoreSeen, HonestOn, IsTrustedAsked}
 use Rattle.study_script.specs.Session.{SessionHolds}
 use Rattle.study_script.specs.Replies.{IsReplyTo}
@@ -13,8 +13,8 @@ use Rattle.study_script.proofs.HeldBehindCommands.{tables_there, session_edited,
 use Rattle.study_script.proofs.dispatch.execute.Goals as goal
 
 pub returns-in-FromFen : goal.returns-in-FromFen
-returns-in-FromFen g c = λ trusted s may d. executed_kept {I = λ (o : Outside). IsReplyTo s o (fen_command c.in-FromFen.word c.in-FromFen.fen.now)}
-    {J = λ (o : Outside). IsReplyTo s o (command_seen c.args.command.now)}
+returns-in-FromFen g c = λ trusted s may d. executed_kept {I = λ (o : Environment). IsReplyTo s o (fen_command c.in-FromFen.word c.in-FromFen.fen.now)}
+    {J = λ (o : Environment). IsReplyTo s o (command_seen c.args.command.now)}
     {H = Holds g.S.Pages.PageSource.honest g.S.Pages.PageSource.gives c.fen_command.new.document c.fen_command.new.tables}
     {K = SessionHolds g.S.Pages.PageSource.honest g.S.Pages.PageSource.gives (HonestOn trusted g.S.TableStore.honest) g.S.TableStore.files g.S.TableStore.headers g.S.TableStore.faults
     c.fen_command.new.document c.fen_command.new.tables c.args.store.now} c.fen_command.result
@@ -24,8 +24,8 @@ returns-in-FromFen g c = λ trusted s may d. executed_kept {I = λ (o : Outside)
     (c.fen_command.ensures s d.held)
 
 pub returns-in-Query : goal.returns-in-Query
-returns-in-Query g c = λ trusted s may d. executed_kept {I = λ (o : Outside). IsReplyTo s o (node_query c.in-Query.word (steps_of c.in-Query.path.word.now))}
-    {J = λ (o : Outside). IsReplyTo s o (command_seen c.args.command.now)}
+returns-in-Query g c = λ trusted s may d. executed_kept {I = λ (o : Environment). IsReplyTo s o (node_query c.in-Query.word (steps_of c.in-Query.path.word.now))}
+    {J = λ (o : Environment). IsReplyTo s o (command_seen c.args.command.now)}
     {H = HoldsFrom {A = g.row.A.Denot} s c.args.document.now}
     {K = SessionHolds g.S.Pages.PageSource.honest g.S.Pages.PageSource.gives (HonestOn trusted g.S.TableStore.honest) g.S.TableStore.files g.S.TableStore.headers g.S.TableStore.faults
     c.args.document.now c.args.tables.now c.args.store.now} c.node_query.result
@@ -35,8 +35,8 @@ returns-in-Query g c = λ trusted s may d. executed_kept {I = λ (o : Outside). 
     (c.node_query.ensures s (document_held g.S.Pages.PageSource.honest g.S.Pages.PageSource.gives c.args.document.now c.args.tables.now s d.held))
 
 pub returns-in-Node : goal.returns-in-Node
-returns-in-Node g c = λ trusted s may d. executed_kept {I = λ (o : Outside). IsReplyTo s o (node_command c.in-Node.word (steps_of c.in-Node.path.word.now))}
-    {J = λ (o : Outside). IsReplyTo s o (command_seen c.args.command.now)}
+returns-in-Node g c = λ trusted s may d. executed_kept {I = λ (o : Environment). IsReplyTo s o (node_command c.in-Node.word (steps_of c.in-Node.path.word.now))}
+    {J = λ (o : Environment). IsReplyTo s o (command_seen c.args.command.now)}
     {H = HoldsFrom {A = g.row.A.Denot} s c.node_command.new.document}
     {K = SessionHolds g.S.Pages.PageSource.honest g.S.Pages.PageSource.gives (HonestOn trusted g.S.TableStore.honest) g.S.TableStore.files g.S.TableStore.headers g.S.TableStore.faults
     c.node_command.new.document c.args.tables.now c.args.store.now} c.node_command.result
@@ -46,8 +46,8 @@ returns-in-Node g c = λ trusted s may d. executed_kept {I = λ (o : Outside). I
     (c.node_command.ensures s (document_held g.S.Pages.PageSource.honest g.S.Pages.PageSource.gives c.args.document.now c.args.tables.now s d.held))
 
 pub returns-in-Table : goal.returns-in-Table
-returns-in-Table g c = λ trusted s may d. executed_kept {I = λ (o : Outside). IsReplyTo s o (table_command c.in-Table.word c.in-Table.name.now)}
-    {J = λ (o : Outside). IsReplyTo s o (command_seen c.args.command.now)}
+returns-in-Table g c = λ trusted s may d. executed_kept {I = λ (o : Environment). IsReplyTo s o (table_command c.in-Table.word c.in-Table.name.now)}
+    {J = λ (o : Environment). IsReplyTo s o (command_seen c.args.command.now)}
     {H = λ (t : State). TablesFrom g.S.Pages.PageSource.honest g.S.Pages.PageSource.gives s c.table_command.new.tables t
     × StoreSeen (HonestOn trusted g.S.TableStore.honest) g.S.TableStore.files g.S.TableStore.headers g.S.TableStore.faults c.table_command.new.store t}
     {K = SessionHolds g.S.Pages.PageSource.honest g.S.Pages.PageSource.gives (HonestOn trusted g.S.TableStore.honest) g.S.TableStore.files g.S.TableStore.headers g.S.TableStore.faults
@@ -59,8 +59,8 @@ returns-in-Table g c = λ trusted s may d. executed_kept {I = λ (o : Outside). 
     (tables_there g.S.Pages.PageSource.honest g.S.Pages.PageSource.gives c.args.document.now c.args.tables.now s d.held) d.seen)
 
 pub returns-in-Stipulate : goal.returns-in-Stipulate
-returns-in-Stipulate g c = λ trusted s may d. executed_kept {I = λ (o : Outside). IsReplyTo s o (stipulate c.in-Stipulate.stipulation)}
-    {J = λ (o : Outside). IsReplyTo s o (command_seen c.args.command.now)}
+returns-in-Stipulate g c = λ trusted s may d. executed_kept {I = λ (o : Environment). IsReplyTo s o (stipulate c.in-Stipulate.stipulation)}
+    {J = λ (o : Environment). IsReplyTo s o (command_seen c.args.command.now)}
     {H = Holds g.S.Pages.PageSource.honest g.S.Pages.PageSource.gives c.stipulate.new.document c.stipulate.new.tables}
     {K = SessionHolds g.S.Pages.PageSource.honest g.S.Pages.PageSource.gives (HonestOn trusted g.S.TableStore.honest) g.S.TableStore.files g.S.TableStore.headers g.S.TableStore.faults
     c.stipulate.new.document c.stipulate.new.tables c.args.store.now} c.stipulate.result
@@ -70,8 +70,8 @@ returns-in-Stipulate g c = λ trusted s may d. executed_kept {I = λ (o : Outsid
     (c.stipulate.ensures s d.held)
 
 pub returns-in-Insert : goal.returns-in-Insert
-returns-in-Insert g c = λ trusted s may d. executed_kept {I = λ (o : Outside). IsReplyTo s o (insert (steps_of c.in-Insert.path.word.now) c.in-Insert.san.now)}
-    {J = λ (o : Outside). IsReplyTo s o (command_seen c.args.command.now)}
+returns-in-Insert g c = λ trusted s may d. executed_kept {I = λ (o : Environment). IsReplyTo s o (insert (steps_of c.in-Insert.path.word.now) c.in-Insert.san.now)}
+    {J = λ (o : Environment). IsReplyTo s o (command_seen c.args.command.now)}
     {H = Holds g.S.Pages.PageSource.honest g.S.Pages.PageSource.gives c.insert.new.document c.insert.new.tables}
     {K = SessionHolds g.S.Pages.PageSource.honest g.S.Pages.PageSource.gives (HonestOn trusted g.S.TableStore.honest) g.S.TableStore.files g.S.TableStore.headers g.S.TableStore.faults
     c.insert.new.document c.insert.new.tables c.args.store.now} c.insert.result
@@ -81,8 +81,8 @@ returns-in-Insert g c = λ trusted s may d. executed_kept {I = λ (o : Outside).
     (c.insert.ensures s d.held)
 
 pub returns-in-Tag : goal.returns-in-Tag
-returns-in-Tag g c = λ trusted s may d. executed_kept {I = λ (o : Outside). IsReplyTo s o (tag c.in-Tag.name c.in-Tag.text.now)}
-    {J = λ (o : Outside). IsReplyTo s o (command_seen c.args.command.now)}
+returns-in-Tag g c = λ trusted s may d. executed_kept {I = λ (o : Environment). IsReplyTo s o (tag c.in-Tag.name c.in-Tag.text.now)}
+    {J = λ (o : Environment). IsReplyTo s o (command_seen c.args.command.now)}
     {H = HoldsFrom {A = g.row.A.Denot} s c.set_tag.new.document}
     {K = SessionHolds g.S.Pages.PageSource.honest g.S.Pages.PageSource.gives (HonestOn trusted g.S.TableStore.honest) g.S.TableStore.files g.S.TableStore.headers g.S.TableStore.faults
     c.set_tag.new.document c.args.tables.now c.args.store.now} c.set_tag.result
@@ -92,8 +92,8 @@ returns-in-Tag g c = λ trusted s may d. executed_kept {I = λ (o : Outside). Is
     (c.set_tag.ensures s (document_held g.S.Pages.PageSource.honest g.S.Pages.PageSource.gives c.args.document.now c.args.tables.now s d.held))
 
 pub returns-in-Solve : goal.returns-in-Solve
-returns-in-Solve g c = λ trusted s may d. executed_kept {I = λ (o : Outside). IsReplyTo s o (solve c.in-Solve.count.number (steps_of c.in-Solve.path.word.now))}
-    {J = λ (o : Outside). IsReplyTo s o (command_seen c.args.command.now)}
+returns-in-Solve g c = λ trusted s may d. executed_kept {I = λ (o : Environment). IsReplyTo s o (solve c.in-Solve.count.number (steps_of c.in-Solve.path.word.now))}
+    {J = λ (o : Environment). IsReplyTo s o (command_seen c.args.command.now)}
     {H = HoldsFrom {A = g.row.A.Denot} s c.args.document.now}
     {K = SessionHolds g.S.Pages.PageSource.honest g.S.Pages.PageSource.gives (HonestOn trusted g.S.TableStore.honest) g.S.TableStore.files g.S.TableStore.headers g.S.TableStore.faults
     c.args.document.now c.args.tables.now c.args.store.now} c.solve_at.result
@@ -103,8 +103,8 @@ returns-in-Solve g c = λ trusted s may d. executed_kept {I = λ (o : Outside). 
     (c.solve_at.ensures s (document_held g.S.Pages.PageSource.honest g.S.Pages.PageSource.gives c.args.document.now c.args.tables.now s d.held))
 
 pub returns-in-Pgn : goal.returns-in-Pgn
-returns-in-Pgn g c = λ trusted s may d. executed_kept {I = λ (o : Outside). IsReplyTo s o (pgn)}
-    {J = λ (o : Outside). IsReplyTo s o (command_seen c.args.command.now)}
+returns-in-Pgn g c = λ trusted s may d. executed_kept {I = λ (o : Environment). IsReplyTo s o (pgn)}
+    {J = λ (o : Environment). IsReplyTo s o (command_seen c.args.command.now)}
     {H = HoldsFrom {A = g.row.A.Denot} s c.args.document.now}
     {K = SessionHolds g.S.Pages.PageSource.honest g.S.Pages.PageSource.gives (HonestOn trusted g.S.TableStore.honest) g.S.TableStore.files g.S.TableStore.headers g.S.TableStore.faults
     c.args.document.now c.args.tables.now c.args.store.now} c.pgn.result

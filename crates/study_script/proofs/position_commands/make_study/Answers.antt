@@ -2,7 +2,7 @@ use Rattle.std.proofs.Common.{◌≡◌, true}
 use Rattle.study_marks.specs.Queries.{asked_at}
 use Rattle.study_reply.specs.Words.{stipulation_words}
 use Rattle.study_script.specs.State.{quiet}
-use Rattle.study_script.specs.Held.{tables_held, tables_give, tables_may_fail, tables_asked, are_paged}
+use Rattle.study_script.specs.SessionHolds.{tables_held, tables_give, tables_may_fail, tables_asked, are_paged}
 use Rattle.study_script.specs.Replies.{holding, new_study}
 use Rattle.study_script.proofs.AskingEdits.{refused_asking, accepted_outside}
 use Rattle.study_script.proofs.Documents.{study_made, document_same}

@@ -4,10 +4,10 @@ use Rattle.study_notation.specs.FenSpelling.{fen_text}
 use Rattle.study_marks.specs.Study.{plain_study}
 use Rattle.study_marks.specs.BenchState.{marked}
 use Rattle.study_marks.specs.Queries.{asked_at}
-use Rattle.study_marks.specs.Edits.{positioned}
+use Rattle.study_marks.specs.Edits.{with_position}
 use Rattle.study_reply.specs.Words.{reply_line}
 use Rattle.study_script.specs.State.{quiet}
-use Rattle.study_script.specs.Held.{tables_held, tables_give, tables_may_fail, tables_asked, are_paged}
+use Rattle.study_script.specs.SessionHolds.{tables_held, tables_give, tables_may_fail, tables_asked, are_paged}
 use Rattle.study_script.specs.Replies.{holding}
 use Rattle.study_script.proofs.AskingEdits.{refused_asking, accepted_outside}
 use Rattle.study_script.proofs.HeldBehindReplies.{study_edited, study_same}
@@ -17,7 +17,7 @@ use Rattle.study_script.proofs.position_commands.reposition.Goals as goal
 pub returns-in-Ok : goal.returns-in-Ok
 returns-in-Ok g c = λ s h.
     let start = c.copied.result in
-    let new = positioned (plain_study (marked c.args.bench.now)) start in
+    let new = with_position (plain_study (marked c.args.bench.now)) start in
     let tables = c.args.tables.now in
     rw (← c.copied.ensures) (
       quiet,
@@ -31,7 +31,7 @@ returns-in-Ok g c = λ s h.
 pub returns-in-Err : goal.returns-in-Err
 returns-in-Err g c = λ s h.
     let start = c.copied.result in
-    let new = positioned (plain_study (marked c.args.bench.now)) start in
+    let new = with_position (plain_study (marked c.args.bench.now)) start in
     let asked = asked_at start.position in
     let tables = c.args.tables.now in
     let out = refused_asking g.row.A.Denot s (tables_held tables) (are_paged tables) asked new (reply_line (codes "position ") (fen_text start))

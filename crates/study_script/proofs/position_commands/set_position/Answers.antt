@@ -5,8 +5,8 @@ use Rattle.study_marks.specs.Study.{plain_study}
 use Rattle.study_marks.specs.BenchState.{marked}
 use Rattle.study_script.specs.declared.document.Document.TheVariants as held
 use Rattle.study_reply.specs.Words.{reply_line}
-use Rattle.study_script.specs.State.{Document, Outside, quiet, start, study}
-use Rattle.study_script.specs.Held.{Holds}
+use Rattle.study_script.specs.State.{Document, Environment, quiet, start, study}
+use Rattle.study_script.specs.SessionHolds.{Holds}
 use Rattle.study_script.specs.Replies.{accepted, IsPositionReply}
 use Rattle.study_script.proofs.Executions.{executed_weaker}
 use Rattle.study_script.proofs.Documents.{holds_of, seen_of, start_held}
@@ -14,8 +14,8 @@ use Rattle.study_script.proofs.position_commands.set_position.Goals as goal
 
 pub returns-in-Study : goal.returns-in-Study
 returns-in-Study g c = λ s h. executed_weaker
-    {I = λ (o : Outside). IsPositionReply s o (study (plain_study (marked c.in-Study.bench))) c.args.start}
-    {J = λ (o : Outside). IsPositionReply s o s.document c.args.start}
+    {I = λ (o : Environment). IsPositionReply s o (study (plain_study (marked c.in-Study.bench))) c.args.start}
+    {J = λ (o : Environment). IsPositionReply s o s.document c.args.start}
     {H = Holds g.P.PageSource.honest g.P.PageSource.gives (held.Study c.reposition.new.bench) c.reposition.new.tables}
     {K = Holds g.P.PageSource.honest g.P.PageSource.gives (held.Study c.reposition.new.bench) c.reposition.new.tables} c.reposition.result
     (λ o r i. subst (λ (x : Document). IsPositionReply s o x c.args.start r)

@@ -4,10 +4,10 @@ use Rattle.study_notation.specs.FenSpelling.{fen_text}
 use Rattle.study_marks.specs.Study.{plain_study}
 use Rattle.study_marks.specs.BenchState.{marked}
 use Rattle.study_marks.specs.Queries.{positions_asked}
-use Rattle.study_marks.specs.Edits.{shifted}
+use Rattle.study_marks.specs.Edits.{with_start}
 use Rattle.study_reply.specs.Words.{reply_line}
 use Rattle.study_script.specs.State.{quiet}
-use Rattle.study_script.specs.Held.{tables_held, tables_give, tables_may_fail, tables_asked, are_paged}
+use Rattle.study_script.specs.SessionHolds.{tables_held, tables_give, tables_may_fail, tables_asked, are_paged}
 use Rattle.study_script.specs.Replies.{accepted, holding, IsShiftReply}
 use Rattle.study_script.proofs.AskingEdits.{accepted_outside}
 use Rattle.study_script.proofs.ShiftReplies.{unbroken, shift_refused}
@@ -19,7 +19,7 @@ pub returns-in-Ok : goal.returns-in-Ok
 returns-in-Ok g c = λ s h.
     let start = c.copied.result in
     let old = plain_study (marked c.args.bench.now) in
-    let new = shifted old start in
+    let new = with_start old start in
     let said = reply_line (codes "shift ") (fen_text start) in
     let tables = c.args.tables.now in rw (← c.copied.ensures) (
       quiet,
@@ -36,7 +36,7 @@ pub returns-in-Err : goal.returns-in-Err
 returns-in-Err g c = λ s h.
     let start = c.copied.result in
     let old = plain_study (marked c.args.bench.now) in
-    let asked = positions_asked (shifted old start) in
+    let asked = positions_asked (with_start old start) in
     let tables = c.args.tables.now in
     let out = shift_refused g.row.A.Denot s (tables_held tables) (are_paged tables) old start c.in-Err.refusal
     h.classes h.paged c.in-Err.ensures.refusal c.in-Err.ensures.device (c.in-Err.ensures.no_damage h.values)

@@ -5,8 +5,8 @@ use Rattle.study_marks.specs.BenchState.{marked}
 use Rattle.study_command.specs.declared.command.FenCommand.TheVariants.{Shift}
 use Rattle.study_script.specs.declared.document.Document.TheVariants as held
 use Rattle.study_reply.specs.declared.refusal.Refusal.TheVariants.{NoStudy}
-use Rattle.study_script.specs.State.{Document, Outside, quiet, study}
-use Rattle.study_script.specs.Held.{Holds}
+use Rattle.study_script.specs.State.{Document, Environment, quiet, study}
+use Rattle.study_script.specs.SessionHolds.{Holds}
 use Rattle.study_script.specs.Replies.{refused, IsStartReply}
 use Rattle.study_script.proofs.Executions.{executed_weaker}
 use Rattle.study_script.proofs.Documents.{holds_of, seen_of}
@@ -14,8 +14,8 @@ use Rattle.study_script.proofs.position_commands.shift_document.Goals as goal
 
 pub returns-in-Study : goal.returns-in-Study
 returns-in-Study g c = λ s h. executed_weaker
-    {I = λ (o : Outside). IsStartReply s o Shift (study (plain_study (marked c.in-Study.bench))) (start_of c.args.fen.now)}
-    {J = λ (o : Outside). IsStartReply s o Shift s.document (start_of c.args.fen.now)}
+    {I = λ (o : Environment). IsStartReply s o Shift (study (plain_study (marked c.in-Study.bench))) (start_of c.args.fen.now)}
+    {J = λ (o : Environment). IsStartReply s o Shift s.document (start_of c.args.fen.now)}
     {H = Holds g.P.PageSource.honest g.P.PageSource.gives (held.Study c.shift_study.new.bench) c.shift_study.new.tables}
     {K = Holds g.P.PageSource.honest g.P.PageSource.gives (held.Study c.shift_study.new.bench) c.shift_study.new.tables} c.shift_study.result
     (λ o r i. subst (λ (x : Document). IsStartReply s o Shift x (start_of c.args.fen.now) r)

@@ -1,12 +1,12 @@
 use Rattle.std.proofs.Common.{refl, ap, ◌∙◌, subst}
 use Rattle.study_marks.specs.Study.{plain_study}
 use Rattle.study_marks.specs.BenchState.{marked}
-use Rattle.study_marks.specs.Edits.{stipulated}
+use Rattle.study_marks.specs.Edits.{with_stipulation}
 use Rattle.study_script.specs.declared.document.Document.TheVariants as held
 use Rattle.study_reply.specs.declared.refusal.Refusal.TheVariants.{NoPosition}
 use Rattle.study_reply.specs.Words.{stipulation_words}
-use Rattle.study_script.specs.State.{Document, Outside, quiet, start}
-use Rattle.study_script.specs.Held.{Holds}
+use Rattle.study_script.specs.State.{Document, Environment, quiet, start}
+use Rattle.study_script.specs.SessionHolds.{Holds}
 use Rattle.study_script.specs.Replies.{accepted, refused, holding, IsStipulateReply}
 use Rattle.study_script.proofs.Executions.{executed_weaker}
 use Rattle.study_script.proofs.Documents.{holds_of, seen_of, study_held}
@@ -14,7 +14,7 @@ use Rattle.study_script.proofs.position_commands.stipulate.Goals as goal
 
 pub returns-in-Study : goal.returns-in-Study
 returns-in-Study g c = λ s h.
-    let new = stipulated (plain_study (marked c.in-Study.bench)) c.args.stipulation.now in
+    let new = with_stipulation (plain_study (marked c.in-Study.bench)) c.args.stipulation.now in
     let holds = holds_of g.P.PageSource.honest g.P.PageSource.gives c.args.document.now (held.Study c.in-Study.bench) c.args.tables.now s c.in-Study.is h in
     rw c.restipulate.ensures.reply (
       quiet,
@@ -36,8 +36,8 @@ returns-in-Empty g c = λ s h. (
 
 pub returns-in-Start : goal.returns-in-Start
 returns-in-Start g c = λ s h. executed_weaker
-    {I = λ (o : Outside). IsStipulateReply s o (start c.copied-start.result) c.args.stipulation.now}
-    {J = λ (o : Outside). IsStipulateReply s o s.document c.args.stipulation.now}
+    {I = λ (o : Environment). IsStipulateReply s o (start c.copied-start.result) c.args.stipulation.now}
+    {J = λ (o : Environment). IsStipulateReply s o s.document c.args.stipulation.now}
     {H = Holds g.P.PageSource.honest g.P.PageSource.gives c.make_study.new.document c.make_study.new.tables}
     {K = Holds g.P.PageSource.honest g.P.PageSource.gives c.make_study.new.document c.make_study.new.tables} c.make_study.result
     (λ o r i. subst (λ (x : Document). IsStipulateReply s o x c.args.stipulation.now r)

@@ -2,8 +2,8 @@ use Rattle.std.proofs.Common.{refl, subst}
 use Rattle.study_marks.specs.Study.{plain_study}
 use Rattle.study_marks.specs.BenchState.{marked}
 use Rattle.study_reply.specs.declared.refusal.Refusal.TheVariants.{NoStudy}
-use Rattle.study_script.specs.State.{Document, Outside, quiet, study}
-use Rattle.study_script.specs.Held.{HoldsFrom, HoldsBenchFrom}
+use Rattle.study_script.specs.State.{Document, Environment, quiet, study}
+use Rattle.study_script.specs.SessionHolds.{HoldsFrom, HoldsBenchFrom}
 use Rattle.study_script.specs.Replies.{Reply, refused, IsPgnReply}
 use Rattle.study_script.proofs.Executions.{executed_weaker}
 use Rattle.study_script.proofs.HeldBehindReplies.{document_kept, document_of, bench_of, empty_seen, start_seen, study_seen}
@@ -27,9 +27,9 @@ returns-in-Start g c = λ s h. (
 
 pub returns-in-Study : goal.returns-in-Study
 returns-in-Study g c = λ s h. executed_weaker
-    {I = λ (o : Outside) (r : Reply). IsPgnReply s o (study (plain_study (marked c.in-Study.bench))) r}
-    {J = λ (o : Outside) (r : Reply). IsPgnReply s o s.document r} {H = HoldsBenchFrom s c.in-Study.bench}
-    {K = HoldsFrom {A = g.row.A.Denot} s c.args.document.now} c.pgn_of.result
+    {I = λ (o : Environment) (r : Reply). IsPgnReply s o (study (plain_study (marked c.in-Study.bench))) r}
+    {J = λ (o : Environment) (r : Reply). IsPgnReply s o s.document r} {H = HoldsBenchFrom s c.in-Study.bench}
+    {K = HoldsFrom {A = g.row.A.Denot} s c.args.document.now} c.document_pgn.result
     (λ o r i. subst (λ (x : Document). IsPgnReply s o x r) (study_seen c.args.document.now c.in-Study.bench s c.in-Study.is h) i)
     (λ t m. document_of {A = g.row.A.Denot} c.args.document.now c.in-Study.bench s t c.in-Study.is m)
-    (c.pgn_of.ensures s (bench_of c.args.document.now c.in-Study.bench s c.in-Study.is h))
+    (c.document_pgn.ensures s (bench_of c.args.document.now c.in-Study.bench s c.in-Study.is h))

@@ -1,5 +1,5 @@
 use Rattle.std.proofs.Common.{is_some, refl}
-use Rattle.study_script.specs.Outcome.{begun_state}
+use Rattle.study_script.specs.Outcome.{initial_state}
 use Rattle.study_script.specs.Stores.{shelf_of}
 use Rattle.study_script.proofs.TablesFaults.{none_fails}
 use Rattle.study_script.proofs.running.run.Goals as goal
@@ -7,7 +7,7 @@ use Rattle.study_script.proofs.running.run.Goals as goal
 pub returns-clause-outcome : goal.returns-clause-outcome
 returns-clause-outcome g c =
     λ trusted honest. c.run_session.ensures.outcome trusted c.args.settings.separate
-    (begun_state (shelf_of g.S.TableStore.files g.S.TableStore.headers g.S.TableStore.faults c.args.store.now)
+    (initial_state (shelf_of g.S.TableStore.files g.S.TableStore.headers g.S.TableStore.faults c.args.store.now)
     (is_some c.args.settings.pages)) (
       refl,
       record {

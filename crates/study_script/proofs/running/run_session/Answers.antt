@@ -3,7 +3,7 @@ use Rattle.std.proofs.KnownBytes.{Consumes-nil, Consumes-kept}
 use Rattle.study_command.specs.Lines.{GaveFeeds}
 use Rattle.study_script.specs.Replies.{IsReplyIn}
 use Rattle.study_script.specs.Stores.{IsTrusted}
-use Rattle.study_script.specs.Held.{Answered, BrokenOff}
+use Rattle.study_script.specs.SessionHolds.{Answered, BrokenOff}
 use Rattle.study_command.proofs.LineTaken.{has_more, has_none, gave-more, gave-same}
 use Rattle.study_script.proofs.FirstLines.{with_trust, next_trusted, Ran, RanOn-more, ran_ends, ran_long, ran_many, ran_read, ran_write}
 use Rattle.study_script.proofs.FirstLines.{Gone, gone_ends, gone_long, gone_many, gone_more, gone_read, gone_write}

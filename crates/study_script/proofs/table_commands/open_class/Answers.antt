@@ -1,8 +1,8 @@
 use Rattle.std.proofs.Common.{◌≡◌, ℕ, Bool, true, false, List, Option, Result, Err, refl, sym, subst, ◌∙◌}
 use Rattle.study_material.specs.declared.class.Class.{Class}
-use Rattle.study_tablefile.specs.File.{IsVersionOf}
+use Rattle.study_tablefile.specs.Format.{IsVersionOf}
 use Rattle.study_values.specs.declared.fault.SourceFault.{SourceFault}
-use Rattle.study_tablefile.specs.Source.{Question, of_header, of_page}
+use Rattle.study_tablefile.specs.PageSource.{Question, of_header, of_page}
 use Rattle.study_prober.specs.HeaderAnswers.{paged_fault}
 use Rattle.study_script.specs.declared.store.StoreFault.{StoreFault}
 use Rattle.study_script.specs.State.{IsGiven, IsGivenAs, IsQuestionOf}

@@ -1,6 +1,6 @@
 use Rattle.study_script.specs.Stores.{HonestOn, StoreSeen}
 use Rattle.study_script.specs.Replies.{IsClassReply}
-use Rattle.study_script.specs.Held.{TablesFrom}
+use Rattle.study_script.specs.SessionHolds.{TablesFrom}
 use Rattle.study_script.proofs.Executions.{table_done, table_refused}
 use Rattle.study_script.proofs.table_commands.table_command.Goals as goal
 

@@ -3,7 +3,7 @@ use Rattle.study_moves.specs.Rules.{after}
 use Rattle.study_marks.specs.Study.{position_at}
 use Rattle.study_marks.specs.BenchState.{marked}
 use Rattle.study_marks.specs.Queries.{asked_at, AllHeld}
-use Rattle.study_script.specs.Held.{tables_held, tables_may_fail}
+use Rattle.study_script.specs.SessionHolds.{tables_held, tables_may_fail}
 use Rattle.study_script.proofs.TablesFaults.{whole_told, paged_told}
 use Rattle.study_script.proofs.table_edits.insert_move.Goals as goal
 

@@ -1,6 +1,6 @@
 use Rattle.std.proofs.Common.{sym, subst, OnOk}
 use Rattle.study_marks.specs.Queries.{asked_at, AllHeld}
-use Rattle.study_script.specs.Held.{tables_held, tables_may_fail}
+use Rattle.study_script.specs.SessionHolds.{tables_held, tables_may_fail}
 use Rattle.study_script.proofs.TablesFaults.{whole_told, paged_told}
 use Rattle.study_script.proofs.table_edits.new_bench.Goals as goal
 

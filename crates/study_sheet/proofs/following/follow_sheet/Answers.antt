@@ -1,5 +1,5 @@
 use Rattle.std.proofs.Common.{sym, ◌∙◌}
-use Rattle.study_script.specs.Held.{are_paged}
+use Rattle.study_script.specs.SessionHolds.{are_paged}
 use Rattle.study_report.specs.Outcome.{over_tables}
 use Rattle.study_print.proofs.FileWritten.{where_ok}
 use Rattle.study_sheet.proofs.SheetWritten.{whole_sheet, sheet_shape, sheet_fits}

@@ -34,7 +34,7 @@ start_from-next-requires-clause-found g t c =
     let path : c.go_down.new.steps.items ≡ steps ++ k ∷ [] =
     c.in_ok-go_down.ensures ∙ ap (λ (st : List ℕ). st ++ k ∷ []) c.loop-place.invariant.back in
     let lt : k < width (below_at tree.below steps) =
-    omega (arith, c.loop-place-test.true, c.count_at-count.ensures, ap (λ (st : List ℕ). width (below_at tree.below st)) c.as_slice-2.ensures.value) in
+    omega (arith, c.loop-place-test.true, c.child_count-count.ensures, ap (λ (st : List ℕ). width (below_at tree.below st)) c.as_slice-2.ensures.value) in
     there-child tree steps c.as_slice-in-loop-place.result.now k (c.as_slice-in-loop-place.ensures.value ∙ path) lt
 
 pub start_from-next-requires-clause-before : goal.start_from-next-requires-clause-before
@@ -54,7 +54,7 @@ add_nodes-requires g t c κs within =
     let path : c.go_down.new.steps.items ≡ steps ++ k ∷ [] =
     c.in_ok-go_down.ensures ∙ ap (λ (st : List ℕ). st ++ k ∷ []) c.loop-place.invariant.back in
     let lt : k < width (below_at s.tree.below steps) =
-    omega (arith, c.loop-place-test.true, c.count_at-count.ensures, ap (λ (st : List ℕ). width (below_at s.tree.below st)) c.as_slice-2.ensures.value) in (
+    omega (arith, c.loop-place-test.true, c.child_count-count.ensures, ap (λ (st : List ℕ). width (below_at s.tree.below st)) c.as_slice-2.ensures.value) in (
       omega (arith, fewer-child s.tree.below steps c.go_down.new.steps.items k path lt, c.decreases),
       (
         within.0,
@@ -82,7 +82,7 @@ loop-place-preserved g t c =
     let path : c.go_down.new.steps.items ≡ steps ++ k ∷ [] =
     c.in_ok-go_down.ensures ∙ ap (λ (st : List ℕ). st ++ k ∷ []) c.loop-place.invariant.back in
     let lt : k < width (below_at tree.below steps) =
-    omega (arith, c.loop-place-test.true, c.count_at-count.ensures, ap (λ (st : List ℕ). width (below_at tree.below st)) c.as_slice-2.ensures.value) in
+    omega (arith, c.loop-place-test.true, c.child_count-count.ensures, ap (λ (st : List ℕ). width (below_at tree.below st)) c.as_slice-2.ensures.value) in
     record {
       nodes = child-written (IsNodeLine (marked c.args.bench.now)) tree.below steps c.go_down.new.steps.items k c.add_own.new.lines.nodes
           c.loop-place.lines.nodes c.add_nodes.new.lines.nodes path lt c.in_ok-add_nodes.ensures.nodes c.loop-place.invariant.nodes;
@@ -101,7 +101,7 @@ returns-clause-nodes g t c =
     let tree = (marked c.args.bench.now).tree in
     let steps = c.args.steps.now.items in
     let few : width (below_at tree.below steps) ≤ c.loop-place.place =
-    omega (arith, c.loop-place-test.false, c.count_at-count.ensures, ap (λ (st : List ℕ). width (below_at tree.below st)) c.as_slice-2.ensures.value) in
+    omega (arith, c.loop-place-test.false, c.child_count-count.ensures, ap (λ (st : List ℕ). width (below_at tree.below st)) c.as_slice-2.ensures.value) in
     all-written (IsNodeLine (marked c.args.bench.now)) tree.below steps c.loop-place.place c.args.lines.now.nodes c.add_own.new.lines.nodes c.loop-place.lines.nodes few
     (own-grew (marked c.args.bench.now) c.as_slice.result.now steps c.args.lines.now.nodes c.add_own.new.lines.nodes c.as_slice.ensures.value c.in_ok-add_own.ensures.nodes)
     c.loop-place.invariant.nodes
@@ -111,7 +111,7 @@ returns-clause-zugzwangs g t c h =
     let tree = (marked c.args.bench.now).tree in
     let steps = c.args.steps.now.items in
     let few : width (below_at tree.below steps) ≤ c.loop-place.place =
-    omega (arith, c.loop-place-test.false, c.count_at-count.ensures, ap (λ (st : List ℕ). width (below_at tree.below st)) c.as_slice-2.ensures.value) in
+    omega (arith, c.loop-place-test.false, c.child_count-count.ensures, ap (λ (st : List ℕ). width (below_at tree.below st)) c.as_slice-2.ensures.value) in
     all-written (ZugzwangLines (marked c.args.bench.now)) tree.below steps c.loop-place.place c.args.lines.now.zugzwangs c.add_own.new.lines.zugzwangs c.loop-place.lines.zugzwangs few
     (subst (λ (st : List ℕ). Grew (ZugzwangLines (marked c.args.bench.now) st) c.args.lines.now.zugzwangs c.add_own.new.lines.zugzwangs) c.as_slice.ensures.value
     (c.in_ok-add_own.ensures.zugzwangs h)) (c.loop-place.invariant.zugzwangs h)

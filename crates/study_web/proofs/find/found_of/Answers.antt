@@ -1,6 +1,6 @@
 use Rattle.std.proofs.Common.{Err, true, ap, sym, subst}
 use Rattle.study_material.specs.declared.class.Class.{Class}
-use Rattle.study_web.specs.declared.denial.Denial.{Denial}
+use Rattle.study_web.specs.declared.request_fault.RequestFault.{RequestFault}
 use Rattle.study_web.specs.Opened.{IsHeldAs, IsOfSearch}
 use Rattle.study_web.proofs.Denials.{search_stopped}
 use Rattle.study_web.proofs.find.found_of.Goals as goal
@@ -13,7 +13,7 @@ returns-in-Err-piece_text-clause-none g c =
     let headers = g.S.TableStore.headers c.args.store.now in
     let faults = g.S.TableStore.faults c.args.store.now in
     let Right = (d : Class) → g.S.TableStore.honest c.args.store.now true d in
-    subst (λ (d : Denial). IsOfSearch headers faults Right d) (sym c.of_stop.ensures)
+    subst (λ (d : RequestFault). IsOfSearch headers faults Right d) (sym c.of_stop.ensures)
     (search_stopped headers faults Right c.in-Err-piece_text.stop
     (λ d e. subst (IsHeldAs (headers d)) (c.in-Err-piece_text.ensures.no_table d (ap Err e)) (c.in-Ok.ensures.held d))
     (λ f e. let r = c.in-Err-piece_text.ensures.failed_so f (ap Err e) in (r.0, c.in-Ok.ensures.fails r.0 f r.1))

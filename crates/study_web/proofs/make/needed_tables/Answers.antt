@@ -7,19 +7,19 @@ use Rattle.study_web.proofs.Faults.{all_raised}
 use Rattle.study_web.proofs.Needed.{order_ascends}
 use Rattle.study_web.proofs.make.needed_tables.Goals as goal
 
-pub hold_each-requires-clause-needed : goal.hold_each-requires-clause-needed
-hold_each-requires-clause-needed g c = λ d k.
+pub load_classes-requires-clause-needed : goal.load_classes-requires-clause-needed
+load_classes-requires-clause-needed g c = λ d k.
     (c.order-needed.ensures.each d).0 (subst (λ (cs : List Class). Contains cs d) c.as_slice.ensures.value k)
 
-pub hold_each-requires-clause-ascending : goal.hold_each-requires-clause-ascending
-hold_each-requires-clause-ascending g c =
+pub load_classes-requires-clause-ascending : goal.load_classes-requires-clause-ascending
+load_classes-requires-clause-ascending g c =
     subst (λ (cs : List Class). is_ascending cs ≡ true) (sym c.as_slice.ensures.value) (order_ascends c.order-needed.ensures)
 
-pub hold_each-requires-clause-settled : goal.hold_each-requires-clause-settled
-hold_each-requires-clause-settled g c = λ d needed out.
+pub load_classes-requires-clause-settled : goal.load_classes-requires-clause-settled
+load_classes-requires-clause-settled g c = λ d needed out.
     absurd (out (subst (λ (cs : List Class). Contains cs d) (sym c.as_slice.ensures.value) ((c.order-needed.ensures.each d).1 needed)))
 
-pub returns-in_err-hold_each-clause-fault : goal.returns-in_err-hold_each-clause-fault
-returns-in_err-hold_each-clause-fault g c =
-    let fault = all_raised c.hold_each.result c.args.spans.now c.args.bytes.now c.args.class c.as_slice.result.now
-    (subst (λ (cs : List Class). IsOrder c.args.class cs) (sym c.as_slice.ensures.value) c.order-needed.ensures) c.hold_each.ensures.fault in search rules
+pub returns-in_err-load_classes-clause-fault : goal.returns-in_err-load_classes-clause-fault
+returns-in_err-load_classes-clause-fault g c =
+    let fault = all_raised c.load_classes.result c.args.spans.now c.args.bytes.now c.args.class c.as_slice.result.now
+    (subst (λ (cs : List Class). IsOrder c.args.class cs) (sym c.as_slice.ensures.value) c.order-needed.ensures) c.load_classes.ensures.fault in search rules

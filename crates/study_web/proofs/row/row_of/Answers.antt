@@ -3,7 +3,7 @@ use Rattle.std.specs.Prelude.{is_some}
 use Rattle.study_material.specs.declared.class.Class.{Class}
 use Rattle.study_prober.specs.PagedTables.{SourcesAreRight, MayFail, held_of}
 use Rattle.study_reply.specs.declared.refusal.Refusal.{Refusal}
-use Rattle.study_web.specs.declared.denial.Denial.TheVariants as denial
+use Rattle.study_web.specs.declared.request_fault.RequestFault.TheVariants as denial
 use Rattle.study_web.specs.Opened.{IsOfSearch}
 use Rattle.study_web.proofs.Denials.{search_reported}
 use Rattle.study_web.proofs.row.row_of.Goals as goal

@@ -5,7 +5,7 @@ use Rattle.study_marks.specs.Study.{plain_study}
 use Rattle.study_script.specs.State.{study}
 use Rattle.study_web.specs.Views.{StudyStopped}
 use Rattle.study_reply.specs.declared.refusal.Refusal.{Refusal}
-use Rattle.study_web.specs.declared.denial.Denial.TheVariants as denial
+use Rattle.study_web.specs.declared.request_fault.RequestFault.TheVariants as denial
 use Rattle.study_web.specs.Answers.{IsViewDenial}
 use Rattle.study_command.specs.Paths.{steps_of}
 use Rattle.study_marks.specs.BenchState.{marked}

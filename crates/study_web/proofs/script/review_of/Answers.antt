@@ -2,7 +2,7 @@ use Rattle.std.proofs.Common.{Bool, Some, is_some, filter, refl, sym, ◌∙◌}
 use Rattle.study_material.specs.declared.class.Class.{Class}
 use Rattle.study_material.specs.Class.{class_list}
 use Rattle.study_prober.specs.PagedTables.{held_of}
-use Rattle.study_script.specs.State.{Shelf}
+use Rattle.study_script.specs.State.{StoreKnowledge}
 use Rattle.study_web.specs.Views.{over_files}
 use Rattle.study_web.proofs.Opening.{among_chosen}
 use Rattle.study_web.proofs.Unread.{own_review}
@@ -13,7 +13,7 @@ returns-in-Ok-clause-review g c = λ right.
     let chosen : Class → Bool = λ d. is_some (held_of c.in-Ok.tables.sources d) in
     let classes = filter chosen class_list in
     let store = c.open_tables.new.store in
-    let shelf : Shelf = record { files = g.S.TableStore.files store; headers = g.S.TableStore.headers store; faults = g.S.TableStore.faults store } in
+    let shelf : StoreKnowledge = record { files = g.S.TableStore.files store; headers = g.S.TableStore.headers store; faults = g.S.TableStore.faults store } in
     let same = c.open_tables.ensures.faults in
     let told = c.follow_over-summary.ensures.outcome (over_files classes shelf) (record {
       held = record {

@@ -3,16 +3,16 @@ use Rattle.study_board.specs.Men.{same_side}
 use Rattle.study_board.specs.Position.{Position, IsValid}
 use Rattle.study_text.specs.Counts.{counted}
 use Rattle.study_tree.specs.Tree.{plain_tree, size_of}
-use Rattle.study_marks.specs.declared.label.Told.{Told}
+use Rattle.study_marks.specs.declared.node_label.Evaluation.{Evaluation}
 use Rattle.study_marks.specs.declared.mark_rules.Aim.{Aim}
 use Rattle.study_marks.specs.Study.{plain_study, IsPlayable}
 use Rattle.study_marks.specs.Goals.{aim_of}
-use Rattle.study_marks.specs.BenchState.{BenchState, marked, AllAddUp, told_tree}
-use Rattle.study_marks.specs.Edits.{shifted}
-use Rattle.study_marks.specs.Queries.{positions_asked, AreTablesHeld, IsOutside, HasStopped, is_of_tables, counted_times}
-use Rattle.study_marks.specs.Bench.{kept_of}
-use Rattle.study_marks.specs.Told.{AllAreTold}
-use Rattle.study_marks.specs.Relabelled.{retold_tree}
+use Rattle.study_marks.specs.BenchState.{BenchState, marked, AllAddUp, evaluation_tree}
+use Rattle.study_marks.specs.Edits.{with_start}
+use Rattle.study_marks.specs.Queries.{positions_asked, AreTablesHeld, IsOutside, HasStopped, is_of_tables, counted_up_by}
+use Rattle.study_marks.specs.Bench.{bench_state_of}
+use Rattle.study_marks.specs.Evaluated.{AllAreEvaluated}
+use Rattle.study_marks.specs.Relabelled.{reevaluated_tree}
 use Rattle.study_marks.proofs.BenchEdits.{counted-later}
 use Rattle.study_marks.proofs.Readers.{size-marked}
 use Rattle.study_marks.proofs.BenchRewritten.{restarted, shifted-study, shifted-plain, shifted-right, asked-shifted, same-refusal, refusal-asked}
@@ -22,18 +22,18 @@ use Rattle.study_marks.proofs.bench.Bench.annotate.Goals as goal
 
 pub returns-in_err-all-clause-refusal : goal.returns-in_err-all-clause-refusal
 returns-in_err-all-clause-refusal g c =
-    let b = kept_of c.self.inside.start c.self.inside.stipulation c.self.inside.tags c.self.inside.tree in
+    let b = bench_state_of c.self.inside.start c.self.inside.stipulation c.self.inside.tags c.self.inside.tree in
     let same = asked-shifted b c.args.self.now c.args.start c.self.view_is in
     same-refusal c.from_residual.result c.in_err-all.field-0.0 (g.V.Values.held c.args.values.now)
-    (positions_asked (shifted (plain_study (marked c.args.self.now)) c.args.start)) c.from_residual.ensures.1
+    (positions_asked (with_start (plain_study (marked c.args.self.now)) c.args.start)) c.from_residual.ensures.1
     (subst (λ (ps : List Position). IsOutside (g.V.Values.held c.args.values.now) ps c.in_err-all.field-0.0) same c.in_err-all.ensures.refusal)
 
 pub returns-in_err-all-clause-asked : goal.returns-in_err-all-clause-asked
 returns-in_err-all-clause-asked g c =
-    let b = kept_of c.self.inside.start c.self.inside.stipulation c.self.inside.tags c.self.inside.tree in
+    let b = bench_state_of c.self.inside.start c.self.inside.stipulation c.self.inside.tags c.self.inside.tree in
     let same = asked-shifted b c.args.self.now c.args.start c.self.view_is in
     refusal-asked c.from_residual.result c.in_err-all.field-0.0
-    (length (positions_asked (shifted (plain_study (marked c.args.self.now)) c.args.start)))
+    (length (positions_asked (with_start (plain_study (marked c.args.self.now)) c.args.start)))
     (g.V.Values.asked_of c.args.values.now) (g.V.Values.asked_of c.evaluate_all.new.values) c.from_residual.ensures.1
     (subst (λ (ps : List Position). HasStopped (is_of_tables c.in_err-all.field-0.0) (length ps)
     (g.V.Values.asked_of c.args.values.now) (g.V.Values.asked_of c.evaluate_all.new.values)) same
@@ -41,9 +41,9 @@ returns-in_err-all-clause-asked g c =
 
 pub invariant_of-self : goal.invariant_of-self
 invariant_of-self g c =
-    let b = kept_of c.self.inside.start c.self.inside.stipulation c.self.inside.tags c.self.inside.tree in
+    let b = bench_state_of c.self.inside.start c.self.inside.stipulation c.self.inside.tags c.self.inside.tree in
     let u = plain_tree c.relabel_all.new.tree in
-    let told : told_tree u ≡ retold_tree c.as_slice.result.now (told_tree b.study.tree) = c.relabel_all.ensures.told in
+    let told : evaluation_tree u ≡ reevaluated_tree c.as_slice.result.now (evaluation_tree b.study.tree) = c.relabel_all.ensures.told in
     let aim : c.aim_of-aim.result ≡ aim_of (restarted b.study c.args.start u) =
     c.aim_of-aim.ensures
     ∙ ap
@@ -61,23 +61,23 @@ invariant_of-self g c =
 
 pub returns-clause-found : goal.returns-clause-found
 returns-clause-found g c =
-    let b = kept_of c.self.inside.start c.self.inside.stipulation c.self.inside.tags c.self.inside.tree in
+    let b = bench_state_of c.self.inside.start c.self.inside.stipulation c.self.inside.tags c.self.inside.tree in
     let same = asked-shifted b c.args.self.now c.args.start c.self.view_is in
     record { each = subst (λ (ps : List Position). AreTablesHeld (g.V.Values.held c.args.values.now) ps) same c.in_ok-all.ensures.found }
 
 pub returns-clause-edited : goal.returns-clause-edited
 returns-clause-edited g c =
-    let b = kept_of c.self.inside.start c.self.inside.stipulation c.self.inside.tags c.self.inside.tree in
+    let b = bench_state_of c.self.inside.start c.self.inside.stipulation c.self.inside.tags c.self.inside.tree in
     let u = plain_tree c.relabel_all.new.tree in
-    let told : told_tree u ≡ retold_tree c.as_slice.result.now (told_tree b.study.tree) = c.relabel_all.ensures.told in
+    let told : evaluation_tree u ≡ reevaluated_tree c.as_slice.result.now (evaluation_tree b.study.tree) = c.relabel_all.ensures.told in
     shifted-plain c.as_slice.result.now b c.args.start u (counted c.relabel_all.new.tree.relabelled) told
-    ∙ ap (λ (k : BenchState). shifted (plain_study (marked k)) c.args.start) c.self.view_is
+    ∙ ap (λ (k : BenchState). with_start (plain_study (marked k)) c.args.start) c.self.view_is
 
 pub returns-clause-right : goal.returns-clause-right
 returns-clause-right g c =
-    let b = kept_of c.self.inside.start c.self.inside.stipulation c.self.inside.tags c.self.inside.tree in
+    let b = bench_state_of c.self.inside.start c.self.inside.stipulation c.self.inside.tags c.self.inside.tree in
     let u = plain_tree c.relabel_all.new.tree in
-    let told : told_tree u ≡ retold_tree c.as_slice.result.now (told_tree b.study.tree) = c.relabel_all.ensures.told in
+    let told : evaluation_tree u ≡ reevaluated_tree c.as_slice.result.now (evaluation_tree b.study.tree) = c.relabel_all.ensures.told in
     let aim : c.aim_of-aim.result ≡ aim_of (restarted b.study c.args.start u) =
     c.aim_of-aim.ensures
     ∙ ap
@@ -88,28 +88,28 @@ returns-clause-right g c =
     }) c.to_move.ensures in
     let right : AllAddUp (aim_of (restarted b.study c.args.start u)) u = subst (λ (a : Aim). AllAddUp a u) aim c.relabel_all.ensures.right in
     λ h. shifted-right c.as_slice.result.now b c.args.start u (counted c.relabel_all.new.tree.relabelled) told right
-    (subst (λ (ts : List Told). AllAreTold c.args.start.position (retold_tree ts (told_tree b.study.tree)))
+    (subst (λ (ts : List Evaluation). AllAreEvaluated c.args.start.position (reevaluated_tree ts (evaluation_tree b.study.tree)))
     (sym c.as_slice.ensures.value) (c.in_ok-all.ensures.game h))
 
 pub returns-clause-relabelled : goal.returns-clause-relabelled
 returns-clause-relabelled g c =
-    let b = kept_of c.self.inside.start c.self.inside.stipulation c.self.inside.tags c.self.inside.tree in
+    let b = bench_state_of c.self.inside.start c.self.inside.stipulation c.self.inside.tags c.self.inside.tree in
     counted-later (size_of (plain_tree c.self.inside.tree)) c.self.inside.tree.relabelled c.relabel_all.new.tree.relabelled c.relabel_all.ensures.count
-    ∙ ap (λ n. counted_times n (counted c.self.inside.tree.relabelled)) (size-marked b c.args.self.now c.self.view_is)
-    ∙ ap (λ (k : BenchState). counted_times (size_of (marked c.args.self.now).tree) k.relabelled) c.self.view_is
+    ∙ ap (λ n. counted_up_by n (counted c.self.inside.tree.relabelled)) (size-marked b c.args.self.now c.self.view_is)
+    ∙ ap (λ (k : BenchState). counted_up_by (size_of (marked c.args.self.now).tree) k.relabelled) c.self.view_is
 
 pub returns-clause-asked : goal.returns-clause-asked
 returns-clause-asked g c =
-    let b = kept_of c.self.inside.start c.self.inside.stipulation c.self.inside.tags c.self.inside.tree in
+    let b = bench_state_of c.self.inside.start c.self.inside.stipulation c.self.inside.tags c.self.inside.tree in
     let same = asked-shifted b c.args.self.now c.args.start c.self.view_is in
-    c.in_ok-all.ensures.asked ∙ ap (λ (ps : List Position). counted_times (length ps) (g.V.Values.asked_of c.args.values.now)) same
+    c.in_ok-all.ensures.asked ∙ ap (λ (ps : List Position). counted_up_by (length ps) (g.V.Values.asked_of c.args.values.now)) same
 
 pub returns-in_err-all-clause-first : goal.returns-in_err-all-clause-first
 returns-in_err-all-clause-first g c =
-    let b = kept_of c.self.inside.start c.self.inside.stipulation c.self.inside.tags c.self.inside.tree in
+    let b = bench_state_of c.self.inside.start c.self.inside.stipulation c.self.inside.tags c.self.inside.tree in
     let same = asked-shifted b c.args.self.now c.args.start c.self.view_is in
     same-first g.V.Values.gives g.V.Values.may_fail g.V.Values.asked_of c.args.values.now
-    (positions_asked (shifted (plain_study (marked c.args.self.now)) c.args.start)) c.evaluate_all.new.values c.from_residual.result
+    (positions_asked (with_start (plain_study (marked c.args.self.now)) c.args.start)) c.evaluate_all.new.values c.from_residual.result
     c.in_err-all.field-0.0 c.from_residual.ensures.1
     (subst (λ (ps : List Position). TellsFirstFault g.V.Values.gives g.V.Values.may_fail g.V.Values.asked_of c.args.values.now ps c.evaluate_all.new.values
     c.in_err-all.field-0.0) same c.in_err-all.ensures.first)

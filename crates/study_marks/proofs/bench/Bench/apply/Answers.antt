@@ -5,7 +5,7 @@ use Rattle.study_notation.specs.declared.start.Start.{Start}
 use Rattle.study_marks.specs.declared.mark.Mark.{Mark}
 use Rattle.study_marks.specs.Study.{position_after, position_at, plain_study}
 use Rattle.study_marks.specs.Queries.{asked_at, positions_asked}
-use Rattle.study_marks.specs.Edits.{shifted}
+use Rattle.study_marks.specs.Edits.{with_start}
 use Rattle.study_marks.specs.EditLists.{questions_of}
 use Rattle.study_marks.specs.Answers.{TellsFirstFault}
 use Rattle.study_marks.proofs.FaultsTold.{same-first, same-undamaged}
@@ -80,7 +80,7 @@ returns-in-Shift-clause-first g c =
     subst (λ x. IfErr c.shift_position.result (TellsFirstFault g.V.Values.gives g.V.Values.may_fail g.V.Values.asked_of c.args.values.now (questions_of s x)
     c.shift_position.new.values)) (sym c.in-Shift.is)
     (subst (λ (st : Start). IfErr c.shift_position.result (TellsFirstFault g.V.Values.gives g.V.Values.may_fail g.V.Values.asked_of c.args.values.now
-    (positions_asked (shifted s st)) c.shift_position.new.values)) c.copied-in-Shift.ensures c.shift_position.ensures.first)
+    (positions_asked (with_start s st)) c.shift_position.new.values)) c.copied-in-Shift.ensures c.shift_position.ensures.first)
 
 pub returns-in_err-_place-in-Insert-clause-no_damage : goal.returns-in_err-_place-in-Insert-clause-no_damage
 returns-in_err-_place-in-Insert-clause-no_damage g c = λ h.

@@ -5,10 +5,10 @@ use Rattle.study_tree.specs.Tree.{plain_tree, size_of}
 use Rattle.study_marks.specs.declared.mark_rules.Aim.{Aim}
 use Rattle.study_marks.specs.Study.{plain_study}
 use Rattle.study_marks.specs.Goals.{aim_of}
-use Rattle.study_marks.specs.BenchState.{BenchState, marked, told_tree, IsKeptRight, AllAddUp}
-use Rattle.study_marks.specs.Edits.{stipulated}
-use Rattle.study_marks.specs.Queries.{counted_times}
-use Rattle.study_marks.specs.Bench.{kept_of}
+use Rattle.study_marks.specs.BenchState.{BenchState, marked, evaluation_tree, IsKeptRight, AllAddUp}
+use Rattle.study_marks.specs.Edits.{with_stipulation}
+use Rattle.study_marks.specs.Queries.{counted_up_by}
+use Rattle.study_marks.specs.Bench.{bench_state_of}
 use Rattle.study_marks.proofs.BenchEdits.{counted-later}
 use Rattle.study_marks.proofs.Readers.{size-marked}
 use Rattle.study_marks.proofs.BenchRewritten.{told-kept, restipulated, stipulated-study, stipulated-plain, stipulated-right}
@@ -16,7 +16,7 @@ use Rattle.study_marks.proofs.bench.Bench.set_stipulation.Goals as goal
 
 pub invariant_of-self : goal.invariant_of-self
 invariant_of-self g c =
-    let b = kept_of c.self.inside.start c.self.inside.stipulation c.self.inside.tags c.self.inside.tree in
+    let b = bench_state_of c.self.inside.start c.self.inside.stipulation c.self.inside.tags c.self.inside.tree in
     let aim : c.aim_of-aim.result
     ≡ aim_of (restipulated b.study c.args.stipulation (plain_tree c.relabel_all.new.tree)) =
     c.aim_of-aim.ensures
@@ -29,21 +29,21 @@ invariant_of-self g c =
 
 pub returns-clause-edited : goal.returns-clause-edited
 returns-clause-edited g c =
-    let b = kept_of c.self.inside.start c.self.inside.stipulation c.self.inside.tags c.self.inside.tree in
+    let b = bench_state_of c.self.inside.start c.self.inside.stipulation c.self.inside.tags c.self.inside.tree in
     stipulated-plain b c.args.stipulation (plain_tree c.relabel_all.new.tree)
     (counted c.relabel_all.new.tree.relabelled)
     (told-kept b.study.tree (plain_tree c.relabel_all.new.tree) c.relabel_all.ensures.told)
-    ∙ ap (λ (k : BenchState). stipulated (plain_study (marked k)) c.args.stipulation) c.self.view_is
+    ∙ ap (λ (k : BenchState). with_stipulation (plain_study (marked k)) c.args.stipulation) c.self.view_is
 
 pub returns-clause-kept : goal.returns-clause-kept
 returns-clause-kept g c =
-    let b = kept_of c.self.inside.start c.self.inside.stipulation c.self.inside.tags c.self.inside.tree in
+    let b = bench_state_of c.self.inside.start c.self.inside.stipulation c.self.inside.tags c.self.inside.tree in
     told-kept b.study.tree (plain_tree c.relabel_all.new.tree) c.relabel_all.ensures.told
-    ∙ ap (λ (k : BenchState). told_tree k.study.tree) c.self.view_is
+    ∙ ap (λ (k : BenchState). evaluation_tree k.study.tree) c.self.view_is
 
 pub returns-clause-right : goal.returns-clause-right
 returns-clause-right g c h =
-    let b = kept_of c.self.inside.start c.self.inside.stipulation c.self.inside.tags c.self.inside.tree in
+    let b = bench_state_of c.self.inside.start c.self.inside.stipulation c.self.inside.tags c.self.inside.tree in
     let aim : c.aim_of-aim.result
     ≡ aim_of (restipulated b.study c.args.stipulation (plain_tree c.relabel_all.new.tree)) =
     c.aim_of-aim.ensures
@@ -56,7 +56,7 @@ returns-clause-right g c h =
 
 pub returns-clause-relabelled : goal.returns-clause-relabelled
 returns-clause-relabelled g c =
-    let b = kept_of c.self.inside.start c.self.inside.stipulation c.self.inside.tags c.self.inside.tree in
+    let b = bench_state_of c.self.inside.start c.self.inside.stipulation c.self.inside.tags c.self.inside.tree in
     counted-later (size_of (plain_tree c.self.inside.tree)) c.self.inside.tree.relabelled c.relabel_all.new.tree.relabelled c.relabel_all.ensures.count
-    ∙ ap (λ n. counted_times n (counted c.self.inside.tree.relabelled)) (size-marked b c.args.self.now c.self.view_is)
-    ∙ ap (λ (k : BenchState). counted_times (size_of (marked c.args.self.now).tree) k.relabelled) c.self.view_is
+    ∙ ap (λ n. counted_up_by n (counted c.self.inside.tree.relabelled)) (size-marked b c.args.self.now c.self.view_is)
+    ∙ ap (λ (k : BenchState). counted_up_by (size_of (marked c.args.self.now).tree) k.relabelled) c.self.view_is

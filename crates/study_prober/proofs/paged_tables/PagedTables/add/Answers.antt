@@ -5,7 +5,7 @@ use Rattle.study_material.specs.declared.class.Class.{Class}
 use denote.Enum.Bare.{differs_true, differs_false}
 use Rattle.study_material.specs.contracts.class.Class.{the_type}
 use Rattle.study_prober.specs.Sources.{IsHeaderOf, GivesRight}
-use Rattle.study_tablefile.specs.File.{IsVersionOf}
+use Rattle.study_tablefile.specs.Format.{IsVersionOf}
 use Rattle.study_prober.specs.PagedTables.{Paged, held_of, SourcesAreRight}
 use Rattle.study_prober.specs.HeaderAnswers.{MayAnswer}
 use Rattle.study_prober.proofs.GivenPages.{given_with}

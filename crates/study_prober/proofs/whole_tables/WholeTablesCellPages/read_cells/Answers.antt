@@ -2,7 +2,7 @@ use Rattle.std.proofs.Common.{◌≡◌, ◌≤◌, ℕ, ◌*◌, ◌∙◌, sym
 use Rattle.std.specs.Prelude.{Option, Some, length}
 use Rattle.study_values.specs.Number.{cells_of}
 use Rattle.study_material.specs.declared.class.Class.{Class}
-use Rattle.study_tablefile.specs.File.{page_cells_of}
+use Rattle.study_tablefile.specs.Format.{page_cells_of}
 use Rattle.study_table.specs.Table.{Table, table_of}
 use Rattle.study_prober.specs.WholeTables.{Whole}
 use Rattle.study_prober.proofs.ReadPages.{page_begins, page_values, none-table, some-table}

@@ -1,6 +1,6 @@
 use Rattle.std.proofs.Common.{ℕ, List, sym, ◌∙◌, subst}
 use Rattle.std.specs.Prelude.{Option}
-use Rattle.study_tablefile.specs.Source.{IsAnswerOf}
+use Rattle.study_tablefile.specs.PageSource.{IsAnswerOf}
 use Rattle.study_tablefile.proofs.memory_source.MemorySourcePageSource.TheImpl.Goals as goal
 
 pub header-tells : goal.header-tells

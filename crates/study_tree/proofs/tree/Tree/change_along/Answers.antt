@@ -6,8 +6,8 @@ use Rattle.study_tree.proofs.LabelChanges.{size-changed, within-changed}
 use Rattle.study_tree.proofs.tree.Tree.change_along.Goals as goal
 use Rattle.study_tree.proofs.tree.Tree.change_along.Goals.{in-Some, in_default}
 
-pub change_below-requires-clause-found : goal.change_below-requires-clause-found
-change_below-requires-clause-found g c =
+pub update_below-requires-clause-found : goal.update_below-requires-clause-found
+update_below-requires-clause-found g c =
     let shown = ap (λ t. (plain_tree t).below) c.self.view_is in
     found_in (forest_of c.self.inside.children.items) (plain_tree c.args.self.now).below
     c.args.steps.now (c.in-Some.first.now ∷ c.in-Some.rest.now) shown c.in-Some.ensures.cases.0
@@ -17,13 +17,13 @@ pub invariant_of-self : goal.invariant_of-self
 invariant_of-self g c =
     elim c.match-split_first.branch [
       | in-Some w ↦ rw w.self-inside-is (
-        size-changed (forest_of c.self.inside.children.items) (forest_of w.change_below.new.children.items)
+        size-changed (forest_of c.self.inside.children.items) (forest_of w.update_below.new.children.items)
             (g.C.LabelChange.changed c.args.change.now) 1 (w.in-Some.first.now ∷ w.in-Some.rest.now) c.self.inside.size
-            w.change_below.ensures c.self.invariant.0,
+            w.update_below.ensures c.self.invariant.0,
         c.self.invariant.1,
-        within-changed 256 (forest_of c.self.inside.children.items) (forest_of w.change_below.new.children.items)
+        within-changed 256 (forest_of c.self.inside.children.items) (forest_of w.update_below.new.children.items)
             (g.C.LabelChange.changed c.args.change.now) 1 (w.in-Some.first.now ∷ w.in-Some.rest.now)
-            w.change_below.ensures c.self.invariant.2,
+            w.update_below.ensures c.self.invariant.2,
       )
       | in_default w ↦ rw w.self-inside-is c.self.invariant
     ]

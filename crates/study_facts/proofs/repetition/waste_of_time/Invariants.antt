@@ -1,0 +1,15 @@
+use Rattle.std.proofs.Common.{◌≡◌, ℕ, ◌<◌}
+use Rattle.study_material.specs.declared.class.Class.{Class}
+use Rattle.study_facts.specs.Repetition.{IsRepeatableWithin}
+use Rattle.study_facts.specs.Asked.{within}
+use Rattle.study_facts.proofs.AskedSteps.{SomeTold}
+use Rattle.study_facts.proofs.repetition.waste_of_time.Given as goal
+
+abbrev pub invariant-loop-m : goal.invariant-loop-m
+invariant-loop-m g l = record {
+  none : g.V.Values.is_honest l.fn.values → (k : ℕ) → k < l.m → ¬ (IsRepeatableWithin l.line k l.q);
+  honest : g.V.Values.is_honest l.fn.values → g.V.Values.is_honest l.values;
+  failures : g.V.Values.failed_of l.values ≡ g.V.Values.failed_of l.fn.values;
+  told : SomeTold (within l.q g.V.Values.gives) g.V.Values.may_fail g.V.Values.asked_of l.fn.values l.values;
+  tables : (c : Class) → g.V.Values.held l.values c ≡ g.V.Values.held l.fn.values c;
+}

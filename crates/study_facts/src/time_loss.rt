@@ -1,0 +1,171 @@
+//! Alternatives with the time that they lose.
+ghost use Rattle.std.specs.Prelude.{◌≡◌, ◌+◌, ◌++◌, ◌∷◌, [], ◌≤◌, ◌<◌, ◌^◌, List, true, false, length, IfOk, OnOk, IfErr, IsErrOf, if◌then◌else◌};
+ghost use Rattle.std.specs.List.{All};
+ghost use Rattle.arrayvec.specs.ArrayVec.{array_vec_len};
+ghost use Rattle.study_values.specs.Values.{IsNotDamage};
+ghost use Rattle.study_material.specs.declared.class.Class.{Class as AClass};
+ghost use Rattle.study_moves.specs.Rules.{is_legal};
+ghost use Rattle.study_marks.specs.Evaluated.{failures_of};
+ghost use Rattle.study_facts.specs.Asked.{HasProbed, within};
+ghost use Rattle.study_facts.specs.TimeFaults.{all_lose_time};
+ghost use Rattle.study_facts.specs.Time.{IsTimeTold, AreTimed, AreTimedAlternatives};
+ghost use Rattle.study_facts.specs.declared.time_loss.Alternative.{Alternative as AnAlternative};
+
+use crate::continuation::{EvaluatedMove, NodeContext};
+use crate::line::NodePosition;
+use crate::move_filters::alternatives;
+use crate::repetition::waste_of_time;
+use arrayvec::ArrayVec;
+use study_board::Position;
+use study_marks::Goal;
+use study_moves::{MAX_MOVES, Move, played};
+use study_values::{ProbeFault, Value, Values};
+
+/// Another move that holds: the value of the position after it, for the side to move there, and, if the move only loses time, the least number of moves of
+/// the opponent, not counting the last, by which he forces a position of the line.
+#[derive(Clone, Copy, Debug, PartialEq, Eq)]
+pub struct Alternative {
+    pub played: Move,
+    pub value: Value,
+    pub time: Option<u8>,
+}
+
+impl Default for Alternative {
+    ghost use Rattle.std.specs.Prelude.{◌≡◌, None};
+
+    ghost is_default = { λ a. a.time ≡ None };
+
+    fn default() -> Self {
+        Alternative {
+            played: Move::default(),
+            value: Value::Draw,
+            time: None,
+        }
+    }
+}
+
+/// Whether each of these other moves loses time.
+pub fn all_lose_time(list: &[Alternative]) -> bool
+    ensures { result ≡ all_lose_time list.now }
+{
+    list.iter().all(|x| x.time.is_some())
+}
+
+/// The time that is lost by a move to this position, if the hero is to win, otherwise `None`.
+pub fn waste_of_time_for_goal<V: Values>(
+    goal: Goal,
+    line: &[Position],
+    q: &Position,
+    values: &mut V,
+) -> Result<Option<u8>, ProbeFault>
+    ensures game { V.is_honest values.old → IfOk result (IsTimeTold goal line.now q.now) }
+    ensures untold { (c : AClass) → IsErrOf result (ProbeFault.NoTable c) → V.held values.old c ≡ false }
+    ensures told { HasProbed (within q.now V.gives) V.may_fail V.asked_of values.old result values.new }
+    ensures no_damage { V.is_honest values.old → IfErr result IsNotDamage }
+    ensures failures { V.failed_of values.new ≡ failures_of result (V.failed_of values.old) }
+    ensures honest { V.is_honest values.old → V.is_honest values.new }
+    ensures tables { (c : AClass) → V.held values.new c ≡ V.held values.old c }
+{
+    match goal {
+        Goal::Win => waste_of_time(line, q, values),
+        Goal::Draw => Ok(None),
+        Goal::MateIn(_) => Ok(None),
+    }
+}
+
+/// Adds a move with the time that it loses.
+fn push_timed(
+    place: &NodePosition,
+    x: &EvaluatedMove,
+    time: Option<u8>,
+    list: &mut ArrayVec<Alternative, MAX_MOVES>,
+)
+    requires { array_vec_len list.old < MAX_MOVES }
+    ensures items { list.new.items ≡ list.old.items ++ (record { played = x.now.played; value = x.now.value; time = time }) ∷ [] }
+    ensures len { array_vec_len list.new ≡ array_vec_len list.old + 1 }
+    ensures legal { is_legal place.now.position x.now.played ≡ true → All (λ y. is_legal place.now.position y.played ≡ true) list.old.items
+        → All (λ y. is_legal place.now.position y.played ≡ true) list.new.items }
+{
+    list.push(Alternative {
+        played: x.played,
+        value: x.value,
+        time,
+    });
+}
+
+/// Adds these moves with the time that each loses.
+fn time_each<V: Values>(
+    place: &NodePosition,
+    moves: &[EvaluatedMove],
+    values: &mut V,
+    list: &mut ArrayVec<Alternative, MAX_MOVES>,
+) -> Result<(), ProbeFault>
+    requires legal { All (λ x. is_legal place.now.position x.played ≡ true) moves.now }
+    requires room { array_vec_len list.old + length moves.now ≤ MAX_MOVES }
+    requires listed { All (λ y. is_legal place.now.position y.played ≡ true) list.old.items }
+    ensures listed { All (λ y. is_legal place.now.position y.played ≡ true) list.new.items }
+    ensures game { V.is_honest values.old → OnOk result ((timed : List AnAlternative)
+        × AreTimed place.now.aim.goal place.now.line.items place.now.position moves.now timed × (list.new.items ≡ list.old.items ++ timed)) }
+    ensures untold { (c : AClass) → IsErrOf result (ProbeFault.NoTable c) → V.held values.old c ≡ false }
+    ensures told { HasProbed (within place.now.position V.gives) V.may_fail V.asked_of values.old result values.new }
+    ensures no_damage { V.is_honest values.old → IfErr result IsNotDamage }
+    ensures failures { V.failed_of values.new ≡ failures_of result (V.failed_of values.old) }
+    ensures honest { V.is_honest values.old → V.is_honest values.new }
+    ensures tables { (c : AClass) → V.held values.new c ≡ V.held values.old c }
+{
+    match moves.split_first() {
+        None => Ok(()),
+        Some((x, rest)) => {
+            let next = played(&place.position, x.played);
+            match waste_of_time_for_goal(place.aim.goal, place.line.as_slice(), &next, values) {
+                Err(fault) => Err(fault),
+                Ok(time) => {
+                    push_timed(place, x, time, list);
+                    time_each(place, rest, values, list)
+                }
+            }
+        }
+    }
+}
+
+/// The other legal moves than this one after which the position holds, each with the time that it loses.
+#[inline(never)]
+pub fn timed_alternatives<V: Values>(
+    place: &NodePosition,
+    m: Move,
+    values: &mut V,
+) -> Result<ArrayVec<Alternative, MAX_MOVES>, ProbeFault>
+    requires depth { place.now.depth + 1 < 2 ^ 64 }
+    ensures game { V.is_honest values.old → IfOk result (λ list. AreTimedAlternatives
+        place.now.aim place.now.depth place.now.line.items place.now.position m list.items) }
+    ensures untold { (c : AClass) → IsErrOf result (ProbeFault.NoTable c) → V.held values.old c ≡ false }
+    ensures told { HasProbed (within place.now.position V.gives) V.may_fail V.asked_of values.old result values.new }
+    ensures no_damage { V.is_honest values.old → IfErr result IsNotDamage }
+    ensures failures { V.failed_of values.new ≡ failures_of result (V.failed_of values.old) }
+    ensures honest { V.is_honest values.old → V.is_honest values.new }
+    ensures tables { (c : AClass) → V.held values.new c ≡ V.held values.old c }
+    ensures legal { IfOk result (λ list. All (λ y. is_legal place.now.position y.played ≡ true) list.items) }
+{
+    let node = NodeContext {
+        aim: &place.aim,
+        depth: place.depth,
+        position: &place.position,
+    };
+    match alternatives(&node, m, values) {
+        Err(fault) => Err(fault),
+        Ok(others) => {
+            let mut list = ArrayVec::new();
+            match time_each(place, others.as_slice(), values, &mut list) {
+                Err(fault) => Err(fault),
+                Ok(_) => Ok(list),
+            }
+        }
+    }
+}
+
+/// The count plus one if the test is true; it stays at the last value of its type.
+pub fn count_where(count: u32, so: bool) -> u32
+    ensures { count + (if so then 1 else 0) < 2 ^ 32 → result ≡ count + (if so then 1 else 0) }
+{
+    if so { count.saturating_add(1) } else { count }
+}

@@ -1,8 +1,0 @@
-use Rattle.std.proofs.Common.{[], ◌∷◌}
-use Rattle.study_index.proofs.BySquares.{least_of_squares}
-use Rattle.study_index.proofs.least.least_of_king.Goals as goal
-
-pub returns : goal.returns
-returns c =
-    rw (c.least_at.ensures, c.square_of_man.ensures.value)
-    (least_of_squares c.args.frame.has_pawns c.args.frame.to_move c.args.frame.swap_colours (c.args.a ∷ []) (c.square_of_man.ensures.on_board, tt))

@@ -1,7 +1,0 @@
-use Rattle.std.proofs.Common.{◌≡◌, ◌++◌, take}
-use Rattle.std.specs.List.{flat_map}
-use Rattle.study_facts.specs.Words.{move_words}
-use Rattle.study_page.proofs.rows.add_each_move.Given as goal
-
-abbrev pub invariant-loop-x : goal.invariant-loop-x
-invariant-loop-x g l = l.text ≡ l.fn.text ++ flat_map (move_words l.fn.p) (take l.x-index l.list)

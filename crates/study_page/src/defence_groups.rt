@@ -1,0 +1,315 @@
+//! What is written of defences that the tree lacks: those with one answer by this answer.
+ghost use Rattle.std.specs.Prelude.{◌≡◌, ◌++◌, ◌<◌, ◌≤◌, ◌^◌, true, length, take, drop, OnOk, IfSome};
+ghost use Rattle.std.specs.List.{All, flat_map};
+ghost use Rattle.study_moves.specs.Rules.{is_legal, after};
+ghost use Rattle.study_facts.specs.Play.{IsPlayed};
+ghost use Rattle.study_page.specs.Rows.{several_words, several_item, each_several, is_answer, has_answer, defence_item, with_answer};
+ghost use Rattle.study_page.specs.Rows.{group, any_has, group_of, group_at, groups_from, answered_words, answered_cell, defence_row};
+
+use crate::cards_and_tries::put_told;
+use std::alloc::{AllocError, Allocator};
+use study_board::Position;
+use study_facts::Defence;
+use study_html::{Drawing, Element, Html, put_words};
+use study_moves::{Move, legal_moves, played};
+use study_notation::write_san;
+use study_pgn::add_san;
+use study_text::Text;
+
+fn add_several<A: Allocator>(text: &mut Text<'_, A>, answers: u16) -> Result<(), AllocError>
+    ensures { OnOk result (text.new ≡ text.old ++ several_words answers) }
+{
+    if answers == 0 {
+        return text.add(b"stalemate");
+    }
+    text.add_number(answers as u32)?;
+    text.add(b" hold")
+}
+
+#[tactic(auto, unfolding(crate::specs::Rows::several_item))]
+fn put_several<'a, A: Allocator>(
+    alloc: &'a A,
+    html: &mut Html<'_, A>,
+    p: &Position,
+    y: &Defence,
+) -> Result<(), AllocError>
+    requires { IsPlayed p.now y.now }
+    ensures { OnOk result (html.new ≡ html.old ++ several_item p.now y.now) }
+{
+    let mut whole = Html::new(alloc);
+    let mut text = Text::new(alloc);
+    put_told(alloc, &mut whole, p, y.played, y.value)?;
+    text.add(b" ")?;
+    add_several(&mut text, y.answers)?;
+    whole.say(text.as_slice())?;
+    html.put(Element::Whole, &whole)?;
+    html.say(b" ")
+}
+
+/// The defence, if it has none or several answers.
+fn put_with_several<'a, A: Allocator>(
+    alloc: &'a A,
+    html: &mut Html<'_, A>,
+    p: &Position,
+    y: &Defence,
+) -> Result<(), AllocError>
+    requires { IsPlayed p.now y.now }
+    ensures { OnOk result (html.new ≡ html.old ++ each_several p.now y.now) }
+{
+    match y.only {
+        None => put_several(alloc, html, p, y),
+        Some(_) => Ok(()),
+    }
+}
+
+fn put_each_several<'a, A: Allocator>(
+    alloc: &'a A,
+    html: &mut Html<'_, A>,
+    p: &Position,
+    list: &[Defence],
+) -> Result<(), AllocError>
+    requires { All (IsPlayed p.now) list.now }
+    ensures { OnOk result (html.new ≡ html.old ++ flat_map (each_several p.now) list.now) }
+{
+    for y in list {
+        put_with_several(alloc, html, p, y)?;
+    }
+    Ok(())
+}
+
+/// Whether the one answer in the position is written so.
+fn is_answer(q: &Position, only: Option<Move>, text: &[u8]) -> bool
+    requires { IfSome only (λ m. is_legal q.now m ≡ true) }
+    ensures { result ≡ is_answer q.now only text.now }
+{
+    match only {
+        None => false,
+        Some(m) => write_san(q, m).as_str().as_bytes() == text,
+    }
+}
+
+/// Whether the defence has one answer, and it is written so.
+fn has_answer(p: &Position, text: &[u8], y: &Defence) -> bool
+    requires { IsPlayed p.now y.now }
+    ensures { result ≡ has_answer p.now text.now y.now }
+{
+    let next = played(p, y.played);
+    is_answer(&next, y.only, text)
+}
+
+#[tactic(auto, unfolding(crate::specs::Rows::defence_item))]
+fn put_defence<'a, A: Allocator>(
+    alloc: &'a A,
+    html: &mut Html<'_, A>,
+    p: &Position,
+    y: &Defence,
+) -> Result<(), AllocError>
+    requires { IsPlayed p.now y.now }
+    ensures { OnOk result (html.new ≡ html.old ++ defence_item p.now y.now) }
+{
+    let mut whole = Html::new(alloc);
+    put_told(alloc, &mut whole, p, y.played, y.value)?;
+    html.put(Element::Whole, &whole)?;
+    html.say(b" ")
+}
+
+/// The defence, if it has this one answer.
+fn put_with_answer<'a, A: Allocator>(
+    alloc: &'a A,
+    html: &mut Html<'_, A>,
+    p: &Position,
+    text: &[u8],
+    y: &Defence,
+) -> Result<(), AllocError>
+    requires { IsPlayed p.now y.now }
+    ensures { OnOk result (html.new ≡ html.old ++ with_answer p.now text.now y.now) }
+{
+    if has_answer(p, text, y) {
+        return put_defence(alloc, html, p, y);
+    }
+    Ok(())
+}
+
+fn put_each_with<'a, A: Allocator>(
+    alloc: &'a A,
+    html: &mut Html<'_, A>,
+    p: &Position,
+    text: &[u8],
+    list: &[Defence],
+) -> Result<(), AllocError>
+    requires { All (IsPlayed p.now) list.now }
+    ensures { OnOk result (html.new ≡ html.old ++ flat_map (with_answer p.now text.now) list.now) }
+{
+    for y in list {
+        put_with_answer(alloc, html, p, text, y)?;
+    }
+    Ok(())
+}
+
+/// An answer, and all defences whose one answer it is.
+#[tactic(auto, unfolding(crate::specs::Rows::group))]
+fn put_group<'a, A: Allocator>(
+    alloc: &'a A,
+    html: &mut Html<'_, A>,
+    p: &Position,
+    text: &[u8],
+    list: &[Defence],
+) -> Result<(), AllocError>
+    requires { All (IsPlayed p.now) list.now }
+    ensures { OnOk result (html.new ≡ html.old ++ group p.now text.now list.now) }
+{
+    let mut within = Html::new(alloc);
+    put_words(alloc, &mut within, Element::Answer, text)?;
+    within.say(b" after ")?;
+    put_each_with(alloc, &mut within, p, text, list)?;
+    html.put(Element::Group, &within)
+}
+
+/// Whether one of the defences has this one answer.
+fn any_has(p: &Position, text: &[u8], list: &[Defence]) -> bool
+    requires { All (IsPlayed p.now) list.now }
+    ensures { result ≡ any_has p.now text.now list.now }
+{
+    match list.split_first() {
+        None => false,
+        Some((y, rest)) => {
+            if has_answer(p, text, y) {
+                return true;
+            }
+            any_has(p, text, rest)
+        }
+    }
+}
+
+/// The group of a defence's one answer in a position, where none of those before has the same answer.
+fn put_group_of<'a, A: Allocator>(
+    alloc: &'a A,
+    html: &mut Html<'_, A>,
+    p: &Position,
+    list: &[Defence],
+    before: &[Defence],
+    q: &Position,
+    only: Option<Move>,
+) -> Result<(), AllocError>
+    requires all { All (IsPlayed p.now) list.now }
+    requires those { All (IsPlayed p.now) before.now }
+    requires legal { IfSome only (λ m. is_legal q.now m ≡ true) }
+    ensures { OnOk result (html.new ≡ html.old ++ group_of p.now list.now before.now q.now only) }
+{
+    match only {
+        None => Ok(()),
+        Some(m) => {
+            let mut text = Text::new(alloc);
+            add_san(&mut text, q, m)?;
+            if any_has(p, text.as_slice(), before) {
+                return Ok(());
+            }
+            put_group(alloc, html, p, text.as_slice(), list)
+        }
+    }
+}
+
+fn put_group_at<'a, A: Allocator>(
+    alloc: &'a A,
+    html: &mut Html<'_, A>,
+    p: &Position,
+    list: &[Defence],
+    before: &[Defence],
+    y: &Defence,
+) -> Result<(), AllocError>
+    requires all { All (IsPlayed p.now) list.now }
+    requires those { All (IsPlayed p.now) before.now }
+    requires this { IsPlayed p.now y.now }
+    ensures { OnOk result (html.new ≡ html.old ++ group_at p.now list.now before.now y.now) }
+{
+    let next = played(p, y.played);
+    put_group_of(alloc, html, p, list, before, &next, y.only)
+}
+
+/// The groups that begin from a place on.
+fn put_groups<'a, A: Allocator>(
+    alloc: &'a A,
+    html: &mut Html<'_, A>,
+    p: &Position,
+    list: &[Defence],
+    place: usize,
+) -> Result<(), AllocError>
+    requires within { place ≤ length list.now }
+    requires all { All (IsPlayed p.now) list.now }
+    ensures { OnOk result (html.new ≡ html.old ++ groups_from p.now list.now (take place list.now) (drop place list.now)) }
+{
+    let (before, rest) = list.split_at(place);
+    match rest.split_first() {
+        None => Ok(()),
+        Some((y, _)) => {
+            put_group_at(alloc, html, p, list, before, y)?;
+            put_groups(alloc, html, p, list, place + 1)
+        }
+    }
+}
+
+/// How many of the legal moves the tree has.
+#[tactic(auto, unfolding(crate::specs::Rows::answered_words))]
+fn add_answered<A: Allocator>(
+    text: &mut Text<'_, A>,
+    p: &Position,
+    list: &[Defence],
+) -> Result<(), AllocError>
+    requires { length list.now < 2 ^ 32 }
+    ensures { OnOk result (text.new ≡ text.old ++ answered_words p.now list.now) }
+{
+    let all = legal_moves(p).len() as u32;
+    text.add(b"answers ")?;
+    text.add_number(all.saturating_sub(list.len() as u32))?;
+    text.add(b" of ")?;
+    text.add_number(all)
+}
+
+/// The cell with the node, and how many of the opponent's moves the tree has there.
+#[tactic(auto, unfolding(crate::specs::Rows::answered_cell))]
+fn put_answered<'a, A: Allocator>(
+    alloc: &'a A,
+    html: &mut Html<'_, A>,
+    node: &[u8],
+    p: &Position,
+    list: &[Defence],
+) -> Result<(), AllocError>
+    requires { length list.now < 2 ^ 32 }
+    ensures { OnOk result (html.new ≡ html.old ++ answered_cell node.now p.now list.now) }
+{
+    let mut cell = Html::new(alloc);
+    let mut text = Text::new(alloc);
+    cell.say(node)?;
+    cell.draw(&Drawing::Break)?;
+    add_answered(&mut text, p, list)?;
+    put_words(alloc, &mut cell, Element::Small, text.as_slice())?;
+    html.put(Element::Cell, &cell)
+}
+
+/// The row of the defences that are missing.
+pub fn put_defences<'a, A: Allocator>(
+    alloc: &'a A,
+    html: &mut Html<'_, A>,
+    node: &[u8],
+    p: &Position,
+    list: &[Defence],
+) -> Result<(), AllocError>
+    requires few { length list.now < 2 ^ 32 }
+    requires all { All (IsPlayed p.now) list.now }
+    ensures { OnOk result (html.new ≡ html.old ++ defence_row node.now p.now list.now) }
+{
+    match list.split_first() {
+        None => Ok(()),
+        Some(_) => {
+            let mut row = Html::new(alloc);
+            let mut single = Html::new(alloc);
+            let mut several = Html::new(alloc);
+            put_answered(alloc, &mut row, node, p, list)?;
+            put_groups(alloc, &mut single, p, list, 0)?;
+            row.put(Element::Cell, &single)?;
+            put_each_several(alloc, &mut several, p, list)?;
+            row.put(Element::Cell, &several)?;
+            html.put(Element::Row, &row)
+        }
+    }
+}

@@ -1,0 +1,228 @@
+//! Refused lines, and the list of all entries.
+ghost use Rattle.std.specs.Prelude.{◌≡◌, ◌++◌, OnOk, IfOk, Err, decimal};
+ghost use Rattle.std.specs.Io.KnownBytes.{Appends};
+ghost use Rattle.study_text.specs.Taken.{TakesPrefix};
+ghost use Rattle.study_marks.specs.BenchState.{marked};
+ghost use Rattle.study_marks.specs.Study.{tag_of};
+ghost use Rattle.study_marks.specs.declared.tag.TagName.TheVariants as tag;
+ghost use Rattle.study_pgn.specs.Pgn.{stipulation_text};
+ghost use Rattle.study_html.specs.Elements.{inside};
+ghost use Rattle.study_html.specs.Escape.{said};
+ghost use Rattle.study_head.specs.Known.{known};
+ghost use Rattle.study_head.specs.Head.{title_words};
+ghost use Rattle.study_head.specs.Verdict.{stamp_words, judgement_of};
+ghost use Rattle.study_page.specs.Lists.{refusal_part, summary_row, two_heads, three_heads, summary_heads, summary_part};
+
+use crate::fault::PageFault;
+use std::alloc::{AllocError, Allocator};
+use std::io::Write;
+use study_head::{add_stamp_words, judgement_of, known_tag, title_words};
+use study_html::{Element, Html, put_words};
+use study_marks::{Bench, TagName};
+use study_pgn::add_stipulation;
+use study_text::{Text, write_text};
+
+fn put_number<'a, A: Allocator>(
+    alloc: &'a A,
+    html: &mut Html<'_, A>,
+    element: Element,
+    number: u32,
+) -> Result<(), AllocError>
+    ensures { OnOk result (html.new ≡ html.old ++ inside element (said (decimal number))) }
+{
+    let mut text = Text::new(alloc);
+    text.add_number(number)?;
+    put_words(alloc, html, element, text.as_slice())
+}
+
+/// What is told of a refused line.
+#[tactic(auto, unfolding(crate::specs::Lists::refusal_part))]
+fn refusal_of<'a, A: Allocator>(
+    alloc: &'a A,
+    line: u32,
+    text: &[u8],
+    name: &[u8],
+    reason: &[u8],
+) -> Result<Html<'a, A>, AllocError>
+    ensures { IfOk result (λ html. html ≡ refusal_part line text.now name.now reason.now) }
+{
+    let mut html = Html::new(alloc);
+    let mut part = Html::new(alloc);
+    let mut front = Text::new(alloc);
+    front.add(b"Line ")?;
+    front.add_number(line)?;
+    front.add(b" was refused: ")?;
+    part.say(front.as_slice())?;
+    put_words(alloc, &mut part, Element::Code, text)?;
+    part.say(b" ")?;
+    put_words(alloc, &mut part, Element::Strong, name)?;
+    part.say(b": ")?;
+    part.say(reason)?;
+    html.put(Element::Warning, &part)?;
+    Ok(html)
+}
+
+/// Writes that a line of a script was refused: its number, its text, the name of the refusal, and the reason in words.
+pub fn write_refusal<'a, A: Allocator, W: Write>(
+    alloc: &'a A,
+    line: u32,
+    text: &[u8],
+    name: &[u8],
+    reason: &[u8],
+    out: &mut W,
+) -> Result<(), PageFault>
+    ensures ok { OnOk result (Appends (W.contents out.old) (W.contents out.new) (refusal_part line text.now name.now reason.now)) }
+    ensures device { result ≡ Err PageFault.Device
+        → TakesPrefix (W.contents out.old) (W.contents out.new) (refusal_part line text.now name.now reason.now) }
+    ensures memory { result ≡ Err PageFault.OutOfMemory → out.new ≡ out.old }
+{
+    let html = refusal_of(alloc, line, text, name, reason)?;
+    write_text(out, html.as_slice())?;
+    Ok(())
+}
+
+/// The title, which leads to the entry's page.
+fn put_link<'a, 'b, A: Allocator, B: Allocator>(
+    alloc: &'a A,
+    html: &mut Html<'_, A>,
+    bench: &Bench<'b, B>,
+    number: u32,
+) -> Result<(), AllocError>
+    ensures { OnOk result (html.new ≡ html.old
+        ++ inside (Element.Link number) (said (title_words (known (tag_of (marked bench.now).tags tag.Event))))) }
+{
+    let title = title_words(known_tag(bench, TagName::Event));
+    put_words(alloc, html, Element::Link(number), title)
+}
+
+fn put_link_cell<'a, 'b, A: Allocator, B: Allocator>(
+    alloc: &'a A,
+    html: &mut Html<'_, A>,
+    bench: &Bench<'b, B>,
+    number: u32,
+) -> Result<(), AllocError>
+    ensures { OnOk result (html.new ≡ html.old ++ inside Element.Cell
+        (inside (Element.Link number) (said (title_words (known (tag_of (marked bench.now).tags tag.Event)))))) }
+{
+    let mut within = Html::new(alloc);
+    put_link(alloc, &mut within, bench, number)?;
+    html.put(Element::Cell, &within)
+}
+
+/// The cells with what is asked for and the verdict.
+fn put_judged<'a, 'b, A: Allocator, B: Allocator>(
+    alloc: &'a A,
+    html: &mut Html<'_, A>,
+    bench: &Bench<'b, B>,
+    time: u32,
+) -> Result<(), AllocError>
+    ensures { OnOk result (html.new ≡ html.old ++ (inside Element.Cell (said (stipulation_text (marked bench.now).stipulation))
+        ++ inside Element.Cell (said (stamp_words (judgement_of (marked bench.now) time).stamp)))) }
+{
+    let mut stipulation = Text::new(alloc);
+    let mut verdict = Text::new(alloc);
+    add_stipulation(&mut stipulation, bench.stipulation())?;
+    put_words(alloc, html, Element::Cell, stipulation.as_slice())?;
+    add_stamp_words(&mut verdict, judgement_of(bench, time).stamp)?;
+    put_words(alloc, html, Element::Cell, verdict.as_slice())
+}
+
+/// Adds a row for the entry of this number: its number, its title, its author, what is asked for and the verdict, by how many of its
+/// faults lose time alone.
+#[tactic(auto, unfolding(crate::specs::Lists::summary_row))]
+pub fn add_entry<'a, 'b, A: Allocator, B: Allocator>(
+    alloc: &'a A,
+    rows: &mut Html<'_, A>,
+    bench: &Bench<'b, B>,
+    time: u32,
+    number: u32,
+) -> Result<(), AllocError>
+    ensures { OnOk result (rows.new ≡ rows.old ++ summary_row (marked bench.now) time number) }
+{
+    let mut row = Html::new(alloc);
+    put_number(alloc, &mut row, Element::Cell, number)?;
+    put_link_cell(alloc, &mut row, bench, number)?;
+    put_words(
+        alloc,
+        &mut row,
+        Element::Cell,
+        known_tag(bench, TagName::White),
+    )?;
+    put_judged(alloc, &mut row, bench, time)?;
+    rows.put(Element::Row, &row)
+}
+
+#[tactic(auto, unfolding(crate::specs::Lists::two_heads))]
+fn put_two_heads<'a, A: Allocator>(
+    alloc: &'a A,
+    html: &mut Html<'_, A>,
+    a: &[u8],
+    b: &[u8],
+) -> Result<(), AllocError>
+    ensures { OnOk result (html.new ≡ html.old ++ two_heads a.now b.now) }
+{
+    put_words(alloc, html, Element::Head, a)?;
+    put_words(alloc, html, Element::Head, b)
+}
+
+#[tactic(auto, unfolding(crate::specs::Lists::three_heads))]
+fn put_three_heads<'a, A: Allocator>(
+    alloc: &'a A,
+    html: &mut Html<'_, A>,
+    a: &[u8],
+    b: &[u8],
+    c: &[u8],
+) -> Result<(), AllocError>
+    ensures { OnOk result (html.new ≡ html.old ++ three_heads a.now b.now c.now) }
+{
+    put_words(alloc, html, Element::Head, a)?;
+    put_words(alloc, html, Element::Head, b)?;
+    put_words(alloc, html, Element::Head, c)
+}
+
+fn put_summary_heads<'a, A: Allocator>(
+    alloc: &'a A,
+    html: &mut Html<'_, A>,
+) -> Result<(), AllocError>
+    ensures { OnOk result (html.new ≡ html.old ++ summary_heads) }
+{
+    let mut row = Html::new(alloc);
+    let mut within = Html::new(alloc);
+    put_two_heads(alloc, &mut row, b"No.", b"Title")?;
+    put_three_heads(alloc, &mut row, b"Author", b"Stipulation", b"Verdict")?;
+    within.put(Element::Row, &row)?;
+    html.put(Element::Heads, &within)
+}
+
+/// The page with these entries.
+#[tactic(auto, unfolding(crate::specs::Lists::summary_part))]
+fn summary_of<'a, A: Allocator>(alloc: &'a A, rows: &Html<'_, A>) -> Result<Html<'a, A>, AllocError>
+    ensures { IfOk result (λ html. html ≡ summary_part rows.now) }
+{
+    let mut html = Html::new(alloc);
+    let mut head = Html::new(alloc);
+    let mut part = Html::new(alloc);
+    let mut table = Html::new(alloc);
+    put_words(alloc, &mut head, Element::Title, b"Entries and verdicts")?;
+    part.put(Element::Header, &head)?;
+    put_summary_heads(alloc, &mut table)?;
+    table.put(Element::Rows, rows)?;
+    part.put(Element::Table, &table)?;
+    html.put(Element::Summary, &part)?;
+    Ok(html)
+}
+
+/// Writes the page with these entries.
+pub fn write_summary<'a, A: Allocator, W: Write>(
+    alloc: &'a A,
+    rows: &Html<'_, A>,
+    out: &mut W,
+) -> Result<(), PageFault>
+    ensures ok { OnOk result (Appends (W.contents out.old) (W.contents out.new) (summary_part rows.now)) }
+    ensures device { result ≡ Err PageFault.Device → TakesPrefix (W.contents out.old) (W.contents out.new) (summary_part rows.now) }
+    ensures memory { result ≡ Err PageFault.OutOfMemory → out.new ≡ out.old }
+{
+    let html = summary_of(alloc, rows)?;
+    write_text(out, html.as_slice())?;
+    Ok(())
+}

@@ -1,0 +1,40 @@
+//! The position in a report, and the outcome of one line.
+ghost use Rattle.std.specs.Prelude.{◌≡◌};
+ghost use Rattle.study_report.specs.Told.{study_count, refusal_count};
+
+/// The number of a line, and the number of studies reported before it.
+#[derive(Clone, Copy, Debug, PartialEq, Eq)]
+pub struct ReportPosition {
+    pub line: u32,
+    pub studies: u32,
+}
+
+/// The outcome of one line.
+#[derive(Clone, Copy, Debug, PartialEq, Eq)]
+pub enum LineOutcome {
+    Nothing,
+    Study,
+    Refusal,
+}
+
+impl LineOutcome {
+    /// The number of studies reported: one or zero.
+    pub fn studies(self) -> u32
+        ensures { result ≡ study_count self }
+    {
+        match self {
+            LineOutcome::Study => 1,
+            LineOutcome::Nothing | LineOutcome::Refusal => 0,
+        }
+    }
+
+    /// The number of lines refused: one or zero.
+    pub fn refusals(self) -> u32
+        ensures { result ≡ refusal_count self }
+    {
+        match self {
+            LineOutcome::Refusal => 1,
+            LineOutcome::Nothing | LineOutcome::Study => 0,
+        }
+    }
+}

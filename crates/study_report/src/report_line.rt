@@ -1,0 +1,293 @@
+//! What a line adds to a report.
+ghost use Rattle.std.specs.Prelude.{◌≡◌, ◌<◌, ◌+◌, ◌⊎◌, ℕ, suc, List, ◌++◌, IfOk, IfErr, codes};
+ghost use Rattle.std.specs.Io.KnownBytes.{Appends};
+ghost use Rattle.study_marks.specs.Edits.{PlainStudy};
+ghost use Rattle.study_reply.specs.Names.{words_of};
+ghost use Rattle.study_reply.specs.Words.{reply_line};
+ghost use Rattle.study_script.specs.declared.running.RunFault.TheVariants.{WriteDevice, OutOfMemory};
+ghost use Rattle.study_script.specs.State.{State, study};
+ghost use Rattle.study_script.specs.SessionHolds.{Holds, document_seen};
+ghost use Rattle.study_script.specs.Session.{SessionHolds};
+ghost use Rattle.study_script.specs.Stores.{HonestOn, IsTrusted};
+ghost use Rattle.study_report.specs.Told.{Point, line_kind, IsAdded, IsAddedAs, IsAt, IsStudyTold, study_count, Entry, games_in, listed_in};
+ghost use Rattle.study_report.specs.Written.{none_trusted, Adds, StopsIn, Stops, IsReplied};
+ghost use Rattle.study_report.specs.Parts.{IsReplyPiece, IsPart, IsPartAs, WritesPart};
+
+use crate::line_kind::{LineKind, kind_of};
+use crate::line_outcome::{LineOutcome, ReportPosition};
+use crate::report::{Report, WriteFault};
+use crate::section::{add_section, lacks_study};
+use std::alloc::Allocator;
+use std::io::Write;
+use study_facts::ReviewFault;
+use study_reply::{Refusal, of_probe, write_refusal};
+use study_script::{Document, RunFault, Session, TableStore, Tables};
+use study_tablefile::PageSource;
+use study_text::MemoryWriter;
+
+/// The reply to a line, in memory.
+#[derive(Drop)]
+struct LineReply<'a, A: Allocator> {
+    text: MemoryWriter<'a, A>,
+    refused: bool,
+}
+
+/// Answers a line as a script does that keeps studies apart.
+fn reply_in_memory<'a, 's, S: TableStore, A: Allocator>(
+    session: &mut Session<'a, 's, S, A>,
+    line: &[u8],
+) -> Result<LineReply<'a, A>, RunFault>
+    ensures ok { (s : State) → IsTrusted none_trusted line.now
+        → SessionHolds S.Pages.honest S.Pages.gives (HonestOn none_trusted S.honest) S.files S.headers S.faults
+        session.old.document session.old.tables session.old.store.now s
+        → IfOk result (λ r. IsReplied s line.now
+        (SessionHolds S.Pages.honest S.Pages.gives (HonestOn none_trusted S.honest) S.files S.headers S.faults
+        session.new.document session.new.tables session.new.store.now)
+        r.text.taken.items r.refused) }
+    ensures written { IfOk result (λ r. IsReplyPiece line.now r.text.taken.items r.refused) }
+    ensures err { IfErr result (λ e. e ≡ OutOfMemory) }
+{
+    let mut text = MemoryWriter::new(session.alloc);
+    match session.answer_apart(line, &mut text) {
+        Ok(refused) => Ok(LineReply { text, refused }),
+        Err(_) => Err(RunFault::OutOfMemory),
+    }
+}
+
+/// Reports a refused line.
+fn add_refusal<'a, A: Allocator, W: Write, T: Report>(
+    alloc: &'a A,
+    report: &mut T,
+    number: u32,
+    line: &[u8],
+    reply: &[u8],
+    out: &mut W,
+) -> Result<LineOutcome, RunFault>
+    ensures ok { IfOk result (λ told. (told ≡ LineOutcome.Refusal)
+        × Appends (W.contents out.old) (W.contents out.new) (T.refusal number line.now reply.now)) }
+    ensures err { IfErr result (StopsIn (T.refusal number line.now reply.now) (W.contents out.old) (W.contents out.new)) }
+    ensures listed { (told : List Entry) → T.lists report.old told → T.lists report.new told }
+    ensures stops { IfErr result (λ e. (e ≡ WriteDevice) ⊎ (e ≡ OutOfMemory)) }
+{
+    match report.add_refusal(alloc, number, line, reply, out) {
+        Ok(()) => Ok(LineOutcome::Refusal),
+        Err(WriteFault::OutOfMemory) => Err(RunFault::OutOfMemory),
+        Err(WriteFault::Device) => Err(RunFault::WriteDevice),
+    }
+}
+
+/// Reports a line that the report itself refuses.
+fn refuse_line<'a, A: Allocator, W: Write, T: Report>(
+    alloc: &'a A,
+    report: &mut T,
+    number: u32,
+    line: &[u8],
+    refusal: Refusal,
+    out: &mut W,
+) -> Result<LineOutcome, RunFault>
+    ensures ok { IfOk result (λ told. (told ≡ LineOutcome.Refusal)
+        × Appends (W.contents out.old) (W.contents out.new) (T.refusal number line.now (reply_line (codes "error ") (words_of refusal)))) }
+    ensures err { IfErr result (StopsIn (T.refusal number line.now (reply_line (codes "error ") (words_of refusal)))
+        (W.contents out.old) (W.contents out.new)) }
+    ensures listed { (told : List Entry) → T.lists report.old told → T.lists report.new told }
+    ensures stops { IfErr result (λ e. (e ≡ WriteDevice) ⊎ (e ≡ OutOfMemory)) }
+{
+    let mut reply = MemoryWriter::new(alloc);
+    if write_refusal(&mut reply, refusal).is_err() {
+        return Err(RunFault::OutOfMemory);
+    }
+    add_refusal(alloc, report, number, line, reply.taken.as_slice(), out)
+}
+
+/// Shows a remark.
+fn add_remark<'a, A: Allocator, W: Write, T: Report>(
+    alloc: &'a A,
+    report: &mut T,
+    line: &[u8],
+    out: &mut W,
+) -> Result<LineOutcome, RunFault>
+    ensures ok { IfOk result (λ told. (told ≡ LineOutcome.Nothing) × Appends (W.contents out.old) (W.contents out.new) (T.remark line.now)) }
+    ensures err { IfErr result (StopsIn (T.remark line.now) (W.contents out.old) (W.contents out.new)) }
+    ensures listed { (told : List Entry) → T.lists report.old told
+        → IfOk result (λ t. T.lists report.new (told ++ games_in line.now)) }
+    ensures unlisted { (told : List Entry) → T.lists report.old told → IfErr result (λ e. T.lists report.new told) }
+    ensures stops { IfErr result (λ e. (e ≡ WriteDevice) ⊎ (e ≡ OutOfMemory)) }
+{
+    match report.add_remark(alloc, line, out) {
+        Ok(()) => Ok(LineOutcome::Nothing),
+        Err(WriteFault::OutOfMemory) => Err(RunFault::OutOfMemory),
+        Err(WriteFault::Device) => Err(RunFault::WriteDevice),
+    }
+}
+
+/// Answers a line that reports nothing if it is accepted.
+fn answer_silently<'a, 's, S: TableStore, A: Allocator, W: Write, T: Report>(
+    session: &mut Session<'a, 's, S, A>,
+    report: &mut T,
+    number: u32,
+    line: &[u8],
+    out: &mut W,
+) -> Result<LineOutcome, RunFault>
+    ensures ok { (p : Point) → IsTrusted none_trusted line.now →
+        SessionHolds S.Pages.honest S.Pages.gives (HonestOn none_trusted S.honest) S.files S.headers S.faults
+        session.old.document session.old.tables session.old.store.now p.state
+        → number ≡ suc p.lines
+        → IfOk result (Adds (IsAddedAs T.tells T.refusal T.remark LineKind.Checked p line.now)
+        (SessionHolds S.Pages.honest S.Pages.gives (HonestOn none_trusted S.honest) S.files S.headers S.faults
+        session.new.document session.new.tables session.new.store.now)
+        (W.contents out.old) (W.contents out.new)) }
+    ensures err { (p : Point) → IsTrusted none_trusted line.now →
+        SessionHolds S.Pages.honest S.Pages.gives (HonestOn none_trusted S.honest) S.files S.headers S.faults
+        session.old.document session.old.tables session.old.store.now p.state
+        → number ≡ suc p.lines
+        → IfErr result (Stops (IsAddedAs T.tells T.refusal T.remark LineKind.Checked p line.now) (W.contents out.old) (W.contents out.new)) }
+    ensures listed { (told : List Entry) → T.lists report.old told → T.lists report.new told }
+    ensures told_none { IfOk result (λ t. study_count t ≡ 0) }
+    ensures written { (next : ℕ) → IfOk result (WritesPart (IsPartAs T.form T.refusal T.remark LineKind.Checked number next line.now)
+        (W.contents out.old) (W.contents out.new)) }
+    ensures stops { IfErr result (λ e. (e ≡ WriteDevice) ⊎ (e ≡ OutOfMemory)) }
+{
+    let reply = reply_in_memory(session, line)?;
+    if reply.refused {
+        let bytes = reply.text.taken.as_slice();
+        return add_refusal(session.alloc, report, number, line, bytes, out);
+    }
+    Ok(LineOutcome::Nothing)
+}
+
+/// Reports the study in the document, after so many studies; if that cannot be done, the line is refused.
+fn report_study<'a, P: PageSource, A: Allocator, W: Write, T: Report>(
+    alloc: &'a A,
+    document: &Document<'a, A>,
+    tables: &mut Tables<'a, P, A>,
+    report: &mut T,
+    at: ReportPosition,
+    line: &[u8],
+    out: &mut W,
+) -> Result<LineOutcome, RunFault>
+    requires few { at.studies < 100000 }
+    ensures ok { (p : Point) (s : State) (plain : PlainStudy) → Holds P.honest P.gives document.now tables.old s → s.document ≡ study plain
+        → IsAt p at
+        → IfOk result (Adds (IsStudyTold T.tells T.refusal T.remark p s line.now) (λ t. (t ≡ s) × Holds P.honest P.gives document.now tables.new t)
+        (W.contents out.old) (W.contents out.new)) }
+    ensures err { (p : Point) (s : State) (plain : PlainStudy) → Holds P.honest P.gives document.now tables.old s → s.document ≡ study plain
+        → IsAt p at
+        → IfErr result (Stops (IsStudyTold T.tells T.refusal T.remark p s line.now) (W.contents out.old) (W.contents out.new)) }
+    ensures listed { (s : State) (told : List Entry) → Holds P.honest P.gives document.now tables.old s → T.lists report.old told
+        → IfOk result (λ t. T.lists report.new (told ++ listed_in line.now t s.document (at.studies + 1))) }
+    ensures unlisted { (told : List Entry) → T.lists report.old told → IfErr result (λ e. T.lists report.new told) }
+    ensures written { IfOk result (WritesPart (IsPartAs T.form T.refusal T.remark LineKind.Study at.line (at.studies + 1) line.now)
+        (W.contents out.old) (W.contents out.new)) }
+    ensures stops { IfErr result (λ e. (e ≡ WriteDevice) ⊎ (e ≡ OutOfMemory)) }
+{
+    if lacks_study(document) {
+        return refuse_line(alloc, report, at.line, line, Refusal::NoStudy, out);
+    }
+    match add_section(alloc, document, tables, report, at.studies + 1, out) {
+        Ok(()) => Ok(LineOutcome::Study),
+        Err(ReviewFault::Device) => Err(RunFault::WriteDevice),
+        Err(ReviewFault::OutOfMemory) => {
+            refuse_line(alloc, report, at.line, line, Refusal::OutOfMemory, out)
+        }
+        Err(ReviewFault::Values(fault)) => {
+            refuse_line(alloc, report, at.line, line, of_probe(fault), out)
+        }
+    }
+}
+
+/// Answers a line that reports the study if it is accepted, after so many studies.
+fn add_pgn<'a, 's, S: TableStore, A: Allocator, W: Write, T: Report>(
+    session: &mut Session<'a, 's, S, A>,
+    report: &mut T,
+    at: ReportPosition,
+    line: &[u8],
+    out: &mut W,
+) -> Result<LineOutcome, RunFault>
+    requires few { at.studies < 100000 }
+    ensures ok { (p : Point) → line_kind line.now ≡ LineKind.Study →
+        SessionHolds S.Pages.honest S.Pages.gives (HonestOn none_trusted S.honest) S.files S.headers S.faults
+        session.old.document session.old.tables session.old.store.now p.state
+        → IsAt p at
+        → IfOk result (Adds (IsAddedAs T.tells T.refusal T.remark LineKind.Study p line.now)
+        (SessionHolds S.Pages.honest S.Pages.gives (HonestOn none_trusted S.honest) S.files S.headers S.faults
+        session.new.document session.new.tables session.new.store.now)
+        (W.contents out.old) (W.contents out.new)) }
+    ensures err { (p : Point) → line_kind line.now ≡ LineKind.Study →
+        SessionHolds S.Pages.honest S.Pages.gives (HonestOn none_trusted S.honest) S.files S.headers S.faults
+        session.old.document session.old.tables session.old.store.now p.state
+        → IsAt p at
+        → IfErr result (Stops (IsAddedAs T.tells T.refusal T.remark LineKind.Study p line.now) (W.contents out.old) (W.contents out.new)) }
+    ensures listed { (p : Point) (told : List Entry) → line_kind line.now ≡ LineKind.Study →
+        SessionHolds S.Pages.honest S.Pages.gives (HonestOn none_trusted S.honest) S.files S.headers S.faults
+        session.old.document session.old.tables session.old.store.now p.state
+        → T.lists report.old told
+        → IfOk result (λ t. T.lists report.new (told ++ listed_in line.now t (document_seen session.new.document) (at.studies + 1))) }
+    ensures unlisted { (told : List Entry) → T.lists report.old told → IfErr result (λ e. T.lists report.new told) }
+    ensures written { IfOk result (WritesPart (IsPartAs T.form T.refusal T.remark LineKind.Study at.line (at.studies + 1) line.now)
+        (W.contents out.old) (W.contents out.new)) }
+    ensures stops { IfErr result (λ e. (e ≡ WriteDevice) ⊎ (e ≡ OutOfMemory)) }
+{
+    let alloc = session.alloc;
+    let reply = reply_in_memory(session, line)?;
+    if reply.refused {
+        let bytes = reply.text.taken.as_slice();
+        return add_refusal(alloc, report, at.line, line, bytes, out);
+    }
+    report_study(
+        alloc,
+        &session.document,
+        &mut session.tables,
+        report,
+        at,
+        line,
+        out,
+    )
+}
+
+/// Processes the line at this place.
+pub fn add_line<'a, 's, S: TableStore, A: Allocator, W: Write, T: Report>(
+    session: &mut Session<'a, 's, S, A>,
+    report: &mut T,
+    at: ReportPosition,
+    line: &[u8],
+    out: &mut W,
+) -> Result<LineOutcome, RunFault>
+    requires few { at.studies < 100000 }
+    ensures ok { (p : Point) →
+        SessionHolds S.Pages.honest S.Pages.gives (HonestOn none_trusted S.honest) S.files S.headers S.faults
+        session.old.document session.old.tables session.old.store.now p.state
+        → IsAt p at
+        → IfOk result (Adds (IsAdded T.tells T.refusal T.remark p line.now)
+        (SessionHolds S.Pages.honest S.Pages.gives (HonestOn none_trusted S.honest) S.files S.headers S.faults
+        session.new.document session.new.tables session.new.store.now)
+        (W.contents out.old) (W.contents out.new)) }
+    ensures err { (p : Point) →
+        SessionHolds S.Pages.honest S.Pages.gives (HonestOn none_trusted S.honest) S.files S.headers S.faults
+        session.old.document session.old.tables session.old.store.now p.state
+        → IsAt p at
+        → IfErr result (Stops (IsAdded T.tells T.refusal T.remark p line.now) (W.contents out.old) (W.contents out.new)) }
+    ensures listed { (p : Point) (told : List Entry) →
+        SessionHolds S.Pages.honest S.Pages.gives (HonestOn none_trusted S.honest) S.files S.headers S.faults
+        session.old.document session.old.tables session.old.store.now p.state
+        → T.lists report.old told
+        → IfOk result (λ t. T.lists report.new (told ++ listed_in line.now t (document_seen session.new.document) (at.studies + 1))) }
+    ensures unlisted { (told : List Entry) → T.lists report.old told → IfErr result (λ e. T.lists report.new told) }
+    ensures written { IfOk result (WritesPart (IsPart T.form T.refusal T.remark at.line (at.studies + 1) line.now)
+        (W.contents out.old) (W.contents out.new)) }
+    ensures stops { IfErr result (λ e. (e ≡ WriteDevice) ⊎ (e ≡ OutOfMemory)) }
+{
+    match kind_of(line) {
+        LineKind::Remark => add_remark(session.alloc, report, line, out),
+        LineKind::PassedOver => Ok(LineOutcome::Nothing),
+        LineKind::NoClass => refuse_line(
+            session.alloc,
+            report,
+            at.line,
+            line,
+            Refusal::NotAClass,
+            out,
+        ),
+        LineKind::Study => add_pgn(session, report, at, line, out),
+        LineKind::Checked => answer_silently(session, report, at.line, line, out),
+    }
+}

@@ -1,0 +1,155 @@
+//! A report over a whole script.
+ghost use Rattle.std.specs.Prelude.{◌≡◌, List, ◌++◌, IfSome, IfErr, OnOk};
+ghost use Rattle.study_material.specs.declared.class.Class.{Class as AClass};
+ghost use Rattle.study_script.specs.State.{State, is_among};
+ghost use Rattle.study_script.specs.SessionHolds.{tables_honest, tables_held, are_paged};
+ghost use Rattle.study_script.specs.Session.{SessionHolds};
+ghost use Rattle.study_script.specs.Stores.{HonestOn};
+ghost use Rattle.study_report.specs.Outcome.{IsFollowed, AreListed, AreListedBefore, Outcome, Shape, over_tables};
+ghost use Rattle.study_report.specs.Parts.{Fits};
+ghost use Rattle.study_report.specs.Told.{Entry};
+ghost use Rattle.study_report.specs.Written.{none_trusted};
+
+use crate::line_outcome::ReportPosition;
+use crate::no_files::NoFiles;
+use crate::report::Report;
+use crate::report_line::add_line;
+use std::alloc::Allocator;
+use std::io::{Read, Write};
+use study_command::{Line, LineFault, read_byte};
+use study_script::{Document, RunFault, Session, Summary, TableStore, Tables};
+use study_tablefile::PageSource;
+
+/// Follows a script from a session's state, and reports its studies and its refused lines. The session has the script's final state. Studies are kept
+/// apart, whatever the session's setting: after a refused `position` there is no study for the next lines to edit.
+pub fn follow<'a, 's, R: Read, W: Write, S: TableStore, A: Allocator, T: Report>(
+    line: &mut Line<'_, A>,
+    script: &mut R,
+    out: &mut W,
+    report: &mut T,
+    session: &mut Session<'a, 's, S, A>,
+) -> Result<Summary, RunFault>
+    ensures outcome { (first : State) → SessionHolds S.Pages.honest S.Pages.gives (HonestOn none_trusted S.honest) S.files S.headers S.faults
+        session.old.document session.old.tables
+        session.old.store.now first
+        → IfSome (R.remaining script.old)
+        (λ bytes. Outcome T.tells T.refusal T.remark first bytes (R.remaining script.new) (W.contents out.old) (W.contents out.new) result) }
+    ensures after { (first : State) → SessionHolds S.Pages.honest S.Pages.gives (HonestOn none_trusted S.honest) S.files S.headers S.faults
+        session.old.document session.old.tables
+        session.old.store.now first
+        → OnOk result (IfSome (R.remaining script.old) (λ bytes. IsFollowed T.tells T.refusal T.remark first bytes (W.contents out.old) (W.contents out.new)
+        (SessionHolds S.Pages.honest S.Pages.gives (HonestOn none_trusted S.honest) S.files S.headers S.faults
+        session.new.document session.new.tables session.new.store.now))) }
+    ensures listed { (first : State) (told : List Entry) → SessionHolds S.Pages.honest S.Pages.gives (HonestOn none_trusted S.honest)
+        S.files S.headers S.faults session.old.document session.old.tables session.old.store.now first
+        → T.lists report.old told
+        → OnOk result (IfSome (R.remaining script.old) (λ bytes. AreListed T.tells T.refusal T.remark first bytes (W.contents out.old) (W.contents out.new)
+        (λ more. T.lists report.new (told ++ more)))) }
+    ensures listed_before { (first : State) (told : List Entry) → SessionHolds S.Pages.honest S.Pages.gives (HonestOn none_trusted S.honest)
+        S.files S.headers S.faults session.old.document session.old.tables session.old.store.now first
+        → T.lists report.old told
+        → IfErr result (λ fault. IfSome (R.remaining script.old) (λ bytes. AreListedBefore T.tells T.refusal T.remark first bytes
+        (W.contents out.old) (W.contents out.new) (λ more. T.lists report.new (told ++ more)) fault)) }
+    ensures shape { IfSome (R.remaining script.old) (λ bytes. Shape bytes (R.remaining script.new) result) }
+    ensures fits { IfSome (R.remaining script.old) (λ bytes. Fits T.form T.refusal T.remark bytes (R.remaining script.new)
+        (W.contents out.old) (W.contents out.new) result) }
+{
+    let mut refused = 0u32;
+    let mut studies = 0u32;
+    for n in 0..100_000u32 {
+        match line.read(script) {
+            Err(LineFault::Device) => return Err(RunFault::ReadDevice),
+            Err(LineFault::TooLong) => return Err(RunFault::LineTooLong(n + 1)),
+            Ok(false) => return Ok(Summary { lines: n, refused }),
+            Ok(true) => {}
+        }
+        let at = ReportPosition {
+            line: n + 1,
+            studies,
+        };
+        match add_line(session, report, at, line.as_slice(), out) {
+            Err(fault) => return Err(fault),
+            Ok(told) => {
+                studies += told.studies();
+                refused += told.refusals();
+            }
+        }
+    }
+    match read_byte(script) {
+        Err(_) => Err(RunFault::ReadDevice),
+        Ok(None) => Ok(Summary {
+            lines: 100_000,
+            refused,
+        }),
+        Ok(Some(_)) => Err(RunFault::TooManyLines),
+    }
+}
+
+/// Follows a script over these tables, from an empty document.
+pub fn follow_script<'a, R: Read, W: Write, P: PageSource, A: Allocator, T: Report>(
+    alloc: &'a A,
+    script: &mut R,
+    out: &mut W,
+    report: &mut T,
+    tables: Tables<'a, P, A>,
+) -> Result<Summary, RunFault>
+    ensures outcome { (classes : List AClass) → tables_honest P.honest tables.entry → ((c : AClass) → tables_held tables.entry c ≡ is_among classes c)
+        → IfSome (R.remaining script.old)
+        (λ bytes. Outcome T.tells T.refusal T.remark (over_tables classes (are_paged tables.entry)) bytes (R.remaining script.new)
+        (W.contents out.old) (W.contents out.new) result) }
+    ensures listed { (classes : List AClass) (told : List Entry) → tables_honest P.honest tables.entry
+        → ((c : AClass) → tables_held tables.entry c ≡ is_among classes c) → T.lists report.old told
+        → OnOk result (IfSome (R.remaining script.old) (λ bytes. AreListed T.tells T.refusal T.remark (over_tables classes (are_paged tables.entry)) bytes
+        (W.contents out.old) (W.contents out.new) (λ more. T.lists report.new (told ++ more)))) }
+    ensures listed_before { (classes : List AClass) (told : List Entry) → tables_honest P.honest tables.entry
+        → ((c : AClass) → tables_held tables.entry c ≡ is_among classes c) → T.lists report.old told
+        → IfErr result (λ fault. IfSome (R.remaining script.old) (λ bytes. AreListedBefore T.tells T.refusal T.remark (over_tables classes (are_paged
+        tables.entry))
+        bytes (W.contents out.old) (W.contents out.new) (λ more. T.lists report.new (told ++ more)) fault)) }
+    ensures shape { IfSome (R.remaining script.old) (λ bytes. Shape bytes (R.remaining script.new) result) }
+    ensures fits { IfSome (R.remaining script.old) (λ bytes. Fits T.form T.refusal T.remark bytes (R.remaining script.new)
+        (W.contents out.old) (W.contents out.new) result) }
+{
+    let mut store = NoFiles::new();
+    follow_over(alloc, script, out, report, tables, &mut store)
+}
+
+/// The same over a store, of which no file is opened; the files known to it determine with which faults these tables may fail.
+pub fn follow_over<'a, R: Read, W: Write, S: TableStore, A: Allocator, T: Report>(
+    alloc: &'a A,
+    script: &mut R,
+    out: &mut W,
+    report: &mut T,
+    tables: Tables<'a, S::Pages, A>,
+    store: &mut S,
+) -> Result<Summary, RunFault>
+    ensures outcome { (first : State) → SessionHolds S.Pages.honest S.Pages.gives (HonestOn none_trusted S.honest) S.files S.headers S.faults
+        Document.Empty tables.entry store.old first
+        → IfSome (R.remaining script.old)
+        (λ bytes. Outcome T.tells T.refusal T.remark first bytes (R.remaining script.new) (W.contents out.old) (W.contents out.new) result) }
+    ensures listed { (first : State) (told : List Entry) → SessionHolds S.Pages.honest S.Pages.gives (HonestOn none_trusted S.honest)
+        S.files S.headers S.faults Document.Empty tables.entry store.old first
+        → T.lists report.old told
+        → OnOk result (IfSome (R.remaining script.old) (λ bytes. AreListed T.tells T.refusal T.remark first bytes (W.contents out.old) (W.contents out.new)
+        (λ more. T.lists report.new (told ++ more)))) }
+    ensures listed_before { (first : State) (told : List Entry) → SessionHolds S.Pages.honest S.Pages.gives (HonestOn none_trusted S.honest)
+        S.files S.headers S.faults Document.Empty tables.entry store.old first
+        → T.lists report.old told
+        → IfErr result (λ fault. IfSome (R.remaining script.old) (λ bytes. AreListedBefore T.tells T.refusal T.remark first bytes
+        (W.contents out.old) (W.contents out.new) (λ more. T.lists report.new (told ++ more)) fault)) }
+    ensures shape { IfSome (R.remaining script.old) (λ bytes. Shape bytes (R.remaining script.new) result) }
+    ensures fits { IfSome (R.remaining script.old) (λ bytes. Fits T.form T.refusal T.remark bytes (R.remaining script.new)
+        (W.contents out.old) (W.contents out.new) result) }
+{
+    let Ok(mut line) = Line::new(alloc) else {
+        return Err(RunFault::OutOfMemory);
+    };
+    let mut session = Session {
+        alloc,
+        document: Document::Empty,
+        tables,
+        store,
+        separate: true,
+    };
+    follow(&mut line, script, out, report, &mut session)
+}

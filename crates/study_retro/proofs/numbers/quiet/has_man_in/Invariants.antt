@@ -1,0 +1,8 @@
+use Rattle.std.proofs.Common.{◌≡◌, ◌&&◌, take}
+use Rattle.std.specs.List.{list_any}
+use Rattle.study_board.specs.Men.{same_side}
+use Rattle.study_board.specs.Sets.{has}
+use Rattle.study_retro.proofs.numbers.quiet.has_man_in.Given as goal
+
+abbrev pub invariant-loop-m : goal.invariant-loop-m
+invariant-loop-m l = l.found ≡ list_any (λ m. same_side m.side l.side && has l.set m.at) (take l.m-index l.men)

@@ -1,0 +1,6 @@
+use Rattle.std.proofs.Common.{sym, ◌∙◌}
+use Rattle.study_board.proofs.SetBits.{none_unless}
+use Rattle.study_retro.proofs.rows.checks.squares_keeping_attack_from.Goals as goal
+
+pub returns-then-not-contains : goal.returns-then-not-contains
+returns-then-not-contains c y ly = rw c.empty.ensures (none_unless _ _ y (sym c.contains.ensures ∙ c.if-not-contains.true))

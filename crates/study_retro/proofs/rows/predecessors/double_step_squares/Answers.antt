@@ -1,0 +1,14 @@
+use Rattle.study_retro.proofs.RowBackLemmas.{on_double_step_rank}
+use Rattle.study_retro.proofs.rows.predecessors.double_step_squares.Goals as goal
+
+pub returns : goal.returns
+returns c = λ y ly. rw (
+  c.union-2.ensures y,
+  c.union.ensures y,
+  c.of.ensures y ly,
+  c.between.ensures y ly,
+  c.of-2.ensures y ly,
+  c.at-first.ensures,
+  c.at-last.ensures,
+  c.double_step_rank-start.ensures,
+) (on_double_step_rank c.args.side y ly)

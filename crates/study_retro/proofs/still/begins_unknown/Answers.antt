@@ -1,4 +1,0 @@
-use Rattle.study_retro.proofs.still.begins_unknown.Goals as goal
-
-pub returns-then-number-lt-EN_PASSANT_BIT : goal.returns-then-number-lt-EN_PASSANT_BIT
-returns-then-number-lt-EN_PASSANT_BIT c = λ t q at. (c.if-number-lt-EN_PASSANT_BIT.true, c.begins_still.ensures t q at)

@@ -1,0 +1,146 @@
+//! Unmoves and moves of the men of a row of numbers, as sets of squares of the man of the last slot with which they are possible.
+ghost use Rattle.std.specs.Prelude.{◌≡◌, ◌<◌, ◌≤◌, ◌&&◌, ◌==◌, ℕ, not, true, false, length, [], ◌∷◌, ◌++◌};
+ghost use Rattle.std.specs.List.{Contains};
+ghost use Rattle.study_board.specs.declared.men.Kind.TheVariants.{King};
+ghost use Rattle.study_board.specs.declared.men.Side.{Side};
+ghost use Rattle.study_board.specs.Men.{other_side, same_kind, same_side};
+ghost use Rattle.study_board.specs.Position.{in_check, is_occupied};
+ghost use Rattle.study_board.specs.Sets.{has};
+ghost use Rattle.study_moves.specs.AnyOrder.{is_safe_target};
+ghost use Rattle.study_moves.specs.Unmoves.{is_unmove_origin, comes};
+ghost use Rattle.study_retro.specs.RowMoves.{AreOnDistinctSquares, IsCheckInfo, goes_quietly, does_not_interfere};
+ghost use Rattle.study_retro.specs.Still.{on_square};
+
+use crate::numbers::moves::occupied;
+use crate::rows::checks::{CheckInfo, squares_of_check_after};
+use study_board::{Kind, Man, Side, Square, SquareSet, attacks, between};
+use study_moves::{origins_of_kind, pawn_step_targets};
+
+/// The squares from which the man can have come, by the moves of its kind, with only the others on the board.
+#[inline]
+pub fn origins_among(others: &[Man], man: &Man) -> SquareSet
+    ensures { (a : ℕ) → a < 64 → has result a ≡ comes others.now man.now a }
+{
+    origins_of_kind(others, man)
+}
+
+/// The squares of the man of the last slot on which it neither stands in the way of the man nor leaves a king of the side
+/// attacked with the man on the other square.
+#[inline(always)]
+fn squares_not_interfering(
+    others: &[Man],
+    staying: &CheckInfo,
+    last: &Man,
+    side: Side,
+    man: &Man,
+    to: Square,
+) -> SquareSet
+    requires few { length others.now ≤ 4 }
+    requires last { same_kind last.now.kind King ≡ false }
+    requires man { Contains others.now man.now }
+    requires staying { IsCheckInfo others.now last.now man.now side staying.now.men.items staying.now.bearers.items staying.now.attacked
+        staying.now.king staying.now.checks staying.now.checks_of_man }
+    ensures { (y : ℕ) → y < 64 → AreOnDistinctSquares (others.now ++ on_square last.now y ∷ [])
+        → has result y ≡ does_not_interfere others.now last.now side man.now.at to y }
+{
+    between(man.at, to)
+        .union(SquareSet::of(to))
+        .union(squares_of_check_after(others, staying, last, side, man, to))
+        .complement()
+}
+
+/// The squares of the man of the last slot with which the man can have come from the square by a quiet move.
+#[inline]
+pub fn squares_allowing_unmove(
+    others: &[Man],
+    staying: &CheckInfo,
+    last: &Man,
+    to_move: Side,
+    man: &Man,
+    origin: Square,
+) -> SquareSet
+    requires few { length others.now ≤ 4 }
+    requires last { same_kind last.now.kind King ≡ false }
+    requires man { Contains others.now man.now }
+    requires staying { IsCheckInfo others.now last.now man.now to_move staying.now.men.items staying.now.bearers.items staying.now.attacked
+        staying.now.king staying.now.checks staying.now.checks_of_man }
+    requires side { same_side man.now.side (other_side to_move) ≡ true }
+    requires comes { comes others.now man.now origin ≡ true }
+    ensures { (y : ℕ) → y < 64 → AreOnDistinctSquares (others.now ++ on_square last.now y ∷ [])
+        → has result y ≡ is_unmove_origin (others.now ++ on_square last.now y ∷ []) to_move man.now origin }
+{
+    squares_not_interfering(others, staying, last, to_move, man, origin)
+}
+
+/// The empty squares to which the man goes, by the moves of its kind, with only the others on the board.
+#[inline]
+pub fn targets_among(others: &[Man], man: &Man) -> SquareSet
+    ensures { (x : ℕ) → x < 64 → has result x ≡ goes_quietly others.now man.now x }
+{
+    if man.kind == Kind::Pawn {
+        pawn_step_targets(others, man.side, man.at)
+    } else {
+        attacks(others, man).without(occupied(others))
+    }
+}
+
+/// The squares of the man of the last slot with which the man can go to the square without a capture.
+#[inline]
+pub fn squares_allowing_move(
+    others: &[Man],
+    staying: &CheckInfo,
+    last: &Man,
+    to_move: Side,
+    man: &Man,
+    target: Square,
+) -> SquareSet
+    requires few { length others.now ≤ 4 }
+    requires last { same_kind last.now.kind King ≡ false }
+    requires man { Contains others.now man.now }
+    requires staying { IsCheckInfo others.now last.now man.now to_move staying.now.men.items staying.now.bearers.items staying.now.attacked
+        staying.now.king staying.now.checks staying.now.checks_of_man }
+    requires side { same_side man.now.side to_move ≡ true }
+    requires goes { goes_quietly others.now man.now target ≡ true }
+    ensures { (y : ℕ) → y < 64 → AreOnDistinctSquares (others.now ++ on_square last.now y ∷ []) → has result y
+        ≡ (is_safe_target (others.now ++ on_square last.now y ∷ []) to_move man.now target
+        && not (is_occupied (others.now ++ on_square last.now y ∷ []) target)) }
+{
+    squares_not_interfering(others, staying, last, to_move, man, target)
+}
+
+/// The man on another square.
+#[inline]
+fn on(man: &Man, square: Square) -> Man
+    ensures { result ≡ on_square man.now square }
+{
+    Man {
+        side: man.side,
+        kind: man.kind,
+        at: square,
+    }
+}
+
+/// The squares from which the man of the last slot can have come to the square by a quiet move, given the squares on which it
+/// leaves a king of the side to move attacked.
+#[inline]
+pub fn origins_of_last(others: &[Man], last: &Man, square: Square, check: SquareSet) -> SquareSet
+    ensures { (side : Side) → same_side last.now.side (other_side side) ≡ true
+        → ((a : ℕ) → a < 64 → has check a ≡ in_check (others.now ++ on_square last.now a ∷ []) side)
+        → AreOnDistinctSquares (others.now ++ on_square last.now square ∷ [])
+        → (a : ℕ) → a < 64 → has result a ≡ is_unmove_origin (others.now ++ on_square last.now square ∷ []) side (on_square last.now square) a }
+{
+    origins_among(others, &on(last, square)).without(check)
+}
+
+/// The squares to which the man of the last slot can go from the square without a capture, given the squares on which it leaves a king of its side attacked.
+#[inline]
+pub fn targets_of_last(others: &[Man], last: &Man, square: Square, check: SquareSet) -> SquareSet
+    ensures { (side : Side) → same_side last.now.side side ≡ true
+        → ((x : ℕ) → x < 64 → has check x ≡ in_check (others.now ++ on_square last.now x ∷ []) side)
+        → AreOnDistinctSquares (others.now ++ on_square last.now square ∷ [])
+        → (x : ℕ) → x < 64 → has result x
+        ≡ (is_safe_target (others.now ++ on_square last.now square ∷ []) side (on_square last.now square) x
+        && not (is_occupied (others.now ++ on_square last.now square ∷ []) x)) }
+{
+    targets_among(others, &on(last, square)).without(check)
+}

@@ -1,0 +1,6 @@
+use Rattle.study_review.proofs.NodesTold.{keep-told}
+use Rattle.study_review.proofs.best_play_lines.add_best_play_or_draws.Goals as goal
+
+pub returns-in_ok-add_drawing_moves_line-in-Draw-clause-text : goal.returns-in_ok-add_drawing_moves_line-in-Draw-clause-text
+returns-in_ok-add_drawing_moves_line-in-Draw-clause-text g c all h =
+    keep-told c.args.steps.now c.args.p.now c.args.told.now c.args.value c.args.text.now c.add_drawing_moves_line.new.text c.in-Draw.is all c.in_ok-add_drawing_moves_line-in-Draw.ensures

@@ -1,5 +1,0 @@
-use Rattle.std.proofs.Common.{length}
-use Rattle.study_review.proofs.ends.+best_of.Given as goal
-
-abbrev pub decreases-best_of : goal.decreases-best_of
-decreases-best_of l = length l.told.now

@@ -1,5 +1,0 @@
-use Rattle.std.proofs.Common.{length}
-use Rattle.study_review.proofs.moves.+add_alternatives.Given as goal
-
-abbrev pub decreases-add_alternatives : goal.decreases-add_alternatives
-decreases-add_alternatives g l = length l.told.now

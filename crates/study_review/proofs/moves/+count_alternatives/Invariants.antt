@@ -1,5 +1,0 @@
-use Rattle.std.proofs.Common.{length}
-use Rattle.study_review.proofs.moves.+count_alternatives.Given as goal
-
-abbrev pub decreases-count_alternatives : goal.decreases-count_alternatives
-decreases-count_alternatives l = length l.told.now

@@ -1,0 +1,90 @@
+//! The legal moves of a position with the values after them, probed once and read for all lines of the position.
+ghost use Rattle.std.specs.Prelude.{◌≡◌, ◌+◌, ◌≤◌, ◌++◌, ◌∷◌, [], true, length, vec_len, OnOk, IfOk};
+ghost use Rattle.std.specs.List.{All};
+ghost use Rattle.study_moves.specs.Rules.{is_legal, after};
+ghost use Rattle.study_moves.specs.LegalList.{legal_list};
+ghost use Rattle.study_values.specs.Game.{IsValueOf};
+ghost use Rattle.study_values.specs.declared.value.Value.{Value as AValue};
+ghost use Rattle.study_facts.specs.Asked.{within};
+ghost use Rattle.study_facts.specs.Continuations.{AreChosen};
+ghost use Rattle.study_facts.specs.Made.{HasAsked};
+ghost use Rattle.study_review.specs.NodeFacts.{AreTold};
+
+use std::alloc::Allocator;
+use study_board::Position;
+use study_facts::{EvaluatedMove, TextFault};
+use study_moves::{MAX_MOVES, Move, legal_moves, played};
+use study_values::{Value, Values};
+
+/// The value of a position.
+pub fn value_of<V: Values>(q: &Position, values: &mut V) -> Result<Value, TextFault>
+    ensures game { V.is_honest values.old → IfOk result (IsValueOf q.now) }
+    ensures asked { HasAsked V.held (within q.now V.gives) V.may_fail V.asked_of V.failed_of V.is_honest values.old result values.new }
+{
+    // (the clauses of `men` say that the position is valid)
+    let _men = q.men();
+    match values.value(q) {
+        Err(fault) => Err(TextFault::Untold(fault)),
+        Ok(value) => Ok(value),
+    }
+}
+
+/// Adds a move with the value after it.
+fn push_evaluated<'a, A: Allocator, V: Values>(
+    p: &Position,
+    m: &Move,
+    values: &mut V,
+    told: &mut Vec<EvaluatedMove, &'a A>,
+) -> Result<(), TextFault>
+    requires { is_legal p.now m.now ≡ true }
+    ensures game { V.is_honest values.old → OnOk result ((v : AValue) × IsValueOf (after p.now m.now) v
+        × (told.new.items ≡ told.old.items ++ (record { played = m.now; value = v }) ∷ [])) }
+    ensures legal { All (λ x. is_legal p.now x.played ≡ true) told.old.items → OnOk result (All (λ x. is_legal p.now x.played ≡ true) told.new.items) }
+    ensures len { OnOk result (vec_len told.new ≡ vec_len told.old + 1) }
+    ensures asked { HasAsked V.held (within p.now V.gives) V.may_fail V.asked_of V.failed_of V.is_honest values.old result values.new }
+{
+    let next = played(p, *m);
+    let value = value_of(&next, values)?;
+    told.push(EvaluatedMove { played: *m, value })?;
+    Ok(())
+}
+
+/// Adds these moves with the values after them.
+fn evaluate_moves<'a, A: Allocator, V: Values>(
+    p: &Position,
+    moves: &[Move],
+    values: &mut V,
+    told: &mut Vec<EvaluatedMove, &'a A>,
+) -> Result<(), TextFault>
+    requires moves { All (λ m. is_legal p.now m ≡ true) moves.now }
+    requires legal { All (λ x. is_legal p.now x.played ≡ true) told.old.items }
+    ensures game { V.is_honest values.old → OnOk result (AreTold p.now moves.now told.old.items told.new.items) }
+    ensures legal { OnOk result (All (λ x. is_legal p.now x.played ≡ true) told.new.items) }
+    ensures len { OnOk result (vec_len told.new ≡ vec_len told.old + length moves.now) }
+    ensures asked { HasAsked V.held (within p.now V.gives) V.may_fail V.asked_of V.failed_of V.is_honest values.old result values.new }
+{
+    match moves.split_first() {
+        None => Ok(()),
+        Some((m, rest)) => {
+            push_evaluated(p, m, values, told)?;
+            evaluate_moves(p, rest, values, told)
+        }
+    }
+}
+
+/// The legal moves of the position with the values after them, in place of those of the position before.
+pub fn evaluate_legal_moves<'a, A: Allocator, V: Values>(
+    p: &Position,
+    values: &mut V,
+    told: &mut Vec<EvaluatedMove, &'a A>,
+) -> Result<(), TextFault>
+    ensures game { V.is_honest values.old → OnOk result (AreChosen (λ v. true) p.now (legal_list p.now) told.new.items) }
+    ensures legal { OnOk result (All (λ x. is_legal p.now x.played ≡ true) told.new.items) }
+    ensures all { OnOk result (length told.new.items ≡ length (legal_list p.now)) }
+    ensures few { OnOk result (length told.new.items ≤ MAX_MOVES) }
+    ensures asked { HasAsked V.held (within p.now V.gives) V.may_fail V.asked_of V.failed_of V.is_honest values.old result values.new }
+{
+    told.clear();
+    let moves = legal_moves(p);
+    evaluate_moves(p, moves.as_slice(), values, told)
+}

@@ -1,5 +1,0 @@
-use Rattle.study_tablefile.proofs.Lists.{padded_front}
-use Rattle.study_tablefile.proofs.text.padded_cells.Goals as goal
-
-pub returns : goal.returns
-returns c = rw c.copy_from_slice.ensures.after (padded_front c.args.cells.now c.requires)

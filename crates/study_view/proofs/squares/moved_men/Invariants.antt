@@ -1,6 +1,0 @@
-use Rattle.std.proofs.Common.{◌≡◌, take}
-use Rattle.study_view.specs.Survey.{moved_men}
-use Rattle.study_view.proofs.squares.moved_men.Given as goal
-
-abbrev pub invariant-loop-man : goal.invariant-loop-man
-invariant-loop-man l = l.list.items ≡ moved_men l.from l.to (take l.man-index l.men)

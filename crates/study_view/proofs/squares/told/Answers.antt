@@ -1,8 +1,0 @@
-use Rattle.study_facts.specs.Asked.{within}
-use Rattle.study_view.proofs.AllAsked.{some-then}
-use Rattle.study_view.proofs.squares.told.Goals as goal
-
-pub returns-in-Ok-clause-asked : goal.returns-in-Ok-clause-asked
-returns-in-Ok-clause-asked g c =
-    some-then g.V.Values.held (within c.args.q.now g.V.Values.gives) g.V.Values.may_fail g.V.Values.asked_of g.V.Values.failed_of g.V.Values.is_honest
-    c.args.values.now c.ask_value.new.values c.told_by.new.values c.told_by.result c.in-Ok.ensures.asked c.told_by.ensures.asked

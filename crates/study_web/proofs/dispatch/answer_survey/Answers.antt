@@ -1,0 +1,48 @@
+use Rattle.std.proofs.Common.{◌≡◌, ◌∷◌, [], List, refl, ap, subst, ◌∙◌, inl}
+use Rattle.study_board.specs.Position.{Position}
+use Rattle.study_material.specs.declared.class.Class.{Class}
+use Rattle.study_view.specs.Setup.{AreClassesNeeded}
+use Rattle.study_view.specs.Survey.{IsSurvey}
+use Rattle.study_reply.specs.declared.refusal.Refusal.TheVariants.{OutOfMemory}
+use Rattle.study_web.specs.declared.request_fault.RequestFault.TheVariants as denial
+use Rattle.study_web.specs.Answers.{IsNoMemory, IsSurveyDenial}
+use Rattle.study_web.specs.Opened.{AreAllRight, IsOfFileValues}
+use Rattle.study_web.specs.Spans.{spans_for}
+use Rattle.study_web.proofs.Denials.{whole_told, whole_denied, if_right, survey_denial}
+use Rattle.study_web.proofs.Shelves.{right_made, values_made}
+use Rattle.study_web.proofs.dispatch.answer_survey.Goals as goal
+
+pub returns-in-Err : goal.returns-in-Err
+returns-in-Err g c =
+    let asked = c.args.asked.now in
+    let p = asked.start.position in
+    let bytes = c.args.files.now.bytes.now in
+    let classes = c.classes_needed-classes.result.items in
+    let those = spans_for classes c.args.files.now.spans.now in (
+      classes,
+      subst (λ (q : Position). AreClassesNeeded (q ∷ []) classes) c.copied.ensures c.classes_needed-classes.ensures,
+      whole_denied (λ text. AreAllRight those bytes → IsSurvey p asked.square asked.stipulation text)
+          (IsSurveyDenial (IsOfFileValues those bytes p) asked.start asked.square) IsNoMemory (denial.Refused OutOfMemory)
+          c.fault_answer.result.text.items c.fault_answer.result.ended c.fault_answer.ensures (inl refl) refl,
+    )
+
+pub returns-in-Ok : goal.returns-in-Ok
+returns-in-Ok g c =
+    let asked = c.args.asked.now in
+    let p = asked.start.position in
+    let made = c.new-store.ensures in
+    let bytes = c.args.files.now.bytes.now in
+    let classes = c.classes_needed-classes.result.items in
+    let those = spans_for classes c.args.files.now.spans.now in
+    let spans = made.spans ∙ c.as_slice-in-Ok.ensures.value ∙ c.in-Ok.ensures
+    ∙ ap (λ (cs : List Class). spans_for cs c.args.files.now.spans.now) c.as_slice.ensures.value in (
+      classes,
+      subst (λ (q : Position). AreClassesNeeded (q ∷ []) classes) c.copied.ensures c.classes_needed-classes.ensures,
+      whole_told c.survey_of.result (λ v. v.items) (λ text. AreAllRight those bytes → IsSurvey p asked.square asked.stipulation text)
+          (IsSurveyDenial (IsOfFileValues those bytes p) asked.start asked.square) IsNoMemory
+          c.told.result.text.items c.told.result.ended c.told.ensures.text c.told.ensures.none
+          (if_right c.survey_of.result (λ v. v.items) (AreAllRight those bytes) (IsSurvey p asked.square asked.stipulation)
+          (λ right. c.survey_of.ensures.text (right_made spans made.bytes right)))
+          (survey_denial _ (IsOfFileValues those bytes p) asked.start asked.square (values_made spans made.bytes made.written p)
+          c.survey_of.result c.survey_of.ensures.none) refl,
+    )

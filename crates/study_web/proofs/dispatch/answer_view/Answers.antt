@@ -1,0 +1,23 @@
+use Rattle.std.proofs.Common.{List, subst, inl, inr}
+use Rattle.study_command.specs.Paths.{steps_of}
+use Rattle.study_web.specs.declared.file_spans.FileSpan.{FileSpan}
+use Rattle.study_web.specs.Answers.{IsViewed, IsOutOfMemory, IsUnread}
+use Rattle.study_web.proofs.Denials.{untold_end}
+use Rattle.study_web.proofs.Unread.{no_memory}
+use Rattle.study_web.proofs.dispatch.answer_view.Goals as goal
+
+pub returns-in-Err : goal.returns-in-Err
+returns-in-Err g c =
+    let script = c.args.script.now in
+    inl (untold_end IsOutOfMemory (IsUnread script) c.in-Err.why c.told.result.text.items c.told.result.ended c.told.ensures.none
+    c.in-Err.ensures.none (no_memory script))
+
+pub returns-in-Ok : goal.returns-in-Ok
+returns-in-Ok g c =
+    let reply = c.view_over.result in
+    inr (
+      c.in-Ok.those.items,
+      c.in-Ok.ensures.some,
+      subst (λ (those : List FileSpan). IsViewed those c.args.files.now.bytes.now c.args.script.now (steps_of c.args.path.now) reply.text.items reply.ended)
+          c.as_slice.ensures.value c.view_over.ensures,
+    )

@@ -1,7 +1,0 @@
-use Rattle.std.proofs.Common.{ap, sym, ◌∙◌}
-use Rattle.study_script.specs.Replies.{class_told}
-use Rattle.study_script.proofs.HeldTables.{class_told-name_of}
-use Rattle.study_web.proofs.request.class_named.Goals as goal
-
-pub returns-in-Ok : goal.returns-in-Ok
-returns-in-Ok c = sym (ap class_told c.in-Ok.ensures.ok ∙ class_told-name_of c.in-Ok.class)

@@ -1,0 +1,44 @@
+//! The printed pages of a script's studies.
+ghost use Rattle.std.specs.Prelude.{◌≡◌, ◌≤◌, ◌⊎◌, true, [], IfSome, IfOk, IfErr, Err};
+ghost use Rattle.study_material.specs.declared.class.Class.{Class as AClass};
+ghost use Rattle.study_web.specs.Answers.{IsFileOver, IsOwnEnd};
+ghost use Rattle.study_web.specs.Opened.{IsOfTables};
+ghost use Rattle.study_web.specs.Views.{OverStore};
+
+use crate::ended::{RunOutput, own_end};
+use crate::request_fault::RequestFault;
+use crate::tables::open_tables;
+use std::alloc::Allocator;
+use study_print::{Unwatched, follow_pages_over};
+use study_script::{RunFault, TableStore, Tables};
+
+/// The printed pages of a script's studies, its refused lines and the list of its entries, over all files of a store.
+pub fn printed_of<'a, S: TableStore, A: Allocator>(
+    alloc: &'a A,
+    script: &[u8],
+    store: &mut S,
+    pages: Option<u16>,
+) -> Result<RunOutput<'a, A>, RequestFault>
+    requires { IfSome pages (λ n. (1 ≤ n) × (n ≤ 4096)) }
+    ensures own { IfOk result (λ told. IsOwnEnd told.summary) }
+    ensures file { IfOk result (λ told. ((told.summary ≡ Err RunFault.OutOfMemory) × (told.text.items ≡ [])) ⊎ (((c : AClass) → S.honest store.old true c)
+        → OverStore (S.headers store.old) (S.faults store.old) (IsFileOver script.now told.text.items told.summary))) }
+    ensures denied { IfErr result (IsOfTables (S.headers store.old) (S.faults store.old)) }
+{
+    match open_tables(alloc, store, pages) {
+        Err(denial) => Err(denial),
+        Ok(tables) => {
+            let mut reader = script;
+            let mut text = Vec::new(alloc);
+            let summary = follow_pages_over(
+                alloc,
+                &mut reader,
+                &mut text,
+                Unwatched,
+                Tables::Paged(tables),
+                store,
+            );
+            Ok(own_end(alloc, text, summary))
+        }
+    }
+}
