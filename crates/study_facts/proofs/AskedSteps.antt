@@ -5,44 +5,44 @@ use Rattle.study_text.specs.Counts.{counted}
 use Rattle.study_material.specs.declared.class.Class.{Class}
 use Rattle.study_material.specs.Class.{IsOf}
 use Rattle.study_values.specs.declared.fault.SourceFault.{SourceFault}
-use Rattle.study_values.specs.Values.{ProbeAnswer}
+use Rattle.study_values.specs.Values.{ProbeAnswer, ValueSource}
 use Rattle.study_values.specs.declared.values.ProbeFault.{ProbeFault}
 use Rattle.study_values.specs.declared.values.ProbeFault.TheVariants as probe
 use Rattle.study_marks.specs.Answers.{WereTold, IsFirstFault}
 use Rattle.study_marks.proofs.FaultsTold.{told-append}
 use Rattle.study_facts.specs.Asked.{HasProbed}
 
-module _ {V : Type 0} (gives : V → Position → ProbeAnswer → Type 0) (may_fail : V → Class → SourceFault → Type 0) (asked_of : V → ℕ) where
+module _ {V : Type 0} (source : ValueSource V) where
   -- some positions were probed, and each value was read; or each except the last
   abbrev pub SomeTold : V → V → Type 0
-  SomeTold old new = (asked : List Position) × WereTold gives may_fail asked_of old asked new
+  SomeTold old new = (asked : List Position) × WereTold source old asked new
 
   abbrev pub SomeFault : V → ProbeFault → V → Type 0
-  SomeFault old f new = (asked : List Position) × IsFirstFault gives may_fail asked_of old asked f new
+  SomeFault old f new = (asked : List Position) × IsFirstFault source old asked f new
 
-  first-back : (old mid new : V) (xs ys : List Position) (f : ProbeFault) → WereTold gives may_fail asked_of old xs mid
-      → IsFirstFault gives may_fail asked_of mid ys f new → IsFirstFault gives may_fail asked_of old (xs ++ ys) f new
-  first-back old mid new [] ys f h k = subst (λ (s : V). IsFirstFault gives may_fail asked_of s ys f new) h k
+  first-back : (old mid new : V) (xs ys : List Position) (f : ProbeFault) → WereTold source old xs mid
+      → IsFirstFault source mid ys f new → IsFirstFault source old (xs ++ ys) f new
+  first-back old mid new [] ys f h k = subst (λ (s : V). IsFirstFault source s ys f new) h k
   first-back old mid new (x ∷ xs) ys f h k = inr (h.0, h.1, h.2, first-back h.1 mid new xs ys f h.3 k)
 
   pub told-none : (old : V) → SomeTold old old
   told-none old = ([], refl)
 
   pub told-then : (old mid new : V) → SomeTold old mid → SomeTold mid new → SomeTold old new
-  told-then old mid new h k = (h.0 ++ k.0, told-append gives may_fail asked_of old mid new h.0 k.0 h.1 k.1)
+  told-then old mid new h k = (h.0 ++ k.0, told-append source old mid new h.0 k.0 h.1 k.1)
 
   pub fault-then : (old mid new : V) (f : ProbeFault) → SomeTold old mid → SomeFault mid f new → SomeFault old f new
   fault-then old mid new f h k = (h.0 ++ k.0, first-back old mid new h.0 k.0 f h.1 k.1)
 
   pub asked-then : {U : Type 0} (old mid new : V) (r : Result U ProbeFault) → SomeTold old mid
-      → HasProbed gives may_fail asked_of mid r new → HasProbed gives may_fail asked_of old r new
+      → HasProbed source mid r new → HasProbed source old r new
   asked-then old mid new (Ok y) h k = told-then old mid new h k
   asked-then old mid new (Err f) h k = fault-then old mid new f h k
 
   -- one position was probed
-  pub asked-one : (old new : V) (p : Position) (r : ProbeAnswer) → IsValid p → gives old p r → asked_of new ≡ counted (asked_of old)
-      → ((c : Class) (f : SourceFault) → IsOf c p → IsErrOf r (probe.TableRead f) → may_fail old c f)
-      → ((c : Class) (f : SourceFault) → may_fail new c f → may_fail old c f)
-      → HasProbed gives may_fail asked_of old r new
+  pub asked-one : (old new : V) (p : Position) (r : ProbeAnswer) → IsValid p → source.gives old p r → source.asked_of new ≡ counted (source.asked_of old)
+      → ((c : Class) (f : SourceFault) → IsOf c p → IsErrOf r (probe.TableRead f) → source.may_fail old c f)
+      → ((c : Class) (f : SourceFault) → source.may_fail new c f → source.may_fail old c f)
+      → HasProbed source old r new
   asked-one old new p (Ok v) valid g n so before = (p ∷ [], (v, new, record { valid = valid; given = g; asked = n; failed_so = so; fails_as_before = before }, refl))
   asked-one old new p (Err f) valid g n so before = (p ∷ [], inl (record { valid = valid; given = g; asked = n; failed_so = so; fails_as_before = before }))

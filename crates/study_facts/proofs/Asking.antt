@@ -1,12 +1,12 @@
 -- Calls that probe values, one after the other.
-use Rattle.std.proofs.Common.{◌≡◌, ℕ, Bool, false, List, Result, Ok, Err, IsErrAnd, IsErrOf, IfErr, refl, sym, ap, subst, ◌∙◌}
+use Rattle.std.proofs.Common.{◌≡◌, ℕ, false, List, Result, Ok, Err, IsErrAnd, IsErrOf, IfErr, refl, sym, ap, subst, ◌∙◌}
 use Rattle.study_board.specs.Position.{Position, IsValid}
 use Rattle.study_material.specs.declared.class.Class.{Class}
 use Rattle.study_values.specs.declared.fault.SourceFault.{SourceFault}
 use Rattle.study_text.specs.Counts.{counted}
 use Rattle.study_material.specs.Class.{IsOf}
 use Rattle.study_values.specs.declared.value.Value.{Value}
-use Rattle.study_values.specs.Values.{ProbeAnswer, IsNotDamage, faults_after}
+use Rattle.study_values.specs.Values.{ProbeAnswer, IsNotDamage, faults_after, ValueSource}
 use Rattle.study_values.specs.declared.values.ProbeFault.{ProbeFault}
 use Rattle.study_values.specs.declared.values.ProbeFault.TheVariants as probe
 use Rattle.study_marks.specs.Answers.{WereTold, IsFirstFault}
@@ -30,23 +30,22 @@ same-faults n (probe.NoTable c) = refl
 same-faults n (probe.TableRead f) = refl
 same-faults n (probe.PageDamaged c k) = refl
 
-module _ {V : Type 0} (held : V → Class → Bool) (gives : V → Position → ProbeAnswer → Type 0)
-    (may_fail : V → Class → SourceFault → Type 0) (asked_of failed_of : V → ℕ) (is_honest : V → Type 0) where
+module _ {V : Type 0} (source : ValueSource V) where
   abbrev pub Told : V → V → Type 0
-  Told old new = AllTold held gives may_fail asked_of failed_of is_honest old new
+  Told old new = AllTold source old new
 
   abbrev pub Stops : V → ProbeFault → V → Type 0
-  Stops old f new = Stopped held gives may_fail asked_of failed_of is_honest old f new
+  Stops old f new = Stopped source old f new
 
   abbrev pub Asks : {T : Type 0} → V → Result T TextFault → V → Type 0
-  Asks {T = T} old r new = HasAsked held gives may_fail asked_of failed_of is_honest {T = T} old r new
+  Asks {T = T} old r new = HasAsked source {T = T} old r new
 
   pub none-asked : (v : V) → Told v v
-  none-asked v = record { told = told-none gives may_fail asked_of v; failures = refl; honest = λ h. h; tables = λ c. refl }
+  none-asked v = record { told = told-none source v; failures = refl; honest = λ h. h; tables = λ c. refl }
 
   pub all-then : (old mid new : V) → Told old mid → Told mid new → Told old new
   all-then old mid new h k = record {
-    told = told-then gives may_fail asked_of old mid new h.told k.told;
+    told = told-then source old mid new h.told k.told;
     failures = k.failures ∙ h.failures;
     honest = λ x. k.honest (h.honest x);
     tables = λ c. k.tables c ∙ h.tables c;
@@ -54,10 +53,10 @@ module _ {V : Type 0} (held : V → Class → Bool) (gives : V → Position → 
 
   pub stops-then : (old mid new : V) (f : ProbeFault) → Told old mid → Stops mid f new → Stops old f new
   stops-then old mid new f h k = record {
-    told = fault-then gives may_fail asked_of old mid new f h.told k.told;
+    told = fault-then source old mid new f h.told k.told;
     untold = λ c e. sym (h.tables c) ∙ k.untold c e;
     no_damage = λ x. k.no_damage (h.honest x);
-    failures = subst (λ n. failed_of new ≡ failures_of {T = Unit {0}} (Err f) n) h.failures k.failures;
+    failures = subst (λ n. source.failed_of new ≡ failures_of {T = Unit {0}} (Err f) n) h.failures k.failures;
     honest = λ x. k.honest (h.honest x);
     tables = λ c. k.tables c ∙ h.tables c;
   }
@@ -78,19 +77,19 @@ module _ {V : Type 0} (held : V → Class → Bool) (gives : V → Position → 
   no-memory {T = T} old new r is h = same-asks {T = T} old new r OutOfMemory is h
 
   -- the consequences of the answers of a call
-  pub of-told : (old new : V) → ((asked : List Position) × WereTold gives may_fail asked_of old asked new)
-      → failed_of new ≡ failed_of old → (is_honest old → is_honest new) → ((c : Class) → held new c ≡ held old c) → Told old new
+  pub of-told : (old new : V) → ((asked : List Position) × WereTold source old asked new)
+      → source.failed_of new ≡ source.failed_of old → (source.is_honest old → source.is_honest new) → ((c : Class) → source.held new c ≡ source.held old c) → Told old new
   of-told old new h n i t = record { told = h; failures = n; honest = i; tables = t }
 
-  pub of-fault : (T : Type 0) (old new : V) (f : ProbeFault) → ((asked : List Position) × IsFirstFault gives may_fail asked_of old asked f new)
-      → ((c : Class) → f ≡ probe.NoTable c → held old c ≡ false) → (is_honest old → IsNotDamage f)
-      → failed_of new ≡ failures_of {T = T} (Err f) (failed_of old) → (is_honest old → is_honest new)
-      → ((c : Class) → held new c ≡ held old c) → Stops old f new
+  pub of-fault : (T : Type 0) (old new : V) (f : ProbeFault) → ((asked : List Position) × IsFirstFault source old asked f new)
+      → ((c : Class) → f ≡ probe.NoTable c → source.held old c ≡ false) → (source.is_honest old → IsNotDamage f)
+      → source.failed_of new ≡ failures_of {T = T} (Err f) (source.failed_of old) → (source.is_honest old → source.is_honest new)
+      → ((c : Class) → source.held new c ≡ source.held old c) → Stops old f new
   of-fault T old new f h u d n i t = record {
     told = h;
     untold = u;
     no_damage = d;
-    failures = n ∙ same-failures T (Unit {0}) f (failed_of old);
+    failures = n ∙ same-failures T (Unit {0}) f (source.failed_of old);
     honest = i;
     tables = t;
   }
@@ -101,7 +100,7 @@ module _ {V : Type 0} (held : V → Class → Bool) (gives : V → Position → 
   re-asks T U old new (Untold f) h = h
 
   abbrev pub Reviews : {T : Type 0} → V → Result T ReviewFault → V → Type 0
-  Reviews {T = T} old r new = HasReviewed held gives may_fail asked_of failed_of is_honest {T = T} old r new
+  Reviews {T = T} old r new = HasReviewed source {T = T} old r new
 
   same-reviews : {T : Type 0} (old new : V) (r : Result T ReviewFault) (x : ReviewFault) → IsErrAnd r (λ y. y ≡ x)
       → Reviews {T = T} old (Err x) new → Reviews old r new
@@ -121,13 +120,13 @@ module _ {V : Type 0} (held : V → Class → Bool) (gives : V → Position → 
   Answered old (Ok v) new = Told old new
   Answered old (Err f) new = Stops old f new
 
-  pub value-answered : (old new : V) (p : Position) (r : ProbeAnswer) → IsValid p → gives old p r → asked_of new ≡ counted (asked_of old)
-      → ((c : Class) (f : SourceFault) → IsOf c p → IsErrOf r (probe.TableRead f) → may_fail old c f)
-      → ((c : Class) (f : SourceFault) → may_fail new c f → may_fail old c f)
-      → ((c : Class) → IsErrOf r (probe.NoTable c) → held old c ≡ false) → (is_honest old → IfErr r IsNotDamage)
-      → failed_of new ≡ faults_after (failed_of old) r → (is_honest old → is_honest new) → ((c : Class) → held new c ≡ held old c)
+  pub value-answered : (old new : V) (p : Position) (r : ProbeAnswer) → IsValid p → source.gives old p r → source.asked_of new ≡ counted (source.asked_of old)
+      → ((c : Class) (f : SourceFault) → IsOf c p → IsErrOf r (probe.TableRead f) → source.may_fail old c f)
+      → ((c : Class) (f : SourceFault) → source.may_fail new c f → source.may_fail old c f)
+      → ((c : Class) → IsErrOf r (probe.NoTable c) → source.held old c ≡ false) → (source.is_honest old → IfErr r IsNotDamage)
+      → source.failed_of new ≡ faults_after (source.failed_of old) r → (source.is_honest old → source.is_honest new) → ((c : Class) → source.held new c ≡ source.held old c)
       → Answered old r new
-  value-answered old new p (Ok v) valid g n so before u d f i s = of-told old new (asked-one gives may_fail asked_of old new p (Ok v) valid g n so before) f i s
+  value-answered old new p (Ok v) valid g n so before u d f i s = of-told old new (asked-one source old new p (Ok v) valid g n so before) f i s
   value-answered old new p (Err e) valid g n so before u d f i s =
-      of-fault Value old new e (asked-one gives may_fail asked_of old new p (Err e) valid g n so before) (λ c q. u c (ap Err q)) d
-      (f ∙ same-faults (failed_of old) e) i s
+      of-fault Value old new e (asked-one source old new p (Err e) valid g n so before) (λ c q. u c (ap Err q)) d
+      (f ∙ same-faults (source.failed_of old) e) i s

@@ -15,7 +15,7 @@ use Rattle.study_material.proofs.EachHasClass.{class_exists}
 use Rattle.study_material.proofs.MovesOn.{moves_lead_on}
 use Rattle.study_values.specs.declared.fault.SourceFault.{SourceFault}
 use Rattle.study_values.specs.declared.value.Value.{Value}
-use Rattle.study_values.specs.Values.{ProbeAnswer}
+use Rattle.study_values.specs.Values.{ProbeAnswer, ValueSource}
 use Rattle.study_values.specs.declared.values.ProbeFault.{ProbeFault}
 use Rattle.study_values.specs.declared.values.ProbeFault.TheVariants as probe
 use Rattle.study_marks.specs.Answers.{Answers, WereTold, IsFirstFault}
@@ -122,21 +122,25 @@ untold-needed p held qs f h untold v c e =
 value-within : (p : Position) (v : Value) → IsWithinNeeds p (Ok v)
 value-within p v valid c e = let no : ⊥ = cc in absurd no
 
-module _ {V : Type 0} (gives : V → Position → ProbeAnswer → Type 0) where
-  pub own-answer : (v : V) (q : Position) (r : ProbeAnswer) → gives v q r → ((c : Class) → IsErrOf r (probe.NoTable c) → IsOf c q) → within q gives v q r
+module _ {V : Type 0} (source : ValueSource V) where
+  pub own-answer : (v : V) (q : Position) (r : ProbeAnswer) → source.gives v q r → ((c : Class) → IsErrOf r (probe.NoTable c) → IsOf c q)
+      → (within q source).gives v q r
   own-answer v q r g of = (g, (λ valid c is. needs-own q c is), (λ valid c e. needs-own q c (of c e)))
 
-  wider : (p q : Position) → LeadsTo p q → (v : V) (r : Position) (a : ProbeAnswer) → within q gives v r a → within p gives v r a
+  wider : (p q : Position) → LeadsTo p q → (v : V) (r : Position) (a : ProbeAnswer) → (within q source).gives v r a → (within p source).gives v r a
   wider p q lead v r a h = (
     h.0,
     (λ valid c of. needs-through p q c (lead.reached valid) (h.1 (lead.valid valid) c of)),
     (λ valid c e. needs-through p q c (lead.reached valid) (h.2 (lead.valid valid) c e)),
   )
 
-module _ {V : Type 0} (may_fail : V → Class → SourceFault → Type 0) (asked_of : V → ℕ) where
+  -- the same values with other possible answers
+  abbrev giving : (V → Position → ProbeAnswer → Type 0) → ValueSource V
+  giving G = record source { gives = G }
+
   -- the same, with more possible answers
   answers-more : (G H : V → Position → ProbeAnswer → Type 0) (old : V) (p : Position) (a : ProbeAnswer) (new : V) → (G old p a → H old p a)
-      → Answers G may_fail asked_of old p a new → Answers H may_fail asked_of old p a new
+      → Answers (giving G) old p a new → Answers (giving H) old p a new
   answers-more G H old p a new f h = record {
     valid = h.valid;
     given = f h.given;
@@ -146,95 +150,92 @@ module _ {V : Type 0} (may_fail : V → Class → SourceFault → Type 0) (asked
   }
 
   told-more : (G H : V → Position → ProbeAnswer → Type 0) → ((v : V) (p : Position) (a : ProbeAnswer) → G v p a → H v p a)
-      → (old new : V) (qs : List Position) → WereTold G may_fail asked_of old qs new → WereTold H may_fail asked_of old qs new
+      → (old new : V) (qs : List Position) → WereTold (giving G) old qs new → WereTold (giving H) old qs new
   told-more G H f old new [] h = h
   told-more G H f old new (q ∷ qs) (v, mid, a, h) = (v, mid, answers-more G H old q (Ok v) mid (f old q (Ok v)) a, told-more G H f mid new qs h)
 
   fault-more : (G H : V → Position → ProbeAnswer → Type 0) → ((v : V) (p : Position) (a : ProbeAnswer) → G v p a → H v p a)
-      → (old new : V) (qs : List Position) (e : ProbeFault) → IsFirstFault G may_fail asked_of old qs e new → IsFirstFault H may_fail asked_of old qs e new
+      → (old new : V) (qs : List Position) (e : ProbeFault) → IsFirstFault (giving G) old qs e new → IsFirstFault (giving H) old qs e new
   fault-more G H f old new [] e h = h
   fault-more G H f old new (q ∷ qs) e (inl a) = inl (answers-more G H old q (Err e) new (f old q (Err e)) a)
   fault-more G H f old new (q ∷ qs) e (inr (v, mid, a, h)) =
       inr (v, mid, answers-more G H old q (Ok v) mid (f old q (Ok v)) a, fault-more G H f mid new qs e h)
 
-  module _ (gives : V → Position → ProbeAnswer → Type 0) (p : Position) where
-    told-each : (old new : V) (qs : List Position) → EachReached p qs → WereTold gives may_fail asked_of old qs new
-        → WereTold (within p gives) may_fail asked_of old qs new
+  module _ (p : Position) where
+    told-each : (old new : V) (qs : List Position) → EachReached p qs → WereTold source old qs new → WereTold (within p source) old qs new
     told-each old new [] r h = h
-    told-each old new (q ∷ qs) r (v, mid, a, h) =
-        (v, mid, answers-more gives (within p gives) old q (Ok v) mid (λ g. (g, r.0, value-within p v)) a, told-each mid new qs r.1 h)
+    told-each old new (q ∷ qs) r (v, mid, a, h) = (
+      v,
+      mid,
+      answers-more source.gives (within p source).gives old q (Ok v) mid (λ g. (g, r.0, value-within p v)) a,
+      told-each mid new qs r.1 h,
+    )
 
-    fault-each : (old new : V) (qs : List Position) (e : ProbeFault) → EachReached p qs → IsWithinNeeds p (Err e)
-        → IsFirstFault gives may_fail asked_of old qs e new → IsFirstFault (within p gives) may_fail asked_of old qs e new
+    fault-each : (old new : V) (qs : List Position) (e : ProbeFault) → EachReached p qs → IsWithinNeeds p (Err e) → IsFirstFault source old qs e new
+        → IsFirstFault (within p source) old qs e new
     fault-each old new [] e r n h = h
-    fault-each old new (q ∷ qs) e r n (inl a) = inl (answers-more gives (within p gives) old q (Err e) new (λ g. (g, r.0, n)) a)
-    fault-each old new (q ∷ qs) e r n (inr (v, mid, a, h)) =
-        inr (v, mid, answers-more gives (within p gives) old q (Ok v) mid (λ g. (g, r.0, value-within p v)) a, fault-each mid new qs e r.1 n h)
+    fault-each old new (q ∷ qs) e r n (inl a) = inl (answers-more source.gives (within p source).gives old q (Err e) new (λ g. (g, r.0, n)) a)
+    fault-each old new (q ∷ qs) e r n (inr (v, mid, a, h)) = inr (
+      v,
+      mid,
+      answers-more source.gives (within p source).gives old q (Ok v) mid (λ g. (g, r.0, value-within p v)) a,
+      fault-each mid new qs e r.1 n h,
+    )
 
     -- these positions were probed, and the position leads to each
-    pub some-told : (old new : V) (qs : List Position) → EachReached p qs → WereTold gives may_fail asked_of old qs new
-        → (asked : List Position) × WereTold (within p gives) may_fail asked_of old asked new
+    pub some-told : (old new : V) (qs : List Position) → EachReached p qs → WereTold source old qs new
+        → (asked : List Position) × WereTold (within p source) old asked new
     some-told old new qs r h = (qs, told-each old new qs r h)
 
     pub some-fault : (held : Class → Bool) (old new : V) (qs : List Position) (e : ProbeFault) → EachReached p qs → IsProbeFaultOf held qs e
-        → IsFirstFault gives may_fail asked_of old qs e new → (asked : List Position) × IsFirstFault (within p gives) may_fail asked_of old asked e new
+        → IsFirstFault source old qs e new → (asked : List Position) × IsFirstFault (within p source) old asked e new
     some-fault held old new qs e r n h = (qs, fault-each old new qs e r (untold-needed p held qs e r n) h)
 
     -- the same for a position that leads to it
     module _ (q : Position) (lead : LeadsTo p q) where
-      pub told-wider : (old new : V) → ((asked : List Position) × WereTold (within q gives) may_fail asked_of old asked new)
-          → (asked : List Position) × WereTold (within p gives) may_fail asked_of old asked new
-      told-wider old new h = (h.0, told-more (within q gives) (within p gives) (wider gives p q lead) old new h.0 h.1)
+      pub told-wider : (old new : V) → ((asked : List Position) × WereTold (within q source) old asked new)
+          → (asked : List Position) × WereTold (within p source) old asked new
+      told-wider old new h = (h.0, told-more (within q source).gives (within p source).gives (wider p q lead) old new h.0 h.1)
 
-      pub fault-wider : (old new : V) (e : ProbeFault) → ((asked : List Position) × IsFirstFault (within q gives) may_fail asked_of old asked e new)
-          → (asked : List Position) × IsFirstFault (within p gives) may_fail asked_of old asked e new
-      fault-wider old new e h = (h.0, fault-more (within q gives) (within p gives) (wider gives p q lead) old new h.0 e h.1)
+      pub fault-wider : (old new : V) (e : ProbeFault) → ((asked : List Position) × IsFirstFault (within q source) old asked e new)
+          → (asked : List Position) × IsFirstFault (within p source) old asked e new
+      fault-wider old new e h = (h.0, fault-more (within q source).gives (within p source).gives (wider p q lead) old new h.0 e h.1)
 
-      pub has-wider : {T : Type 0} (old new : V) (r : Result T ProbeFault) → HasProbed (within q gives) may_fail asked_of old r new
-          → HasProbed (within p gives) may_fail asked_of old r new
+      pub has-wider : {T : Type 0} (old new : V) (r : Result T ProbeFault) → HasProbed (within q source) old r new
+          → HasProbed (within p source) old r new
       has-wider old new (Ok x) h = told-wider old new h
       has-wider old new (Err e) h = fault-wider old new e h
 
-module _ {V : Type 0} (held : V → Class → Bool) (gives : V → Position → ProbeAnswer → Type 0)
-    (may_fail : V → Class → SourceFault → Type 0) (asked_of failed_of : V → ℕ) (is_honest : V → Type 0)
-    (p q : Position) (lead : LeadsTo p q) where
-  pub all-wider : (old new : V) → AllTold held (within q gives) may_fail asked_of failed_of is_honest old new
-      → AllTold held (within p gives) may_fail asked_of failed_of is_honest old new
-  all-wider old new h = record {
-    told = told-wider may_fail asked_of gives p q lead old new h.told;
-    failures = h.failures;
-    honest = h.honest;
-    tables = h.tables;
-  }
+      pub all-wider : (old new : V) → AllTold (within q source) old new → AllTold (within p source) old new
+      all-wider old new h = record { told = told-wider old new h.told; failures = h.failures; honest = h.honest; tables = h.tables }
 
-  pub stops-wider : (old new : V) (f : ProbeFault) → Stopped held (within q gives) may_fail asked_of failed_of is_honest old f new
-      → Stopped held (within p gives) may_fail asked_of failed_of is_honest old f new
-  stops-wider old new f h = record {
-    told = fault-wider may_fail asked_of gives p q lead old new f h.told;
-    untold = h.untold;
-    no_damage = h.no_damage;
-    failures = h.failures;
-    honest = h.honest;
-    tables = h.tables;
-  }
+      pub stops-wider : (old new : V) (f : ProbeFault) → Stopped (within q source) old f new → Stopped (within p source) old f new
+      stops-wider old new f h = record {
+        told = fault-wider old new f h.told;
+        untold = h.untold;
+        no_damage = h.no_damage;
+        failures = h.failures;
+        honest = h.honest;
+        tables = h.tables;
+      }
 
-  pub asks-wider : {T : Type 0} (old new : V) (r : Result T TextFault) → HasAsked held (within q gives) may_fail asked_of failed_of is_honest {T = T} old r new
-      → HasAsked held (within p gives) may_fail asked_of failed_of is_honest {T = T} old r new
-  asks-wider old new (Ok x) h = all-wider old new h
-  asks-wider old new (Err OutOfMemory) h = all-wider old new h
-  asks-wider old new (Err (Untold f)) h = stops-wider old new f h
+      pub asks-wider : {T : Type 0} (old new : V) (r : Result T TextFault) → HasAsked (within q source) {T = T} old r new
+          → HasAsked (within p source) {T = T} old r new
+      asks-wider old new (Ok x) h = all-wider old new h
+      asks-wider old new (Err OutOfMemory) h = all-wider old new h
+      asks-wider old new (Err (Untold f)) h = stops-wider old new f h
 
 -- ---- the meaning of the fault
 
-module _ {V : Type 0} (gives : V → Position → ProbeAnswer → Type 0) (may_fail : V → Class → SourceFault → Type 0) (asked_of : V → ℕ) (p : Position) (valid : IsValid p) where
-  missed-in : (old new : V) (qs : List Position) (f : ProbeFault) (c : Class) → IsFirstFault (within p gives) may_fail asked_of old qs f new
+module _ {V : Type 0} (source : ValueSource V) (p : Position) (valid : IsValid p) where
+  missed-in : (old new : V) (qs : List Position) (f : ProbeFault) (c : Class) → IsFirstFault (within p source) old qs f new
       → f ≡ probe.NoTable c → NeedsClass p c
   missed-in old new [] f c h e = absurd h
   missed-in old new (q ∷ qs) f c (inl a) e = a.given.2 valid c (ap Err e)
   missed-in old new (q ∷ qs) f c (inr (v, mid, a, h)) e = missed-in mid new qs f c h e
 
-  unread-in : (old new : V) (qs : List Position) (f : ProbeFault) (x : SourceFault) → IsFirstFault (within p gives) may_fail asked_of old qs f new
-      → f ≡ probe.TableRead x → (c : Class) × NeedsClass p c × may_fail old c x
+  unread-in : (old new : V) (qs : List Position) (f : ProbeFault) (x : SourceFault) → IsFirstFault (within p source) old qs f new
+      → f ≡ probe.TableRead x → (c : Class) × NeedsClass p c × source.may_fail old c x
   unread-in old new [] f x h e = absurd h
   unread-in old new (q ∷ qs) f x (inl a) e =
       let own = class_exists q a.valid in
@@ -243,11 +244,11 @@ module _ {V : Type 0} (gives : V → Position → ProbeAnswer → Type 0) (may_f
       let y = unread-in mid new qs f x h e in (y.0, y.1, a.fails_as_before y.0 x y.2)
 
   -- the missing table is one that the position needs
-  pub missed-needed : (old new : V) (f : ProbeFault) (c : Class) → ((asked : List Position) × IsFirstFault (within p gives) may_fail asked_of old asked f new)
+  pub missed-needed : (old new : V) (f : ProbeFault) (c : Class) → ((asked : List Position) × IsFirstFault (within p source) old asked f new)
       → f ≡ probe.NoTable c → NeedsClass p c
   missed-needed old new f c h e = missed-in old new h.0 f c h.1 e
 
   -- and so is one that could not be read, which may fail so
-  pub unread-needed : (old new : V) (f : ProbeFault) (x : SourceFault) → ((asked : List Position) × IsFirstFault (within p gives) may_fail asked_of old asked f new)
-      → f ≡ probe.TableRead x → (c : Class) × NeedsClass p c × may_fail old c x
+  pub unread-needed : (old new : V) (f : ProbeFault) (x : SourceFault) → ((asked : List Position) × IsFirstFault (within p source) old asked f new)
+      → f ≡ probe.TableRead x → (c : Class) × NeedsClass p c × source.may_fail old c x
   unread-needed old new f x h e = unread-in old new h.0 f x h.1 e

@@ -1,11 +1,10 @@
 -- The probes of a call in which each probe depends on the answers before it.
-use Rattle.std.specs.Prelude.{◌≡◌, ℕ, Bool, false, List, Result, Ok, Err}
+use Rattle.std.specs.Prelude.{◌≡◌, ℕ, false, List, Result, Ok, Err}
 use Rattle.study_board.specs.Position.{Position, IsValid}
 use Rattle.study_material.specs.declared.class.Class.{Class}
 use Rattle.study_material.specs.Class.{IsOf}
 use Rattle.study_material.specs.Needs.{NeedsClass}
-use Rattle.study_values.specs.declared.fault.SourceFault.{SourceFault}
-use Rattle.study_values.specs.Values.{ProbeAnswer, IsNotDamage}
+use Rattle.study_values.specs.Values.{ProbeAnswer, IsNotDamage, ValueSource}
 use Rattle.study_values.specs.declared.values.ProbeFault.{ProbeFault}
 use Rattle.study_values.specs.declared.values.ProbeFault.TheVariants.{NoTable}
 use Rattle.study_marks.specs.Evaluated.{failures_of}
@@ -19,30 +18,28 @@ IsReached p q = IsValid p → (c : Class) → IsOf c q → NeedsClass p c
 abbrev pub IsWithinNeeds : Position → ProbeAnswer → Type 0
 IsWithinNeeds p answer = IsValid p → (c : Class) → answer ≡ Err (NoTable c) → NeedsClass p c
 
--- the answers of values, to probes of positions of the classes that p needs only, and with no other table missing
-abbrev pub within : {V : Type 0} → Position → (V → Position → ProbeAnswer → Type 0) → V → Position → ProbeAnswer → Type 0
-within p gives v q answer = gives v q answer × IsReached p q × IsWithinNeeds p answer
+-- the same values, where only positions of the classes that p needs are probed, and no other table is missing
+abbrev pub within : {V : Type 0} → Position → ValueSource V → ValueSource V
+within p source = record source { gives = λ v q answer. source.gives v q answer × IsReached p q × IsWithinNeeds p answer }
 
 -- Positions were probed one after the other, and each value was read; or each except the last, whose answer was the fault.
-abbrev pub HasProbed : {V T : Type 0} → (V → Position → ProbeAnswer → Type 0) → (V → Class → SourceFault → Type 0)
-    → (V → ℕ) → V → Result T ProbeFault → V → Type 0
-HasProbed gives may_fail asked_of old (Ok x) new = (asked : List Position) × WereTold gives may_fail asked_of old asked new
-HasProbed gives may_fail asked_of old (Err f) new = (asked : List Position) × IsFirstFault gives may_fail asked_of old asked f new
+abbrev pub HasProbed : {V T : Type 0} → ValueSource V → V → Result T ProbeFault → V → Type 0
+HasProbed source old (Ok x) new = (asked : List Position) × WereTold source old asked new
+HasProbed source old (Err f) new = (asked : List Position) × IsFirstFault source old asked f new
 
-module _ {V : Type 0} (held : V → Class → Bool) (gives : V → Position → ProbeAnswer → Type 0)
-    (may_fail : V → Class → SourceFault → Type 0) (asked_of failed_of : V → ℕ) (is_honest : V → Type 0) where
+module _ {V : Type 0} (source : ValueSource V) where
   -- some positions were probed, and each value was read
   pub record AllTold (old new : V) : Type 0 where
-    pub told : (asked : List Position) × WereTold gives may_fail asked_of old asked new
-    pub failures : failed_of new ≡ failed_of old
-    pub honest : is_honest old → is_honest new
-    pub tables : (c : Class) → held new c ≡ held old c
+    pub told : (asked : List Position) × WereTold source old asked new
+    pub failures : source.failed_of new ≡ source.failed_of old
+    pub honest : source.is_honest old → source.is_honest new
+    pub tables : (c : Class) → source.held new c ≡ source.held old c
 
   -- some positions were probed, and each value was read except the last, for this fault
   pub record Stopped (old : V) (f : ProbeFault) (new : V) : Type 0 where
-    pub told : (asked : List Position) × IsFirstFault gives may_fail asked_of old asked f new
-    pub untold : (c : Class) → f ≡ NoTable c → held old c ≡ false
-    pub no_damage : is_honest old → IsNotDamage f
-    pub failures : failed_of new ≡ failures_of {T = Unit {0}} (Err f) (failed_of old)
-    pub honest : is_honest old → is_honest new
-    pub tables : (c : Class) → held new c ≡ held old c
+    pub told : (asked : List Position) × IsFirstFault source old asked f new
+    pub untold : (c : Class) → f ≡ NoTable c → source.held old c ≡ false
+    pub no_damage : source.is_honest old → IsNotDamage f
+    pub failures : source.failed_of new ≡ failures_of {T = Unit {0}} (Err f) (source.failed_of old)
+    pub honest : source.is_honest old → source.is_honest new
+    pub tables : (c : Class) → source.held new c ≡ source.held old c

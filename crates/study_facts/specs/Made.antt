@@ -1,9 +1,6 @@
 -- Not part of any public contract: the invariants of writing a review.
-use Rattle.std.specs.Prelude.{◌≡◌, ℕ, ◌+◌, ◌<◌, ◌^◌, Bool, List, ◌++◌, Result, Ok, Err}
-use Rattle.study_board.specs.Position.{Position}
-use Rattle.study_material.specs.declared.class.Class.{Class}
-use Rattle.study_values.specs.declared.fault.SourceFault.{SourceFault}
-use Rattle.study_values.specs.Values.{ProbeAnswer}
+use Rattle.std.specs.Prelude.{◌≡◌, ℕ, ◌+◌, ◌<◌, ◌^◌, List, ◌++◌, Result, Ok, Err}
+use Rattle.study_values.specs.Values.{ValueSource}
 use Rattle.study_facts.specs.declared.fault.ReviewFault.{ReviewFault}
 use Rattle.study_facts.specs.declared.fault.ReviewFault.TheVariants as fault
 use Rattle.study_facts.specs.declared.fault.TextFault.{TextFault}
@@ -23,9 +20,8 @@ Grew Lines old new = (text : List ℕ) × Lines text × (new ≡ old ++ text)
 abbrev pub Rose : (ℕ → Type 0) → ℕ → ℕ → Type 0
 Rose Count old new = (n : ℕ) × Count n × (old + n < 2 ^ 32 → new ≡ old + n)
 
-module _ {V : Type 0} (held : V → Class → Bool) (gives : V → Position → ProbeAnswer → Type 0)
-    (may_fail : V → Class → SourceFault → Type 0) (asked_of failed_of : V → ℕ) (is_honest : V → Type 0) where
+module _ {V : Type 0} (source : ValueSource V) where
   abbrev pub HasAsked : {T : Type 0} → V → Result T TextFault → V → Type 0
-  HasAsked old (Ok x) new = AllTold held gives may_fail asked_of failed_of is_honest old new
-  HasAsked old (Err OutOfMemory) new = AllTold held gives may_fail asked_of failed_of is_honest old new
-  HasAsked old (Err (Untold f)) new = Stopped held gives may_fail asked_of failed_of is_honest old f new
+  HasAsked old (Ok x) new = AllTold source old new
+  HasAsked old (Err OutOfMemory) new = AllTold source old new
+  HasAsked old (Err (Untold f)) new = Stopped source old f new

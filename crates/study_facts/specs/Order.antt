@@ -1,9 +1,6 @@
 -- A study in written order, and whether it has a solution.
 use Rattle.std.specs.Prelude.{◌≡◌, ℕ, ◌+◌, Bool, true, false, ◌&&◌, List, [], ◌∷◌, ◌++◌, Result, Ok, Err}
-use Rattle.study_board.specs.Position.{Position}
-use Rattle.study_material.specs.declared.class.Class.{Class}
-use Rattle.study_values.specs.declared.fault.SourceFault.{SourceFault}
-use Rattle.study_values.specs.Values.{ProbeAnswer}
+use Rattle.study_values.specs.Values.{ValueSource}
 use Rattle.study_tree.specs.Forest.{Forest, none, more}
 use Rattle.study_marks.specs.declared.mark.Mark.{Mark}
 use Rattle.study_marks.specs.Study.{Study}
@@ -46,11 +43,10 @@ SumOfEach Count (path ∷ paths) n = (own rest : ℕ) × Count path own × SumOf
 abbrev pub AreTimeFaults : Study Mark → ℕ → Type 0
 AreTimeFaults s n = SumOfEach (IsTimeFault s) (written_order s) n
 
-module _ {V : Type 0} (held : V → Class → Bool) (gives : V → Position → ProbeAnswer → Type 0)
-    (may_fail : V → Class → SourceFault → Type 0) (asked_of failed_of : V → ℕ) (is_honest : V → Type 0) where
+module _ {V : Type 0} (source : ValueSource V) where
   -- each value was read, unless the call was refused for the first that could not be read
   abbrev pub HasReviewed : {T : Type 0} → V → Result T ReviewFault → V → Type 0
-  HasReviewed old (Ok x) new = AllTold held gives may_fail asked_of failed_of is_honest old new
-  HasReviewed old (Err OutOfMemory) new = AllTold held gives may_fail asked_of failed_of is_honest old new
-  HasReviewed old (Err Device) new = AllTold held gives may_fail asked_of failed_of is_honest old new
-  HasReviewed old (Err (Values f)) new = Stopped held gives may_fail asked_of failed_of is_honest old f new
+  HasReviewed old (Ok x) new = AllTold source old new
+  HasReviewed old (Err OutOfMemory) new = AllTold source old new
+  HasReviewed old (Err Device) new = AllTold source old new
+  HasReviewed old (Err (Values f)) new = Stopped source old f new

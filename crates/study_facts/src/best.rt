@@ -51,16 +51,16 @@ fn best_among<V: Values>(
     values: &mut V,
 ) -> Result<Option<EvaluatedMove>, ProbeFault>
     requires { All (λ m. is_legal p.now m ≡ true) moves.now }
-    ensures game { V.is_honest values.old → IfOk result (λ best. (list : List AContinuation)
+    ensures game { V.source.is_honest values.old → IfOk result (λ best. (list : List AContinuation)
         × AreChosen (λ v. true) p.now moves.now list × (best ≡ first_best list)) }
-    ensures untold { IfErr result (IsProbeFaultOf (V.held values.old) (map (after p.now) moves.now)) }
-    ensures told { OnOk result (WereTold V.gives V.may_fail V.asked_of values.old (map (after p.now) moves.now) values.new) }
-    ensures first { IfErr result (λ f. IsFirstFault V.gives V.may_fail V.asked_of values.old (map (after p.now) moves.now) f values.new) }
-    ensures no_damage { V.is_honest values.old → IfErr result IsNotDamage }
-    ensures asked { ProbeCount (length moves.now) (is_ok result) (V.asked_of values.old) (V.asked_of values.new) }
-    ensures failures { V.failed_of values.new ≡ failures_of result (V.failed_of values.old) }
-    ensures honest { V.is_honest values.old → V.is_honest values.new }
-    ensures tables { (c : AClass) → V.held values.new c ≡ V.held values.old c }
+    ensures untold { IfErr result (IsProbeFaultOf (V.source.held values.old) (map (after p.now) moves.now)) }
+    ensures told { OnOk result (WereTold V.source values.old (map (after p.now) moves.now) values.new) }
+    ensures first { IfErr result (λ f. IsFirstFault V.source values.old (map (after p.now) moves.now) f values.new) }
+    ensures no_damage { V.source.is_honest values.old → IfErr result IsNotDamage }
+    ensures asked { ProbeCount (length moves.now) (is_ok result) (V.source.asked_of values.old) (V.source.asked_of values.new) }
+    ensures failures { V.source.failed_of values.new ≡ failures_of result (V.source.failed_of values.old) }
+    ensures honest { V.source.is_honest values.old → V.source.is_honest values.new }
+    ensures tables { (c : AClass) → V.source.held values.new c ≡ V.source.held values.old c }
     ensures legal { IfOk result (λ best. IfSome best (λ x. is_legal p.now x.played ≡ true)) }
 {
     match moves.split_first() {
@@ -86,17 +86,17 @@ pub fn best_move<V: Values>(
     p: &Position,
     values: &mut V,
 ) -> Result<Option<EvaluatedMove>, ProbeFault>
-    ensures game { V.is_honest values.old → IfOk result (IsBestMove p.now) }
-    ensures best { V.is_honest values.old → IfOk result (λ best. IfSome best (IsFirstBestMove p.now)) }
-    ensures none { V.is_honest values.old → IfOk result (λ best. IfNone best (HasNoMove p.now)) }
-    ensures untold { IfErr result (IsProbeFaultOf (V.held values.old) (map (after p.now) (legal_list p.now))) }
-    ensures told { OnOk result (WereTold V.gives V.may_fail V.asked_of values.old (map (after p.now) (legal_list p.now)) values.new) }
-    ensures first { IfErr result (λ f. IsFirstFault V.gives V.may_fail V.asked_of values.old (map (after p.now) (legal_list p.now)) f values.new) }
-    ensures no_damage { V.is_honest values.old → IfErr result IsNotDamage }
-    ensures asked { ProbeCount (length (legal_list p.now)) (is_ok result) (V.asked_of values.old) (V.asked_of values.new) }
-    ensures failures { V.failed_of values.new ≡ failures_of result (V.failed_of values.old) }
-    ensures honest { V.is_honest values.old → V.is_honest values.new }
-    ensures tables { (c : AClass) → V.held values.new c ≡ V.held values.old c }
+    ensures game { V.source.is_honest values.old → IfOk result (IsBestMove p.now) }
+    ensures best { V.source.is_honest values.old → IfOk result (λ best. IfSome best (IsFirstBestMove p.now)) }
+    ensures none { V.source.is_honest values.old → IfOk result (λ best. IfNone best (HasNoMove p.now)) }
+    ensures untold { IfErr result (IsProbeFaultOf (V.source.held values.old) (map (after p.now) (legal_list p.now))) }
+    ensures told { OnOk result (WereTold V.source values.old (map (after p.now) (legal_list p.now)) values.new) }
+    ensures first { IfErr result (λ f. IsFirstFault V.source values.old (map (after p.now) (legal_list p.now)) f values.new) }
+    ensures no_damage { V.source.is_honest values.old → IfErr result IsNotDamage }
+    ensures asked { ProbeCount (length (legal_list p.now)) (is_ok result) (V.source.asked_of values.old) (V.source.asked_of values.new) }
+    ensures failures { V.source.failed_of values.new ≡ failures_of result (V.source.failed_of values.old) }
+    ensures honest { V.source.is_honest values.old → V.source.is_honest values.new }
+    ensures tables { (c : AClass) → V.source.held values.new c ≡ V.source.held values.old c }
     ensures legal { IfOk result (λ best. IfSome best (λ x. is_legal p.now x.played ≡ true)) }
 {
     values_are_unique();
@@ -112,14 +112,14 @@ pub fn play_on<V: Values>(
     list: &mut ArrayVec<EvaluatedMove, 20>,
 ) -> Result<(), ProbeFault>
     requires { array_vec_len list.old + plies ≤ 20 }
-    ensures game { V.is_honest values.old → OnOk result ((play : List AContinuation)
+    ensures game { V.source.is_honest values.old → OnOk result ((play : List AContinuation)
         × IsBestPlay plies p.now play × (list.new.items ≡ list.old.items ++ play)) }
-    ensures untold { (c : AClass) → IsErrOf result (ProbeFault.NoTable c) → V.held values.old c ≡ false }
-    ensures told { HasProbed (within p.now V.gives) V.may_fail V.asked_of values.old result values.new }
-    ensures no_damage { V.is_honest values.old → IfErr result IsNotDamage }
-    ensures failures { V.failed_of values.new ≡ failures_of result (V.failed_of values.old) }
-    ensures honest { V.is_honest values.old → V.is_honest values.new }
-    ensures tables { (c : AClass) → V.held values.new c ≡ V.held values.old c }
+    ensures untold { (c : AClass) → IsErrOf result (ProbeFault.NoTable c) → V.source.held values.old c ≡ false }
+    ensures told { HasProbed (within p.now V.source) values.old result values.new }
+    ensures no_damage { V.source.is_honest values.old → IfErr result IsNotDamage }
+    ensures failures { V.source.failed_of values.new ≡ failures_of result (V.source.failed_of values.old) }
+    ensures honest { V.source.is_honest values.old → V.source.is_honest values.new }
+    ensures tables { (c : AClass) → V.source.held values.new c ≡ V.source.held values.old c }
     ensures legal { OnOk result ((play : List AContinuation) × ArePlayed p.now play × (list.new.items ≡ list.old.items ++ play)) }
 {
     if plies == 0 {
@@ -142,13 +142,13 @@ pub fn best_play<V: Values>(
     p: &Position,
     values: &mut V,
 ) -> Result<ArrayVec<EvaluatedMove, 20>, ProbeFault>
-    ensures game { V.is_honest values.old → IfOk result (λ list. IsBestPlay 20 p.now list.items) }
-    ensures untold { (c : AClass) → IsErrOf result (ProbeFault.NoTable c) → V.held values.old c ≡ false }
-    ensures told { HasProbed (within p.now V.gives) V.may_fail V.asked_of values.old result values.new }
-    ensures no_damage { V.is_honest values.old → IfErr result IsNotDamage }
-    ensures failures { V.failed_of values.new ≡ failures_of result (V.failed_of values.old) }
-    ensures honest { V.is_honest values.old → V.is_honest values.new }
-    ensures tables { (c : AClass) → V.held values.new c ≡ V.held values.old c }
+    ensures game { V.source.is_honest values.old → IfOk result (λ list. IsBestPlay 20 p.now list.items) }
+    ensures untold { (c : AClass) → IsErrOf result (ProbeFault.NoTable c) → V.source.held values.old c ≡ false }
+    ensures told { HasProbed (within p.now V.source) values.old result values.new }
+    ensures no_damage { V.source.is_honest values.old → IfErr result IsNotDamage }
+    ensures failures { V.source.failed_of values.new ≡ failures_of result (V.source.failed_of values.old) }
+    ensures honest { V.source.is_honest values.old → V.source.is_honest values.new }
+    ensures tables { (c : AClass) → V.source.held values.new c ≡ V.source.held values.old c }
     ensures legal { IfOk result (λ list. ArePlayed p.now list.items) }
 {
     let mut list = ArrayVec::new();

@@ -94,14 +94,14 @@ fn push_defences<V: Values>(
     requires room { array_vec_len list.old + length moves.now ≤ MAX_MOVES }
     requires listed { All (IsPlayed node.now.position.now) list.old.items }
     ensures listed { All (IsPlayed node.now.position.now) list.new.items }
-    ensures game { V.is_honest values.old → OnOk result ((answered : List ADefence)
+    ensures game { V.source.is_honest values.old → OnOk result ((answered : List ADefence)
         × AreAnswered node.now.aim.now node.now.depth node.now.position.now moves.now answered × (list.new.items ≡ list.old.items ++ answered)) }
-    ensures untold { (c : AClass) → IsErrOf result (ProbeFault.NoTable c) → V.held values.old c ≡ false }
-    ensures told { HasProbed (within node.now.position.now V.gives) V.may_fail V.asked_of values.old result values.new }
-    ensures no_damage { V.is_honest values.old → IfErr result IsNotDamage }
-    ensures failures { V.failed_of values.new ≡ failures_of result (V.failed_of values.old) }
-    ensures honest { V.is_honest values.old → V.is_honest values.new }
-    ensures tables { (c : AClass) → V.held values.new c ≡ V.held values.old c }
+    ensures untold { (c : AClass) → IsErrOf result (ProbeFault.NoTable c) → V.source.held values.old c ≡ false }
+    ensures told { HasProbed (within node.now.position.now V.source) values.old result values.new }
+    ensures no_damage { V.source.is_honest values.old → IfErr result IsNotDamage }
+    ensures failures { V.source.failed_of values.new ≡ failures_of result (V.source.failed_of values.old) }
+    ensures honest { V.source.is_honest values.old → V.source.is_honest values.new }
+    ensures tables { (c : AClass) → V.source.held values.new c ≡ V.source.held values.old c }
 {
     match moves.split_first() {
         None => Ok(()),
@@ -131,14 +131,14 @@ pub fn defences<V: Values>(
     values: &mut V,
 ) -> Result<ArrayVec<Defence, MAX_MOVES>, ProbeFault>
     requires depth { node.now.depth + 2 < 2 ^ 64 }
-    ensures game { V.is_honest values.old → IfOk result (λ list. AreDefences
+    ensures game { V.source.is_honest values.old → IfOk result (λ list. AreDefences
         node.now.aim.now node.now.depth node.now.position.now there.now list.items) }
-    ensures untold { (c : AClass) → IsErrOf result (ProbeFault.NoTable c) → V.held values.old c ≡ false }
-    ensures told { HasProbed (within node.now.position.now V.gives) V.may_fail V.asked_of values.old result values.new }
-    ensures no_damage { V.is_honest values.old → IfErr result IsNotDamage }
-    ensures failures { V.failed_of values.new ≡ failures_of result (V.failed_of values.old) }
-    ensures honest { V.is_honest values.old → V.is_honest values.new }
-    ensures tables { (c : AClass) → V.held values.new c ≡ V.held values.old c }
+    ensures untold { (c : AClass) → IsErrOf result (ProbeFault.NoTable c) → V.source.held values.old c ≡ false }
+    ensures told { HasProbed (within node.now.position.now V.source) values.old result values.new }
+    ensures no_damage { V.source.is_honest values.old → IfErr result IsNotDamage }
+    ensures failures { V.source.failed_of values.new ≡ failures_of result (V.source.failed_of values.old) }
+    ensures honest { V.source.is_honest values.old → V.source.is_honest values.new }
+    ensures tables { (c : AClass) → V.source.held values.new c ≡ V.source.held values.old c }
     ensures legal { IfOk result (λ list. All (IsPlayed node.now.position.now) list.items) }
 {
     match missing_moves(node, there, values) {

@@ -52,16 +52,16 @@ fn push_wanted<V: Values>(
     requires room { array_vec_len list.old + length moves.now ≤ MAX_MOVES }
     requires listed { All (λ x. is_legal node.now.position.now x.played ≡ true) list.old.items }
     ensures listed { All (λ x. is_legal node.now.position.now x.played ≡ true) list.new.items }
-    ensures game { V.is_honest values.old → OnOk result ((all : List AValue) × AreValuesAfter node.now.position.now moves.now all
+    ensures game { V.source.is_honest values.old → OnOk result ((all : List AValue) × AreValuesAfter node.now.position.now moves.now all
         × (list.new.items ≡ list.old.items ++ wanted_moves (is_wanted wanted node.now.aim.now node.now.depth) moves.now all)) }
-    ensures untold { IfErr result (IsProbeFaultOf (V.held values.old) (positions_after node.now.position.now moves.now)) }
-    ensures told { OnOk result (WereTold V.gives V.may_fail V.asked_of values.old (positions_after node.now.position.now moves.now) values.new) }
-    ensures first { IfErr result (λ f. IsFirstFault V.gives V.may_fail V.asked_of values.old (positions_after node.now.position.now moves.now) f values.new) }
-    ensures no_damage { V.is_honest values.old → IfErr result IsNotDamage }
-    ensures asked { ProbeCount (length moves.now) (is_ok result) (V.asked_of values.old) (V.asked_of values.new) }
-    ensures failures { V.failed_of values.new ≡ failures_of result (V.failed_of values.old) }
-    ensures honest { V.is_honest values.old → V.is_honest values.new }
-    ensures tables { (c : AClass) → V.held values.new c ≡ V.held values.old c }
+    ensures untold { IfErr result (IsProbeFaultOf (V.source.held values.old) (positions_after node.now.position.now moves.now)) }
+    ensures told { OnOk result (WereTold V.source values.old (positions_after node.now.position.now moves.now) values.new) }
+    ensures first { IfErr result (λ f. IsFirstFault V.source values.old (positions_after node.now.position.now moves.now) f values.new) }
+    ensures no_damage { V.source.is_honest values.old → IfErr result IsNotDamage }
+    ensures asked { ProbeCount (length moves.now) (is_ok result) (V.source.asked_of values.old) (V.source.asked_of values.new) }
+    ensures failures { V.source.failed_of values.new ≡ failures_of result (V.source.failed_of values.old) }
+    ensures honest { V.source.is_honest values.old → V.source.is_honest values.new }
+    ensures tables { (c : AClass) → V.source.held values.new c ≡ V.source.held values.old c }
 {
     match moves.split_first() {
         None => Ok(()),
@@ -88,16 +88,16 @@ fn wanted_moves<V: Values>(
     requires depth { node.now.depth + 1 < 2 ^ 64 }
     requires legal { All (λ m. is_legal node.now.position.now m ≡ true) moves.now }
     requires room { length moves.now ≤ MAX_MOVES }
-    ensures game { V.is_honest values.old → IfOk result (λ list. AreChosen
+    ensures game { V.source.is_honest values.old → IfOk result (λ list. AreChosen
         (is_wanted wanted node.now.aim.now node.now.depth) node.now.position.now moves.now list.items) }
-    ensures untold { IfErr result (IsProbeFaultOf (V.held values.old) (positions_after node.now.position.now moves.now)) }
-    ensures told { OnOk result (WereTold V.gives V.may_fail V.asked_of values.old (positions_after node.now.position.now moves.now) values.new) }
-    ensures first { IfErr result (λ f. IsFirstFault V.gives V.may_fail V.asked_of values.old (positions_after node.now.position.now moves.now) f values.new) }
-    ensures no_damage { V.is_honest values.old → IfErr result IsNotDamage }
-    ensures asked { ProbeCount (length moves.now) (is_ok result) (V.asked_of values.old) (V.asked_of values.new) }
-    ensures failures { V.failed_of values.new ≡ failures_of result (V.failed_of values.old) }
-    ensures honest { V.is_honest values.old → V.is_honest values.new }
-    ensures tables { (c : AClass) → V.held values.new c ≡ V.held values.old c }
+    ensures untold { IfErr result (IsProbeFaultOf (V.source.held values.old) (positions_after node.now.position.now moves.now)) }
+    ensures told { OnOk result (WereTold V.source values.old (positions_after node.now.position.now moves.now) values.new) }
+    ensures first { IfErr result (λ f. IsFirstFault V.source values.old (positions_after node.now.position.now moves.now) f values.new) }
+    ensures no_damage { V.source.is_honest values.old → IfErr result IsNotDamage }
+    ensures asked { ProbeCount (length moves.now) (is_ok result) (V.source.asked_of values.old) (V.source.asked_of values.new) }
+    ensures failures { V.source.failed_of values.new ≡ failures_of result (V.source.failed_of values.old) }
+    ensures honest { V.source.is_honest values.old → V.source.is_honest values.new }
+    ensures tables { (c : AClass) → V.source.held values.new c ≡ V.source.held values.old c }
     ensures legal { IfOk result (λ list. All (λ x. is_legal node.now.position.now x.played ≡ true) list.items) }
 {
     let mut list = ArrayVec::new();
@@ -113,17 +113,17 @@ pub fn holding_moves<V: Values>(
     values: &mut V,
 ) -> Result<ArrayVec<EvaluatedMove, MAX_MOVES>, ProbeFault>
     requires depth { node.now.depth + 1 < 2 ^ 64 }
-    ensures game { V.is_honest values.old → IfOk result (λ list. AreHoldingMoves node.now.aim.now node.now.depth node.now.position.now list.items) }
-    ensures untold { IfErr result (IsProbeFaultOf (V.held values.old) (positions_after node.now.position.now (legal_list node.now.position.now))) }
-    ensures told { OnOk result (WereTold V.gives V.may_fail V.asked_of values.old
+    ensures game { V.source.is_honest values.old → IfOk result (λ list. AreHoldingMoves node.now.aim.now node.now.depth node.now.position.now list.items) }
+    ensures untold { IfErr result (IsProbeFaultOf (V.source.held values.old) (positions_after node.now.position.now (legal_list node.now.position.now))) }
+    ensures told { OnOk result (WereTold V.source values.old
         (positions_after node.now.position.now (legal_list node.now.position.now)) values.new) }
-    ensures first { IfErr result (λ f. IsFirstFault V.gives V.may_fail V.asked_of values.old
+    ensures first { IfErr result (λ f. IsFirstFault V.source values.old
         (positions_after node.now.position.now (legal_list node.now.position.now)) f values.new) }
-    ensures no_damage { V.is_honest values.old → IfErr result IsNotDamage }
-    ensures asked { ProbeCount (length (legal_list node.now.position.now)) (is_ok result) (V.asked_of values.old) (V.asked_of values.new) }
-    ensures failures { V.failed_of values.new ≡ failures_of result (V.failed_of values.old) }
-    ensures honest { V.is_honest values.old → V.is_honest values.new }
-    ensures tables { (c : AClass) → V.held values.new c ≡ V.held values.old c }
+    ensures no_damage { V.source.is_honest values.old → IfErr result IsNotDamage }
+    ensures asked { ProbeCount (length (legal_list node.now.position.now)) (is_ok result) (V.source.asked_of values.old) (V.source.asked_of values.new) }
+    ensures failures { V.source.failed_of values.new ≡ failures_of result (V.source.failed_of values.old) }
+    ensures honest { V.source.is_honest values.old → V.source.is_honest values.new }
+    ensures tables { (c : AClass) → V.source.held values.new c ≡ V.source.held values.old c }
     ensures legal { IfOk result (λ list. All (λ x. is_legal node.now.position.now x.played ≡ true) list.items) }
 {
     let moves = legal_moves(node.position);
@@ -137,17 +137,17 @@ pub fn refutations<V: Values>(
     values: &mut V,
 ) -> Result<ArrayVec<EvaluatedMove, MAX_MOVES>, ProbeFault>
     requires depth { node.now.depth + 1 < 2 ^ 64 }
-    ensures game { V.is_honest values.old → IfOk result (λ list. AreRefutations node.now.aim.now node.now.depth node.now.position.now list.items) }
-    ensures untold { IfErr result (IsProbeFaultOf (V.held values.old) (positions_after node.now.position.now (legal_list node.now.position.now))) }
-    ensures told { OnOk result (WereTold V.gives V.may_fail V.asked_of values.old
+    ensures game { V.source.is_honest values.old → IfOk result (λ list. AreRefutations node.now.aim.now node.now.depth node.now.position.now list.items) }
+    ensures untold { IfErr result (IsProbeFaultOf (V.source.held values.old) (positions_after node.now.position.now (legal_list node.now.position.now))) }
+    ensures told { OnOk result (WereTold V.source values.old
         (positions_after node.now.position.now (legal_list node.now.position.now)) values.new) }
-    ensures first { IfErr result (λ f. IsFirstFault V.gives V.may_fail V.asked_of values.old
+    ensures first { IfErr result (λ f. IsFirstFault V.source values.old
         (positions_after node.now.position.now (legal_list node.now.position.now)) f values.new) }
-    ensures no_damage { V.is_honest values.old → IfErr result IsNotDamage }
-    ensures asked { ProbeCount (length (legal_list node.now.position.now)) (is_ok result) (V.asked_of values.old) (V.asked_of values.new) }
-    ensures failures { V.failed_of values.new ≡ failures_of result (V.failed_of values.old) }
-    ensures honest { V.is_honest values.old → V.is_honest values.new }
-    ensures tables { (c : AClass) → V.held values.new c ≡ V.held values.old c }
+    ensures no_damage { V.source.is_honest values.old → IfErr result IsNotDamage }
+    ensures asked { ProbeCount (length (legal_list node.now.position.now)) (is_ok result) (V.source.asked_of values.old) (V.source.asked_of values.new) }
+    ensures failures { V.source.failed_of values.new ≡ failures_of result (V.source.failed_of values.old) }
+    ensures honest { V.source.is_honest values.old → V.source.is_honest values.new }
+    ensures tables { (c : AClass) → V.source.held values.new c ≡ V.source.held values.old c }
     ensures legal { IfOk result (λ list. All (λ x. is_legal node.now.position.now x.played ≡ true) list.items) }
 {
     let moves = legal_moves(node.position);
@@ -161,17 +161,17 @@ pub fn drawing_moves<V: Values>(
     values: &mut V,
 ) -> Result<ArrayVec<EvaluatedMove, MAX_MOVES>, ProbeFault>
     requires depth { node.now.depth + 1 < 2 ^ 64 }
-    ensures game { V.is_honest values.old → IfOk result (λ list. AreDrawingMoves node.now.position.now list.items) }
-    ensures untold { IfErr result (IsProbeFaultOf (V.held values.old) (positions_after node.now.position.now (legal_list node.now.position.now))) }
-    ensures told { OnOk result (WereTold V.gives V.may_fail V.asked_of values.old
+    ensures game { V.source.is_honest values.old → IfOk result (λ list. AreDrawingMoves node.now.position.now list.items) }
+    ensures untold { IfErr result (IsProbeFaultOf (V.source.held values.old) (positions_after node.now.position.now (legal_list node.now.position.now))) }
+    ensures told { OnOk result (WereTold V.source values.old
         (positions_after node.now.position.now (legal_list node.now.position.now)) values.new) }
-    ensures first { IfErr result (λ f. IsFirstFault V.gives V.may_fail V.asked_of values.old
+    ensures first { IfErr result (λ f. IsFirstFault V.source values.old
         (positions_after node.now.position.now (legal_list node.now.position.now)) f values.new) }
-    ensures no_damage { V.is_honest values.old → IfErr result IsNotDamage }
-    ensures asked { ProbeCount (length (legal_list node.now.position.now)) (is_ok result) (V.asked_of values.old) (V.asked_of values.new) }
-    ensures failures { V.failed_of values.new ≡ failures_of result (V.failed_of values.old) }
-    ensures honest { V.is_honest values.old → V.is_honest values.new }
-    ensures tables { (c : AClass) → V.held values.new c ≡ V.held values.old c }
+    ensures no_damage { V.source.is_honest values.old → IfErr result IsNotDamage }
+    ensures asked { ProbeCount (length (legal_list node.now.position.now)) (is_ok result) (V.source.asked_of values.old) (V.source.asked_of values.new) }
+    ensures failures { V.source.failed_of values.new ≡ failures_of result (V.source.failed_of values.old) }
+    ensures honest { V.source.is_honest values.old → V.source.is_honest values.new }
+    ensures tables { (c : AClass) → V.source.held values.new c ≡ V.source.held values.old c }
     ensures legal { IfOk result (λ list. All (λ x. is_legal node.now.position.now x.played ≡ true) list.items) }
 {
     let moves = legal_moves(node.position);
@@ -185,17 +185,19 @@ pub fn alternatives<V: Values>(
     values: &mut V,
 ) -> Result<ArrayVec<EvaluatedMove, MAX_MOVES>, ProbeFault>
     requires depth { node.now.depth + 1 < 2 ^ 64 }
-    ensures game { V.is_honest values.old → IfOk result (λ list. AreAlternatives node.now.aim.now node.now.depth node.now.position.now m list.items) }
-    ensures untold { IfErr result (IsProbeFaultOf (V.held values.old) (positions_after node.now.position.now (moves_except (m ∷ []) node.now.position.now))) }
-    ensures told { OnOk result (WereTold V.gives V.may_fail V.asked_of values.old
+    ensures game { V.source.is_honest values.old → IfOk result (λ list. AreAlternatives node.now.aim.now node.now.depth node.now.position.now m list.items) }
+    ensures untold { IfErr result (IsProbeFaultOf (V.source.held values.old)
+        (positions_after node.now.position.now (moves_except (m ∷ []) node.now.position.now))) }
+    ensures told { OnOk result (WereTold V.source values.old
         (positions_after node.now.position.now (moves_except (m ∷ []) node.now.position.now)) values.new) }
-    ensures first { IfErr result (λ f. IsFirstFault V.gives V.may_fail V.asked_of values.old
+    ensures first { IfErr result (λ f. IsFirstFault V.source values.old
         (positions_after node.now.position.now (moves_except (m ∷ []) node.now.position.now)) f values.new) }
-    ensures no_damage { V.is_honest values.old → IfErr result IsNotDamage }
-    ensures asked { ProbeCount (length (moves_except (m ∷ []) node.now.position.now)) (is_ok result) (V.asked_of values.old) (V.asked_of values.new) }
-    ensures failures { V.failed_of values.new ≡ failures_of result (V.failed_of values.old) }
-    ensures honest { V.is_honest values.old → V.is_honest values.new }
-    ensures tables { (c : AClass) → V.held values.new c ≡ V.held values.old c }
+    ensures no_damage { V.source.is_honest values.old → IfErr result IsNotDamage }
+    ensures asked { ProbeCount (length (moves_except (m ∷ []) node.now.position.now)) (is_ok result) (V.source.asked_of values.old)
+        (V.source.asked_of values.new) }
+    ensures failures { V.source.failed_of values.new ≡ failures_of result (V.source.failed_of values.old) }
+    ensures honest { V.source.is_honest values.old → V.source.is_honest values.new }
+    ensures tables { (c : AClass) → V.source.held values.new c ≡ V.source.held values.old c }
     ensures legal { IfOk result (λ list. All (λ x. is_legal node.now.position.now x.played ≡ true) list.items) }
 {
     let moves = moves_except(node.position, &[m]);
@@ -209,17 +211,19 @@ pub fn missing_moves<V: Values>(
     values: &mut V,
 ) -> Result<ArrayVec<EvaluatedMove, MAX_MOVES>, ProbeFault>
     requires depth { node.now.depth + 1 < 2 ^ 64 }
-    ensures game { V.is_honest values.old → IfOk result (λ list. AreMissing node.now.position.now there.now list.items) }
-    ensures untold { IfErr result (IsProbeFaultOf (V.held values.old) (positions_after node.now.position.now (moves_except there.now node.now.position.now))) }
-    ensures told { OnOk result (WereTold V.gives V.may_fail V.asked_of values.old
+    ensures game { V.source.is_honest values.old → IfOk result (λ list. AreMissing node.now.position.now there.now list.items) }
+    ensures untold { IfErr result (IsProbeFaultOf (V.source.held values.old)
+        (positions_after node.now.position.now (moves_except there.now node.now.position.now))) }
+    ensures told { OnOk result (WereTold V.source values.old
         (positions_after node.now.position.now (moves_except there.now node.now.position.now)) values.new) }
-    ensures first { IfErr result (λ f. IsFirstFault V.gives V.may_fail V.asked_of values.old
+    ensures first { IfErr result (λ f. IsFirstFault V.source values.old
         (positions_after node.now.position.now (moves_except there.now node.now.position.now)) f values.new) }
-    ensures no_damage { V.is_honest values.old → IfErr result IsNotDamage }
-    ensures asked { ProbeCount (length (moves_except there.now node.now.position.now)) (is_ok result) (V.asked_of values.old) (V.asked_of values.new) }
-    ensures failures { V.failed_of values.new ≡ failures_of result (V.failed_of values.old) }
-    ensures honest { V.is_honest values.old → V.is_honest values.new }
-    ensures tables { (c : AClass) → V.held values.new c ≡ V.held values.old c }
+    ensures no_damage { V.source.is_honest values.old → IfErr result IsNotDamage }
+    ensures asked { ProbeCount (length (moves_except there.now node.now.position.now)) (is_ok result) (V.source.asked_of values.old)
+        (V.source.asked_of values.new) }
+    ensures failures { V.source.failed_of values.new ≡ failures_of result (V.source.failed_of values.old) }
+    ensures honest { V.source.is_honest values.old → V.source.is_honest values.new }
+    ensures tables { (c : AClass) → V.source.held values.new c ≡ V.source.held values.old c }
     ensures legal { IfOk result (λ list. All (λ x. is_legal node.now.position.now x.played ≡ true) list.items) }
 {
     let moves = moves_except(node.position, there);

@@ -51,13 +51,13 @@ fn is_near_history(line: &[Position], q: &Position) -> bool
 
 /// Whether the side to move is mated.
 fn is_lost<V: Values>(q: &Position, values: &mut V) -> Result<bool, ProbeFault>
-    ensures game { V.is_honest values.old → IfOk result (λ b. (b ≡ true) ↔ HasLost q.now) }
-    ensures untold { (c : AClass) → IsErrOf result (ProbeFault.NoTable c) → V.held values.old c ≡ false }
-    ensures told { HasProbed (within q.now V.gives) V.may_fail V.asked_of values.old result values.new }
-    ensures no_damage { V.is_honest values.old → IfErr result IsNotDamage }
-    ensures failures { V.failed_of values.new ≡ failures_of result (V.failed_of values.old) }
-    ensures honest { V.is_honest values.old → V.is_honest values.new }
-    ensures tables { (c : AClass) → V.held values.new c ≡ V.held values.old c }
+    ensures game { V.source.is_honest values.old → IfOk result (λ b. (b ≡ true) ↔ HasLost q.now) }
+    ensures untold { (c : AClass) → IsErrOf result (ProbeFault.NoTable c) → V.source.held values.old c ≡ false }
+    ensures told { HasProbed (within q.now V.source) values.old result values.new }
+    ensures no_damage { V.source.is_honest values.old → IfErr result IsNotDamage }
+    ensures failures { V.source.failed_of values.new ≡ failures_of result (V.source.failed_of values.old) }
+    ensures honest { V.source.is_honest values.old → V.source.is_honest values.new }
+    ensures tables { (c : AClass) → V.source.held values.new c ≡ V.source.held values.old c }
 {
     values_are_unique();
     // (the clauses of `men` say that the position is valid)
@@ -80,13 +80,13 @@ fn all_wins_repeat<V: Values>(
 ) -> Result<bool, ProbeFault>
     requires legal { All (λ m. is_legal r.now m ≡ true) moves.now }
     requires few { length moves.now ≤ MAX_MOVES }
-    ensures game { V.is_honest values.old → IfOk result (λ b. (b ≡ true) ↔ AllWinsRepeat line.now m r.now won moves.now) }
-    ensures untold { (c : AClass) → IsErrOf result (ProbeFault.NoTable c) → V.held values.old c ≡ false }
-    ensures told { HasProbed (within r.now V.gives) V.may_fail V.asked_of values.old result values.new }
-    ensures no_damage { V.is_honest values.old → IfErr result IsNotDamage }
-    ensures failures { V.failed_of values.new ≡ failures_of result (V.failed_of values.old) }
-    ensures honest { V.is_honest values.old → V.is_honest values.new }
-    ensures tables { (c : AClass) → V.held values.new c ≡ V.held values.old c }
+    ensures game { V.source.is_honest values.old → IfOk result (λ b. (b ≡ true) ↔ AllWinsRepeat line.now m r.now won moves.now) }
+    ensures untold { (c : AClass) → IsErrOf result (ProbeFault.NoTable c) → V.source.held values.old c ≡ false }
+    ensures told { HasProbed (within r.now V.source) values.old result values.new }
+    ensures no_damage { V.source.is_honest values.old → IfErr result IsNotDamage }
+    ensures failures { V.source.failed_of values.new ≡ failures_of result (V.source.failed_of values.old) }
+    ensures honest { V.source.is_honest values.old → V.source.is_honest values.new }
+    ensures tables { (c : AClass) → V.source.held values.new c ≡ V.source.held values.old c }
 {
     match moves.split_first() {
         None => Ok(won),
@@ -113,13 +113,13 @@ fn must_repeat<V: Values>(
     r: &Position,
     values: &mut V,
 ) -> Result<bool, ProbeFault>
-    ensures game { V.is_honest values.old → IfOk result (λ b. (b ≡ true) ↔ MustRepeat line.now m r.now) }
-    ensures untold { (c : AClass) → IsErrOf result (ProbeFault.NoTable c) → V.held values.old c ≡ false }
-    ensures told { HasProbed (within r.now V.gives) V.may_fail V.asked_of values.old result values.new }
-    ensures no_damage { V.is_honest values.old → IfErr result IsNotDamage }
-    ensures failures { V.failed_of values.new ≡ failures_of result (V.failed_of values.old) }
-    ensures honest { V.is_honest values.old → V.is_honest values.new }
-    ensures tables { (c : AClass) → V.held values.new c ≡ V.held values.old c }
+    ensures game { V.source.is_honest values.old → IfOk result (λ b. (b ≡ true) ↔ MustRepeat line.now m r.now) }
+    ensures untold { (c : AClass) → IsErrOf result (ProbeFault.NoTable c) → V.source.held values.old c ≡ false }
+    ensures told { HasProbed (within r.now V.source) values.old result values.new }
+    ensures no_damage { V.source.is_honest values.old → IfErr result IsNotDamage }
+    ensures failures { V.source.failed_of values.new ≡ failures_of result (V.source.failed_of values.old) }
+    ensures honest { V.source.is_honest values.old → V.source.is_honest values.new }
+    ensures tables { (c : AClass) → V.source.held values.new c ≡ V.source.held values.old c }
 {
     let moves = legal_moves(r);
     all_wins_repeat(line, m, r, false, moves.as_slice(), values)
@@ -136,14 +136,14 @@ fn can_force_repetition<V: Values>(
 ) -> Result<bool, ProbeFault>
     requires legal { All (λ m. is_legal q.now m ≡ true) moves.now }
     requires few { length moves.now ≤ MAX_MOVES }
-    ensures game { V.is_honest values.old → IfOk result (λ b. (b ≡ true)
+    ensures game { V.source.is_honest values.old → IfOk result (λ b. (b ≡ true)
         ↔ SomeLeads (MustRepeat line.now m) q.now moves.now) }
-    ensures untold { (c : AClass) → IsErrOf result (ProbeFault.NoTable c) → V.held values.old c ≡ false }
-    ensures told { HasProbed (within q.now V.gives) V.may_fail V.asked_of values.old result values.new }
-    ensures no_damage { V.is_honest values.old → IfErr result IsNotDamage }
-    ensures failures { V.failed_of values.new ≡ failures_of result (V.failed_of values.old) }
-    ensures honest { V.is_honest values.old → V.is_honest values.new }
-    ensures tables { (c : AClass) → V.held values.new c ≡ V.held values.old c }
+    ensures untold { (c : AClass) → IsErrOf result (ProbeFault.NoTable c) → V.source.held values.old c ≡ false }
+    ensures told { HasProbed (within q.now V.source) values.old result values.new }
+    ensures no_damage { V.source.is_honest values.old → IfErr result IsNotDamage }
+    ensures failures { V.source.failed_of values.new ≡ failures_of result (V.source.failed_of values.old) }
+    ensures honest { V.source.is_honest values.old → V.source.is_honest values.new }
+    ensures tables { (c : AClass) → V.source.held values.new c ≡ V.source.held values.old c }
 {
     match moves.split_first() {
         None => Ok(false),
@@ -166,14 +166,14 @@ pub fn is_repeatable_within<V: Values>(
     q: &Position,
     values: &mut V,
 ) -> Result<bool, ProbeFault>
-    ensures game { V.is_honest values.old → IfOk result (λ b. (b ≡ true) ↔ IsRepeatableWithin line.now m q.now) }
-    ensures none_asked { m ≡ 0 → V.asked_of values.new ≡ V.asked_of values.old }
-    ensures untold { (c : AClass) → IsErrOf result (ProbeFault.NoTable c) → V.held values.old c ≡ false }
-    ensures told { HasProbed (within q.now V.gives) V.may_fail V.asked_of values.old result values.new }
-    ensures no_damage { V.is_honest values.old → IfErr result IsNotDamage }
-    ensures failures { V.failed_of values.new ≡ failures_of result (V.failed_of values.old) }
-    ensures honest { V.is_honest values.old → V.is_honest values.new }
-    ensures tables { (c : AClass) → V.held values.new c ≡ V.held values.old c }
+    ensures game { V.source.is_honest values.old → IfOk result (λ b. (b ≡ true) ↔ IsRepeatableWithin line.now m q.now) }
+    ensures none_asked { m ≡ 0 → V.source.asked_of values.new ≡ V.source.asked_of values.old }
+    ensures untold { (c : AClass) → IsErrOf result (ProbeFault.NoTable c) → V.source.held values.old c ≡ false }
+    ensures told { HasProbed (within q.now V.source) values.old result values.new }
+    ensures no_damage { V.source.is_honest values.old → IfErr result IsNotDamage }
+    ensures failures { V.source.failed_of values.new ≡ failures_of result (V.source.failed_of values.old) }
+    ensures honest { V.source.is_honest values.old → V.source.is_honest values.new }
+    ensures tables { (c : AClass) → V.source.held values.new c ≡ V.source.held values.old c }
 {
     if is_near_history(line, q) {
         return Ok(true);
@@ -191,13 +191,13 @@ pub fn waste_of_time<V: Values>(
     q: &Position,
     values: &mut V,
 ) -> Result<Option<u8>, ProbeFault>
-    ensures game { V.is_honest values.old → IfOk result (IsWasteOfTime line.now q.now) }
-    ensures untold { (c : AClass) → IsErrOf result (ProbeFault.NoTable c) → V.held values.old c ≡ false }
-    ensures told { HasProbed (within q.now V.gives) V.may_fail V.asked_of values.old result values.new }
-    ensures no_damage { V.is_honest values.old → IfErr result IsNotDamage }
-    ensures failures { V.failed_of values.new ≡ failures_of result (V.failed_of values.old) }
-    ensures honest { V.is_honest values.old → V.is_honest values.new }
-    ensures tables { (c : AClass) → V.held values.new c ≡ V.held values.old c }
+    ensures game { V.source.is_honest values.old → IfOk result (IsWasteOfTime line.now q.now) }
+    ensures untold { (c : AClass) → IsErrOf result (ProbeFault.NoTable c) → V.source.held values.old c ≡ false }
+    ensures told { HasProbed (within q.now V.source) values.old result values.new }
+    ensures no_damage { V.source.is_honest values.old → IfErr result IsNotDamage }
+    ensures failures { V.source.failed_of values.new ≡ failures_of result (V.source.failed_of values.old) }
+    ensures honest { V.source.is_honest values.old → V.source.is_honest values.new }
+    ensures tables { (c : AClass) → V.source.held values.new c ≡ V.source.held values.old c }
 {
     for m in 0..3 {
         match is_repeatable_within(line, m, q, values) {

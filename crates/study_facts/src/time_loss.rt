@@ -58,13 +58,13 @@ pub fn waste_of_time_for_goal<V: Values>(
     q: &Position,
     values: &mut V,
 ) -> Result<Option<u8>, ProbeFault>
-    ensures game { V.is_honest values.old → IfOk result (IsTimeTold goal line.now q.now) }
-    ensures untold { (c : AClass) → IsErrOf result (ProbeFault.NoTable c) → V.held values.old c ≡ false }
-    ensures told { HasProbed (within q.now V.gives) V.may_fail V.asked_of values.old result values.new }
-    ensures no_damage { V.is_honest values.old → IfErr result IsNotDamage }
-    ensures failures { V.failed_of values.new ≡ failures_of result (V.failed_of values.old) }
-    ensures honest { V.is_honest values.old → V.is_honest values.new }
-    ensures tables { (c : AClass) → V.held values.new c ≡ V.held values.old c }
+    ensures game { V.source.is_honest values.old → IfOk result (IsTimeTold goal line.now q.now) }
+    ensures untold { (c : AClass) → IsErrOf result (ProbeFault.NoTable c) → V.source.held values.old c ≡ false }
+    ensures told { HasProbed (within q.now V.source) values.old result values.new }
+    ensures no_damage { V.source.is_honest values.old → IfErr result IsNotDamage }
+    ensures failures { V.source.failed_of values.new ≡ failures_of result (V.source.failed_of values.old) }
+    ensures honest { V.source.is_honest values.old → V.source.is_honest values.new }
+    ensures tables { (c : AClass) → V.source.held values.new c ≡ V.source.held values.old c }
 {
     match goal {
         Goal::Win => waste_of_time(line, q, values),
@@ -104,14 +104,14 @@ fn time_each<V: Values>(
     requires room { array_vec_len list.old + length moves.now ≤ MAX_MOVES }
     requires listed { All (λ y. is_legal place.now.position y.played ≡ true) list.old.items }
     ensures listed { All (λ y. is_legal place.now.position y.played ≡ true) list.new.items }
-    ensures game { V.is_honest values.old → OnOk result ((timed : List AnAlternative)
+    ensures game { V.source.is_honest values.old → OnOk result ((timed : List AnAlternative)
         × AreTimed place.now.aim.goal place.now.line.items place.now.position moves.now timed × (list.new.items ≡ list.old.items ++ timed)) }
-    ensures untold { (c : AClass) → IsErrOf result (ProbeFault.NoTable c) → V.held values.old c ≡ false }
-    ensures told { HasProbed (within place.now.position V.gives) V.may_fail V.asked_of values.old result values.new }
-    ensures no_damage { V.is_honest values.old → IfErr result IsNotDamage }
-    ensures failures { V.failed_of values.new ≡ failures_of result (V.failed_of values.old) }
-    ensures honest { V.is_honest values.old → V.is_honest values.new }
-    ensures tables { (c : AClass) → V.held values.new c ≡ V.held values.old c }
+    ensures untold { (c : AClass) → IsErrOf result (ProbeFault.NoTable c) → V.source.held values.old c ≡ false }
+    ensures told { HasProbed (within place.now.position V.source) values.old result values.new }
+    ensures no_damage { V.source.is_honest values.old → IfErr result IsNotDamage }
+    ensures failures { V.source.failed_of values.new ≡ failures_of result (V.source.failed_of values.old) }
+    ensures honest { V.source.is_honest values.old → V.source.is_honest values.new }
+    ensures tables { (c : AClass) → V.source.held values.new c ≡ V.source.held values.old c }
 {
     match moves.split_first() {
         None => Ok(()),
@@ -136,14 +136,14 @@ pub fn timed_alternatives<V: Values>(
     values: &mut V,
 ) -> Result<ArrayVec<Alternative, MAX_MOVES>, ProbeFault>
     requires depth { place.now.depth + 1 < 2 ^ 64 }
-    ensures game { V.is_honest values.old → IfOk result (λ list. AreTimedAlternatives
+    ensures game { V.source.is_honest values.old → IfOk result (λ list. AreTimedAlternatives
         place.now.aim place.now.depth place.now.line.items place.now.position m list.items) }
-    ensures untold { (c : AClass) → IsErrOf result (ProbeFault.NoTable c) → V.held values.old c ≡ false }
-    ensures told { HasProbed (within place.now.position V.gives) V.may_fail V.asked_of values.old result values.new }
-    ensures no_damage { V.is_honest values.old → IfErr result IsNotDamage }
-    ensures failures { V.failed_of values.new ≡ failures_of result (V.failed_of values.old) }
-    ensures honest { V.is_honest values.old → V.is_honest values.new }
-    ensures tables { (c : AClass) → V.held values.new c ≡ V.held values.old c }
+    ensures untold { (c : AClass) → IsErrOf result (ProbeFault.NoTable c) → V.source.held values.old c ≡ false }
+    ensures told { HasProbed (within place.now.position V.source) values.old result values.new }
+    ensures no_damage { V.source.is_honest values.old → IfErr result IsNotDamage }
+    ensures failures { V.source.failed_of values.new ≡ failures_of result (V.source.failed_of values.old) }
+    ensures honest { V.source.is_honest values.old → V.source.is_honest values.new }
+    ensures tables { (c : AClass) → V.source.held values.new c ≡ V.source.held values.old c }
     ensures legal { IfOk result (λ list. All (λ y. is_legal place.now.position y.played ≡ true) list.items) }
 {
     let node = NodeContext {

@@ -26,14 +26,14 @@ pub enum Zugzwang {
 
 /// The score of the side to move, in half points.
 fn score<V: Values>(q: &Position, values: &mut V) -> Result<u8, ProbeFault>
-    ensures game { V.is_honest values.old → IfOk result (Scores q.now) }
+    ensures game { V.source.is_honest values.old → IfOk result (Scores q.now) }
     ensures few { IfOk result (λ k. k < 3) }
-    ensures untold { (c : AClass) → IsErrOf result (ProbeFault.NoTable c) → V.held values.old c ≡ false }
-    ensures told { HasProbed (within q.now V.gives) V.may_fail V.asked_of values.old result values.new }
-    ensures no_damage { V.is_honest values.old → IfErr result IsNotDamage }
-    ensures failures { V.failed_of values.new ≡ failures_of result (V.failed_of values.old) }
-    ensures honest { V.is_honest values.old → V.is_honest values.new }
-    ensures tables { (c : AClass) → V.held values.new c ≡ V.held values.old c }
+    ensures untold { (c : AClass) → IsErrOf result (ProbeFault.NoTable c) → V.source.held values.old c ≡ false }
+    ensures told { HasProbed (within q.now V.source) values.old result values.new }
+    ensures no_damage { V.source.is_honest values.old → IfErr result IsNotDamage }
+    ensures failures { V.source.failed_of values.new ≡ failures_of result (V.source.failed_of values.old) }
+    ensures honest { V.source.is_honest values.old → V.source.is_honest values.new }
+    ensures tables { (c : AClass) → V.source.held values.new c ≡ V.source.held values.old c }
 {
     // (the clauses of `men` say that the position is valid)
     let _men = q.men();
@@ -68,13 +68,13 @@ fn kind_beside<V: Values>(
     requires passed { has_legal_en_passant p.now ≡ false }
     requires other { q.now ≡ handed_on p.now }
     requires few { here < 3 }
-    ensures game { Scores p.now here → V.is_honest values.old → IfOk result (IsZugzwangOf p.now) }
-    ensures untold { (c : AClass) → IsErrOf result (ProbeFault.NoTable c) → V.held values.old c ≡ false }
-    ensures told { HasProbed (within p.now V.gives) V.may_fail V.asked_of values.old result values.new }
-    ensures no_damage { V.is_honest values.old → IfErr result IsNotDamage }
-    ensures failures { V.failed_of values.new ≡ failures_of result (V.failed_of values.old) }
-    ensures honest { V.is_honest values.old → V.is_honest values.new }
-    ensures tables { (c : AClass) → V.held values.new c ≡ V.held values.old c }
+    ensures game { Scores p.now here → V.source.is_honest values.old → IfOk result (IsZugzwangOf p.now) }
+    ensures untold { (c : AClass) → IsErrOf result (ProbeFault.NoTable c) → V.source.held values.old c ≡ false }
+    ensures told { HasProbed (within p.now V.source) values.old result values.new }
+    ensures no_damage { V.source.is_honest values.old → IfErr result IsNotDamage }
+    ensures failures { V.source.failed_of values.new ≡ failures_of result (V.source.failed_of values.old) }
+    ensures honest { V.source.is_honest values.old → V.source.is_honest values.new }
+    ensures tables { (c : AClass) → V.source.held values.new c ≡ V.source.held values.old c }
 {
     values_are_unique();
     // (the clauses of `men` say that the position is valid)
@@ -93,13 +93,13 @@ fn zugzwang_of<V: Values>(
 ) -> Result<Option<Zugzwang>, ProbeFault>
     requires passed { has_legal_en_passant p.now ≡ false }
     requires other { q.now ≡ handed_on p.now }
-    ensures game { V.is_honest values.old → IfOk result (IsZugzwangOf p.now) }
-    ensures untold { (c : AClass) → IsErrOf result (ProbeFault.NoTable c) → V.held values.old c ≡ false }
-    ensures told { HasProbed (within p.now V.gives) V.may_fail V.asked_of values.old result values.new }
-    ensures no_damage { V.is_honest values.old → IfErr result IsNotDamage }
-    ensures failures { V.failed_of values.new ≡ failures_of result (V.failed_of values.old) }
-    ensures honest { V.is_honest values.old → V.is_honest values.new }
-    ensures tables { (c : AClass) → V.held values.new c ≡ V.held values.old c }
+    ensures game { V.source.is_honest values.old → IfOk result (IsZugzwangOf p.now) }
+    ensures untold { (c : AClass) → IsErrOf result (ProbeFault.NoTable c) → V.source.held values.old c ≡ false }
+    ensures told { HasProbed (within p.now V.source) values.old result values.new }
+    ensures no_damage { V.source.is_honest values.old → IfErr result IsNotDamage }
+    ensures failures { V.source.failed_of values.new ≡ failures_of result (V.source.failed_of values.old) }
+    ensures honest { V.source.is_honest values.old → V.source.is_honest values.new }
+    ensures tables { (c : AClass) → V.source.held values.new c ≡ V.source.held values.old c }
 {
     match score(p, values) {
         Err(fault) => Err(fault),
@@ -109,13 +109,13 @@ fn zugzwang_of<V: Values>(
 
 /// The kind of mutual zugzwang that the position is, whoever is to move; `None` if it is not one.
 pub fn zugzwang_at<V: Values>(p: &Position, values: &mut V) -> Result<Option<Zugzwang>, ProbeFault>
-    ensures game { V.is_honest values.old → IfOk result (IsZugzwangOf p.now) }
-    ensures untold { (c : AClass) → IsErrOf result (ProbeFault.NoTable c) → V.held values.old c ≡ false }
-    ensures told { HasProbed (within p.now V.gives) V.may_fail V.asked_of values.old result values.new }
-    ensures no_damage { V.is_honest values.old → IfErr result IsNotDamage }
-    ensures failures { V.failed_of values.new ≡ failures_of result (V.failed_of values.old) }
-    ensures honest { V.is_honest values.old → V.is_honest values.new }
-    ensures tables { (c : AClass) → V.held values.new c ≡ V.held values.old c }
+    ensures game { V.source.is_honest values.old → IfOk result (IsZugzwangOf p.now) }
+    ensures untold { (c : AClass) → IsErrOf result (ProbeFault.NoTable c) → V.source.held values.old c ≡ false }
+    ensures told { HasProbed (within p.now V.source) values.old result values.new }
+    ensures no_damage { V.source.is_honest values.old → IfErr result IsNotDamage }
+    ensures failures { V.source.failed_of values.new ≡ failures_of result (V.source.failed_of values.old) }
+    ensures honest { V.source.is_honest values.old → V.source.is_honest values.new }
+    ensures tables { (c : AClass) → V.source.held values.new c ≡ V.source.held values.old c }
 {
     let passing = has_legal_en_passant(p);
     if passing {

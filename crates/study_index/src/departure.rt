@@ -115,7 +115,8 @@ impl IndexAfterMove {
         }
     }
 
-    /// The number of the position with the man on another square and the other side to move, if no capture in passing is legal: the result of `index_after_move`.
+    /// The number of the position with the man on another square and the other side to move, if no capture in passing is legal:
+    /// the result of `index_after_move`.
     #[inline(always)]
     pub fn number_to(&self, to: Square) -> u32
         ensures { (p : Seen) → IsMoved self.now.class self.now.number self.now.from to p → index_of p ≡ result }

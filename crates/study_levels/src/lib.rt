@@ -1,6 +1,7 @@
 //! Tables built level by level and checked, over any game whose positions have numbers.
 //!
-//! `solve_cells` writes into each cell the least forced mate of the position of its number; `are_right` returns true exactly for such cells, however they were made.
+//! `solve_cells` writes into each cell the least forced mate of the position of its number; `are_right` returns true exactly for such cells,
+//! however they were made.
 //! The traits `Game`, `LabelledGame` and `LevelGame` say what a game must provide for that. Chess as such a game is `study_retro`.
 #![tactic(auto)]
 

@@ -58,11 +58,11 @@ fn find_key<V: Values>(
     value: Value,
     values: &mut V,
 ) -> Result<Option<Move>, ProbeFault>
-    ensures game { V.is_honest values.old → IsValueOf p.now value → IfOk result (IsOneKey p.now) }
+    ensures game { V.source.is_honest values.old → IsValueOf p.now value → IfOk result (IsOneKey p.now) }
     ensures legal { IfOk result (λ key. IfSome key (λ m. is_legal p.now m ≡ true)) }
-    ensures faults { IfErr result (CanReport V.held V.may_fail V.is_honest values.old) }
-    ensures honest { V.is_honest values.old → V.is_honest values.new }
-    ensures tables { HasSameTables V.held V.may_fail values.old values.new }
+    ensures faults { IfErr result (CanReport V.source values.old) }
+    ensures honest { V.source.is_honest values.old → V.source.is_honest values.new }
+    ensures tables { HasSameTables V.source values.old values.new }
 {
     values_are_unique();
     match value {
@@ -79,11 +79,11 @@ fn key_if<V: Values>(
     value: Value,
     values: &mut V,
 ) -> Result<Option<Move>, ProbeFault>
-    ensures game { V.is_honest values.old → IsValueOf p.now value → IfOk result (SaidIf wanted (IsOneKey p.now)) }
+    ensures game { V.source.is_honest values.old → IsValueOf p.now value → IfOk result (SaidIf wanted (IsOneKey p.now)) }
     ensures legal { IfOk result (λ key. IfSome key (λ m. is_legal p.now m ≡ true)) }
-    ensures faults { IfErr result (CanReport V.held V.may_fail V.is_honest values.old) }
-    ensures honest { V.is_honest values.old → V.is_honest values.new }
-    ensures tables { HasSameTables V.held V.may_fail values.old values.new }
+    ensures faults { IfErr result (CanReport V.source values.old) }
+    ensures honest { V.source.is_honest values.old → V.source.is_honest values.new }
+    ensures tables { HasSameTables V.source values.old values.new }
 {
     if wanted {
         return find_key(p, value, values);
@@ -93,10 +93,10 @@ fn key_if<V: Values>(
 
 /// The value with the other side to move, if that position is valid.
 fn other_value<V: Values>(p: &Position, values: &mut V) -> Result<Option<Value>, ProbeFault>
-    ensures game { V.is_honest values.old → IfOk result (IsOtherValue p.now) }
-    ensures faults { IfErr result (CanReport V.held V.may_fail V.is_honest values.old) }
-    ensures honest { V.is_honest values.old → V.is_honest values.new }
-    ensures tables { HasSameTables V.held V.may_fail values.old values.new }
+    ensures game { V.source.is_honest values.old → IfOk result (IsOtherValue p.now) }
+    ensures faults { IfErr result (CanReport V.source values.old) }
+    ensures honest { V.source.is_honest values.old → V.source.is_honest values.new }
+    ensures tables { HasSameTables V.source values.old values.new }
 {
     match handed_on(p) {
         None => Ok(None),
@@ -113,10 +113,10 @@ fn other_if<V: Values>(
     p: &Position,
     values: &mut V,
 ) -> Result<Option<Value>, ProbeFault>
-    ensures game { V.is_honest values.old → IfOk result (SaidIf wanted (IsOtherValue p.now)) }
-    ensures faults { IfErr result (CanReport V.held V.may_fail V.is_honest values.old) }
-    ensures honest { V.is_honest values.old → V.is_honest values.new }
-    ensures tables { HasSameTables V.held V.may_fail values.old values.new }
+    ensures game { V.source.is_honest values.old → IfOk result (SaidIf wanted (IsOtherValue p.now)) }
+    ensures faults { IfErr result (CanReport V.source values.old) }
+    ensures honest { V.source.is_honest values.old → V.source.is_honest values.new }
+    ensures tables { HasSameTables V.source values.old values.new }
 {
     if wanted {
         return other_value(p, values);
@@ -130,11 +130,11 @@ pub fn facts_of<V: Values>(
     wanted: Wanted,
     values: &mut V,
 ) -> Result<Facts, ProbeFault>
-    ensures game { V.is_honest values.old → IfOk result (AreFacts wanted.other wanted.key p.now) }
+    ensures game { V.source.is_honest values.old → IfOk result (AreFacts wanted.other wanted.key p.now) }
     ensures legal { IfOk result (λ f. IfSome f.key (λ m. is_legal p.now m ≡ true)) }
-    ensures faults { IfErr result (CanReport V.held V.may_fail V.is_honest values.old) }
-    ensures honest { V.is_honest values.old → V.is_honest values.new }
-    ensures tables { HasSameTables V.held V.may_fail values.old values.new }
+    ensures faults { IfErr result (CanReport V.source values.old) }
+    ensures honest { V.source.is_honest values.old → V.source.is_honest values.new }
+    ensures tables { HasSameTables V.source values.old values.new }
 {
     match value_of(p, values) {
         Err(fault) => Err(fault),

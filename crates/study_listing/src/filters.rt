@@ -180,10 +180,10 @@ fn has_key_let_through<V: Values>(
     p: &Position,
     values: &mut V,
 ) -> Result<bool, ProbeFault>
-    ensures game { V.is_honest values.old → IfOk result (λ b. (b ≡ true) ↔ HasKeyLetThrough filters.now p.now) }
-    ensures faults { IfErr result (CanReport V.held V.may_fail V.is_honest values.old) }
-    ensures honest { V.is_honest values.old → V.is_honest values.new }
-    ensures tables { HasSameTables V.held V.may_fail values.old values.new }
+    ensures game { V.source.is_honest values.old → IfOk result (λ b. (b ≡ true) ↔ HasKeyLetThrough filters.now p.now) }
+    ensures faults { IfErr result (CanReport V.source values.old) }
+    ensures honest { V.source.is_honest values.old → V.source.is_honest values.new }
+    ensures tables { HasSameTables V.source values.old values.new }
 {
     let wanted = Wanted {
         other: false,
@@ -201,10 +201,10 @@ pub(crate) fn has_wanted_key<V: Values>(
     p: &Position,
     values: &mut V,
 ) -> Result<bool, ProbeFault>
-    ensures game { V.is_honest values.old → IfOk result (λ b. (b ≡ true) ↔ HasWantedKey filters.now p.now) }
-    ensures faults { IfErr result (CanReport V.held V.may_fail V.is_honest values.old) }
-    ensures honest { V.is_honest values.old → V.is_honest values.new }
-    ensures tables { HasSameTables V.held V.may_fail values.old values.new }
+    ensures game { V.source.is_honest values.old → IfOk result (λ b. (b ≡ true) ↔ HasWantedKey filters.now p.now) }
+    ensures faults { IfErr result (CanReport V.source values.old) }
+    ensures honest { V.source.is_honest values.old → V.source.is_honest values.new }
+    ensures tables { HasSameTables V.source values.old values.new }
 {
     let asked = filters.no_capture || filters.no_check;
     if asked {

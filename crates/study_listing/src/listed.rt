@@ -62,11 +62,11 @@ fn is_one_of_pair<V: Values>(
     p: &Position,
     values: &mut V,
 ) -> Result<bool, ProbeFault>
-    ensures game { V.is_honest values.old → IsLookedFor search.now p.now
+    ensures game { V.source.is_honest values.old → IsLookedFor search.now p.now
         → IfOk result (λ b. (b ≡ true) ↔ IsOneOfPair search.now p.now) }
-    ensures faults { IfErr result (CanReport V.held V.may_fail V.is_honest values.old) }
-    ensures honest { V.is_honest values.old → V.is_honest values.new }
-    ensures tables { HasSameTables V.held V.may_fail values.old values.new }
+    ensures faults { IfErr result (CanReport V.source values.old) }
+    ensures honest { V.source.is_honest values.old → V.source.is_honest values.new }
+    ensures tables { HasSameTables V.source values.old values.new }
 {
     let paired = is_paired(search);
     if paired {
@@ -116,11 +116,11 @@ fn is_listed<V: Values>(
     p: &Position,
     values: &mut V,
 ) -> Result<bool, ProbeFault>
-    ensures game { V.is_honest values.old → IsLookedFor selection.now.search p.now → is_some (shown selection.now p.now) ≡ true
+    ensures game { V.source.is_honest values.old → IsLookedFor selection.now.search p.now → is_some (shown selection.now p.now) ≡ true
         → IfOk result (λ b. (b ≡ true) ↔ IsListed selection.now p.now) }
-    ensures faults { IfErr result (CanReport V.held V.may_fail V.is_honest values.old) }
-    ensures honest { V.is_honest values.old → V.is_honest values.new }
-    ensures tables { HasSameTables V.held V.may_fail values.old values.new }
+    ensures faults { IfErr result (CanReport V.source values.old) }
+    ensures honest { V.source.is_honest values.old → V.source.is_honest values.new }
+    ensures tables { HasSameTables V.source values.old values.new }
 {
     match is_one_of_pair(&selection.search, p, values) {
         Err(fault) => Err(fault),
@@ -135,15 +135,15 @@ fn image_listed<V: Values>(
     p: &Position,
     values: &mut V,
 ) -> Result<Option<Position>, ProbeFault>
-    ensures some { V.is_honest values.old → IsLookedFor selection.now.search p.now
+    ensures some { V.source.is_honest values.old → IsLookedFor selection.now.search p.now
         → IfOk result (λ at. IfSome at (λ q. IsListed selection.now p.now)) }
-    ensures image { V.is_honest values.old → IsLookedFor selection.now.search p.now
+    ensures image { V.source.is_honest values.old → IsLookedFor selection.now.search p.now
         → IfOk result (λ at. IfSome at (λ q. shown selection.now p.now ≡ Some q)) }
-    ensures none { V.is_honest values.old → IsLookedFor selection.now.search p.now
+    ensures none { V.source.is_honest values.old → IsLookedFor selection.now.search p.now
         → IfOk result (λ at. IfNone at (¬ (IsListed selection.now p.now))) }
-    ensures faults { IfErr result (CanReport V.held V.may_fail V.is_honest values.old) }
-    ensures honest { V.is_honest values.old → V.is_honest values.new }
-    ensures tables { HasSameTables V.held V.may_fail values.old values.new }
+    ensures faults { IfErr result (CanReport V.source values.old) }
+    ensures honest { V.source.is_honest values.old → V.source.is_honest values.new }
+    ensures tables { HasSameTables V.source values.old values.new }
 {
     match shown(selection, p) {
         None => Ok(None),
@@ -161,15 +161,15 @@ pub(crate) fn listed_at<V: Values>(
     number: u32,
     values: &mut V,
 ) -> Result<Option<Position>, ProbeFault>
-    ensures some { V.is_honest values.old → IsFound selection.now.search number
+    ensures some { V.source.is_honest values.old → IsFound selection.now.search number
         → IfOk result (λ at. IfSome at (λ q. IsListedAt selection.now number)) }
-    ensures image { V.is_honest values.old → IsFound selection.now.search number → IfOk result (λ at. IfSome at (λ q.
+    ensures image { V.source.is_honest values.old → IsFound selection.now.search number → IfOk result (λ at. IfSome at (λ q.
         (p : APosition) × (position_numbered selection.now.search.class number ≡ Some p) × (shown selection.now p ≡ Some q))) }
-    ensures none { V.is_honest values.old → IsFound selection.now.search number
+    ensures none { V.source.is_honest values.old → IsFound selection.now.search number
         → IfOk result (λ at. IfNone at (¬ (IsListedAt selection.now number))) }
-    ensures faults { IfErr result (CanReport V.held V.may_fail V.is_honest values.old) }
-    ensures honest { V.is_honest values.old → V.is_honest values.new }
-    ensures tables { HasSameTables V.held V.may_fail values.old values.new }
+    ensures faults { IfErr result (CanReport V.source values.old) }
+    ensures honest { V.source.is_honest values.old → V.source.is_honest values.new }
+    ensures tables { HasSameTables V.source values.old values.new }
 {
     match decode(selection.search.class, number) {
         None => Ok(None),
@@ -184,15 +184,15 @@ pub(crate) fn text_at<V: Values>(
     number: u32,
     values: &mut V,
 ) -> Result<Option<Listed>, ProbeFault>
-    ensures some { V.is_honest values.old → IsFound selection.now.search number
+    ensures some { V.source.is_honest values.old → IsFound selection.now.search number
         → IfOk result (λ at. IfSome at (λ p. IsListedAt selection.now number)) }
-    ensures text { V.is_honest values.old → IsFound selection.now.search number
+    ensures text { V.source.is_honest values.old → IsFound selection.now.search number
         → IfOk result (λ at. IfSome at (λ text. IsTextAt selection.now form number text.bytes)) }
-    ensures none { V.is_honest values.old → IsFound selection.now.search number
+    ensures none { V.source.is_honest values.old → IsFound selection.now.search number
         → IfOk result (λ at. IfNone at (¬ (IsListedAt selection.now number))) }
-    ensures faults { IfErr result (CanReport V.held V.may_fail V.is_honest values.old) }
-    ensures honest { V.is_honest values.old → V.is_honest values.new }
-    ensures tables { HasSameTables V.held V.may_fail values.old values.new }
+    ensures faults { IfErr result (CanReport V.source values.old) }
+    ensures honest { V.source.is_honest values.old → V.source.is_honest values.new }
+    ensures tables { HasSameTables V.source values.old values.new }
 {
     match listed_at(selection, number, values) {
         Err(fault) => Err(fault),

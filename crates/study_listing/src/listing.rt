@@ -66,10 +66,10 @@ pub fn count_numbers<V: CellPages, H: Watch>(
     values: &mut V,
     watch: &mut H,
 ) -> Result<u32, ProbeFault>
-    ensures count { V.is_honest values.old → IfOk result (AreSoMany selection.now numbers.from numbers.to) }
-    ensures faults { IfErr result (CanReport V.held V.may_fail V.is_honest values.old) }
-    ensures honest { V.is_honest values.old → V.is_honest values.new }
-    ensures tables { HasSameTables V.held V.may_fail values.old values.new }
+    ensures count { V.source.is_honest values.old → IfOk result (AreSoMany selection.now numbers.from numbers.to) }
+    ensures faults { IfErr result (CanReport V.source values.old) }
+    ensures honest { V.source.is_honest values.old → V.source.is_honest values.new }
+    ensures tables { HasSameTables V.source values.old values.new }
 {
     let mut at = numbers.from;
     let mut count = 0u32;
@@ -105,16 +105,16 @@ pub fn list_numbers<V: CellPages, W: Write, H: Watch>(
     out: &mut W,
     watch: &mut H,
 ) -> Result<u32, Stop>
-    ensures list { V.is_honest values.old
+    ensures list { V.source.is_honest values.old
         → IfOk result (HasWritten selection.now form numbers.from numbers.to (W.contents out.old) (W.contents out.new)) }
-    ensures values { V.is_honest values.old → (f : AFault) → IsErrOf result (Stop.Values f)
+    ensures values { V.source.is_honest values.old → (f : AFault) → IsErrOf result (Stop.Values f)
         → HasWrittenSome selection.now form numbers.from numbers.to (W.contents out.old) (W.contents out.new) }
-    ensures device { V.is_honest values.old → IsErrOf result Stop.WriteDevice
+    ensures device { V.source.is_honest values.old → IsErrOf result Stop.WriteDevice
         → HasStopped selection.now form numbers.from numbers.to (W.contents out.old) (W.contents out.new) }
     ensures fits { ¬ (IsErrOf result Stop.TooManyStudies) }
-    ensures faults { IfErr result (CanStop V.held V.may_fail V.is_honest values.old) }
-    ensures honest { V.is_honest values.old → V.is_honest values.new }
-    ensures tables { HasSameTables V.held V.may_fail values.old values.new }
+    ensures faults { IfErr result (CanStop V.source values.old) }
+    ensures honest { V.source.is_honest values.old → V.source.is_honest values.new }
+    ensures tables { HasSameTables V.source values.old values.new }
 {
     let mut at = numbers.from;
     let mut count = 0u32;
@@ -148,10 +148,10 @@ pub fn count_found<V: CellPages, H: Watch>(
     values: &mut V,
     watch: &mut H,
 ) -> Result<u32, ProbeFault>
-    ensures count { V.is_honest values.old → IfOk result (AreSoMany selection.now 0 (cells_of selection.now.search.class)) }
-    ensures faults { IfErr result (CanReport V.held V.may_fail V.is_honest values.old) }
-    ensures honest { V.is_honest values.old → V.is_honest values.new }
-    ensures tables { HasSameTables V.held V.may_fail values.old values.new }
+    ensures count { V.source.is_honest values.old → IfOk result (AreSoMany selection.now 0 (cells_of selection.now.search.class)) }
+    ensures faults { IfErr result (CanReport V.source values.old) }
+    ensures honest { V.source.is_honest values.old → V.source.is_honest values.new }
+    ensures tables { HasSameTables V.source values.old values.new }
 {
     let all = Numbers {
         from: 0,
@@ -167,16 +167,16 @@ fn list_lines<V: CellPages, W: Write, H: Watch>(
     out: &mut W,
     watch: &mut H,
 ) -> Result<u32, Stop>
-    ensures list { V.is_honest values.old
+    ensures list { V.source.is_honest values.old
         → IfOk result (HasWritten selection.now Form.Lines 0 (cells_of selection.now.search.class) (W.contents out.old) (W.contents out.new)) }
-    ensures values { V.is_honest values.old → (f : AFault) → IsErrOf result (Stop.Values f)
+    ensures values { V.source.is_honest values.old → (f : AFault) → IsErrOf result (Stop.Values f)
         → HasWrittenSome selection.now Form.Lines 0 (cells_of selection.now.search.class) (W.contents out.old) (W.contents out.new) }
-    ensures device { V.is_honest values.old → IsErrOf result Stop.WriteDevice
+    ensures device { V.source.is_honest values.old → IsErrOf result Stop.WriteDevice
         → HasStopped selection.now Form.Lines 0 (cells_of selection.now.search.class) (W.contents out.old) (W.contents out.new) }
     ensures fits { ¬ (IsErrOf result Stop.TooManyStudies) }
-    ensures faults { IfErr result (CanStop V.held V.may_fail V.is_honest values.old) }
-    ensures honest { V.is_honest values.old → V.is_honest values.new }
-    ensures tables { HasSameTables V.held V.may_fail values.old values.new }
+    ensures faults { IfErr result (CanStop V.source values.old) }
+    ensures honest { V.source.is_honest values.old → V.source.is_honest values.new }
+    ensures tables { HasSameTables V.source values.old values.new }
 {
     let all = Numbers {
         from: 0,
@@ -192,19 +192,19 @@ fn list_studies<V: CellPages, W: Write, H: Watch>(
     out: &mut W,
     watch: &mut H,
 ) -> Result<u32, Stop>
-    ensures list { V.is_honest values.old
+    ensures list { V.source.is_honest values.old
         → IfOk result (HasWritten selection.now Form.Script 0 (cells_of selection.now.search.class) (W.contents out.old) (W.contents out.new)) }
-    ensures few { V.is_honest values.old → IfOk result (λ count. count ≤ 25000) }
-    ensures many { V.is_honest values.old → IsErrOf result Stop.TooManyStudies
+    ensures few { V.source.is_honest values.old → IfOk result (λ count. count ≤ 25000) }
+    ensures many { V.source.is_honest values.old → IsErrOf result Stop.TooManyStudies
         → (count : ℕ) × AreSoMany selection.now 0 (cells_of selection.now.search.class) count × (25000 < count) }
     ensures nothing { IsErrOf result Stop.TooManyStudies → out.new ≡ out.old }
-    ensures values { V.is_honest values.old → (f : AFault) → IsErrOf result (Stop.Values f)
+    ensures values { V.source.is_honest values.old → (f : AFault) → IsErrOf result (Stop.Values f)
         → HasWrittenSome selection.now Form.Script 0 (cells_of selection.now.search.class) (W.contents out.old) (W.contents out.new) }
-    ensures device { V.is_honest values.old → IsErrOf result Stop.WriteDevice
+    ensures device { V.source.is_honest values.old → IsErrOf result Stop.WriteDevice
         → HasStopped selection.now Form.Script 0 (cells_of selection.now.search.class) (W.contents out.old) (W.contents out.new) }
-    ensures faults { IfErr result (CanStop V.held V.may_fail V.is_honest values.old) }
-    ensures honest { V.is_honest values.old → V.is_honest values.new }
-    ensures tables { HasSameTables V.held V.may_fail values.old values.new }
+    ensures faults { IfErr result (CanStop V.source values.old) }
+    ensures honest { V.source.is_honest values.old → V.source.is_honest values.new }
+    ensures tables { HasSameTables V.source values.old values.new }
 {
     let all = Numbers {
         from: 0,
@@ -229,19 +229,19 @@ pub fn list_found<V: CellPages, W: Write, H: Watch>(
     out: &mut W,
     watch: &mut H,
 ) -> Result<u32, Stop>
-    ensures list { V.is_honest values.old
+    ensures list { V.source.is_honest values.old
         → IfOk result (HasWritten selection.now form 0 (cells_of selection.now.search.class) (W.contents out.old) (W.contents out.new)) }
-    ensures few { V.is_honest values.old → form ≡ Form.Script → IfOk result (λ count. count ≤ 25000) }
-    ensures many { V.is_honest values.old → IsErrOf result Stop.TooManyStudies
+    ensures few { V.source.is_honest values.old → form ≡ Form.Script → IfOk result (λ count. count ≤ 25000) }
+    ensures many { V.source.is_honest values.old → IsErrOf result Stop.TooManyStudies
         → (form ≡ Form.Script) × ((count : ℕ) × AreSoMany selection.now 0 (cells_of selection.now.search.class) count × (25000 < count)) }
     ensures nothing { IsErrOf result Stop.TooManyStudies → out.new ≡ out.old }
-    ensures values { V.is_honest values.old → (f : AFault) → IsErrOf result (Stop.Values f)
+    ensures values { V.source.is_honest values.old → (f : AFault) → IsErrOf result (Stop.Values f)
         → HasWrittenSome selection.now form 0 (cells_of selection.now.search.class) (W.contents out.old) (W.contents out.new) }
-    ensures device { V.is_honest values.old → IsErrOf result Stop.WriteDevice
+    ensures device { V.source.is_honest values.old → IsErrOf result Stop.WriteDevice
         → HasStopped selection.now form 0 (cells_of selection.now.search.class) (W.contents out.old) (W.contents out.new) }
-    ensures faults { IfErr result (CanStop V.held V.may_fail V.is_honest values.old) }
-    ensures honest { V.is_honest values.old → V.is_honest values.new }
-    ensures tables { HasSameTables V.held V.may_fail values.old values.new }
+    ensures faults { IfErr result (CanStop V.source values.old) }
+    ensures honest { V.source.is_honest values.old → V.source.is_honest values.new }
+    ensures tables { HasSameTables V.source values.old values.new }
 {
     match form {
         Form::Lines => list_lines(selection, values, out, watch),
@@ -254,10 +254,10 @@ pub fn selection_of<V: Values>(
     request: &Request,
     values: &mut V,
 ) -> Result<Option<Selection>, ProbeFault>
-    ensures game { V.is_honest values.old → IfOk result (IsSelectionOf request.now) }
-    ensures faults { IfErr result (CanReport V.held V.may_fail V.is_honest values.old) }
-    ensures honest { V.is_honest values.old → V.is_honest values.new }
-    ensures tables { HasSameTables V.held V.may_fail values.old values.new }
+    ensures game { V.source.is_honest values.old → IfOk result (IsSelectionOf request.now) }
+    ensures faults { IfErr result (CanReport V.source values.old) }
+    ensures honest { V.source.is_honest values.old → V.source.is_honest values.new }
+    ensures tables { HasSameTables V.source values.old values.new }
 {
     match request {
         Request::Positions(selection) => Ok(Some(*selection)),

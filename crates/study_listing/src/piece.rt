@@ -44,8 +44,8 @@ pub fn classes_for(request: &Request) -> ArrayVec<Class, CLASS_COUNT>
 
 /// Refuses a request if a table that it uses is missing, naming the first class without one.
 pub fn need_tables<V: Values>(request: &Request, values: &V) -> Result<(), ProbeFault>
-    ensures held { OnOk result (AreHeld request.now (V.held values.now)) }
-    ensures missing { IfErr result (IsMissing request.now (V.held values.now)) }
+    ensures held { OnOk result (AreHeld request.now (V.source.held values.now)) }
+    ensures missing { IfErr result (IsMissing request.now (V.source.held values.now)) }
 {
     let classes = classes_for(request);
     for class in classes.as_slice() {
@@ -70,9 +70,9 @@ fn write_lines<V: CellPages, W: Write>(
     values: &mut V,
     out: &mut W,
 ) -> Result<(), Stop>
-    ensures lines { V.is_honest values.old → OnOk result (HasWrittenLines selection numbers.from numbers.to (W.contents out.old) (W.contents out.new)) }
+    ensures lines { V.source.is_honest values.old → OnOk result (HasWrittenLines selection numbers.from numbers.to (W.contents out.old) (W.contents out.new)) }
     ensures fits { ¬ (IsErrOf result Stop.TooManyStudies) }
-    ensures faults { IfErr result (CanStop V.held V.may_fail V.is_honest values.old) }
+    ensures faults { IfErr result (CanStop V.source values.old) }
 {
     match selection {
         None => Ok(()),
@@ -119,10 +119,10 @@ fn write_selected<V: CellPages, W: Write>(
     values: &mut V,
     out: &mut W,
 ) -> Result<(), Stop>
-    ensures text { V.is_honest values.old → IsSelectionOf piece.now.request selection
+    ensures text { V.source.is_honest values.old → IsSelectionOf piece.now.request selection
         → OnOk result (HasWrittenPiece piece.now (W.contents out.old) (W.contents out.new)) }
     ensures fits { ¬ (IsErrOf result Stop.TooManyStudies) }
-    ensures faults { IfErr result (CanStop V.held V.may_fail V.is_honest values.old) }
+    ensures faults { IfErr result (CanStop V.source values.old) }
 {
     let end = end_of(piece);
     let numbers = Numbers {
@@ -142,10 +142,10 @@ pub fn write_piece<V: CellPages, W: Write>(
     values: &mut V,
     out: &mut W,
 ) -> Result<(), Stop>
-    ensures text { V.is_honest values.old → OnOk result (HasWrittenPiece piece.now (W.contents out.old) (W.contents out.new)) }
-    ensures no_table { (c : AClass) → IsErrOf result (Stop.Values (ProbeFault.NoTable c)) → V.held values.old c ≡ false }
-    ensures failed_so { (f : ASourceFault) → IsErrOf result (Stop.Values (ProbeFault.TableRead f)) → (c : AClass) × V.may_fail values.old c f }
-    ensures no_damage { V.is_honest values.old → IfErr result StopsUndamaged }
+    ensures text { V.source.is_honest values.old → OnOk result (HasWrittenPiece piece.now (W.contents out.old) (W.contents out.new)) }
+    ensures no_table { (c : AClass) → IsErrOf result (Stop.Values (ProbeFault.NoTable c)) → V.source.held values.old c ≡ false }
+    ensures failed_so { (f : ASourceFault) → IsErrOf result (Stop.Values (ProbeFault.TableRead f)) → (c : AClass) × V.source.may_fail values.old c f }
+    ensures no_damage { V.source.is_honest values.old → IfErr result StopsUndamaged }
     ensures fits { ¬ (IsErrOf result Stop.TooManyStudies) }
 {
     if let Err(fault) = need_tables(&piece.request, values) {

@@ -14,8 +14,7 @@ use Rattle.study_marks.specs.declared.edit.Edit.TheVariants as edits
 use Rattle.study_marks.specs.Study.{plain_study, position_at}
 use Rattle.study_marks.specs.Queries.{asked_at, positions_asked, IsOutside, HasStopped, is_of_tables, counted_up_by}
 use Rattle.study_marks.specs.Edits.{PlainStudy, with_start, edited, edited_by, insert_refusal, shift_refusal}
-use Rattle.study_values.specs.Values.{ProbeAnswer}
-use Rattle.study_values.specs.declared.fault.SourceFault.{SourceFault}
+use Rattle.study_values.specs.Values.{ValueSource}
 use Rattle.study_marks.specs.Answers.{TellsFirstFault}
 use Rattle.study_marks.specs.EditLists.{StopsAtFault}
 use Rattle.study_tree.specs.Tree.{Plain}
@@ -104,33 +103,30 @@ module _ {A : Type 0} where
   asked-at s (x ∷ es) (suc i) e r old new short is h =
       asked-at (edited s x) es i e r (counted_up_by (length (questions_of s x)) old) new (omega (arith, short)) is h
 
-  pub tells-at : {V : Type 0} (gives : V → Position → ProbeAnswer → Type 0) (may_fail : V → Class → SourceFault → Type 0) (asked_of : V
-      → ℕ) (mid new : V) (s : PlainStudy) (es : List (Edit A))
+  pub tells-at : {V : Type 0} (source : ValueSource V) (mid new : V) (s : PlainStudy) (es : List (Edit A))
       (i : ℕ) (e : Edit A) (r : Refusal A) → i < length es → e ≡ get_or es i e
-      → TellsFirstFault gives may_fail asked_of mid (questions_of (edited_by s (take i es)) e) new r → StopsAtFault gives may_fail asked_of mid s es i new r
-  tells-at gives may_fail asked_of mid new s [] i e r short is h = absurd (omega (arith, short))
-  tells-at gives may_fail asked_of mid new s (x ∷ es) zero e r short is h = subst (λ y. TellsFirstFault gives may_fail asked_of mid (questions_of s y) new r)
+      → TellsFirstFault source mid (questions_of (edited_by s (take i es)) e) new r → StopsAtFault source mid s es i new r
+  tells-at source mid new s [] i e r short is h = absurd (omega (arith, short))
+  tells-at source mid new s (x ∷ es) zero e r short is h = subst (λ y. TellsFirstFault source mid (questions_of s y) new r)
       is h
-  tells-at gives may_fail asked_of mid new s (x ∷ es) (suc i) e r short is h = tells-at gives may_fail asked_of mid new (edited s x) es i e r
+  tells-at source mid new s (x ∷ es) (suc i) e r short is h = tells-at source mid new (edited s x) es i e r
       (omega (arith, short)) is h
 
--- The effect of these edits, all accepted.
-pub record IsRun {A : Type 0} (held held_now : Class → Bool) (honest honest_now : Type 0)
-    (asked asked_now failed failed_now : ℕ) (old new : BenchState) (es : List (Edit A)) : Type 0 where
-  pub accepted : AreAccepted held (plain_study (marked old)) es
+-- The effect of these edits, all accepted, with the values before and after.
+pub record IsRun {A V : Type 0} (source : ValueSource V) (values values_now : V) (old new : BenchState) (es : List (Edit A)) : Type 0 where
+  pub accepted : AreAccepted (source.held values) (plain_study (marked old)) es
   pub edit : plain_study (marked new) ≡ edited_by (plain_study (marked old)) es
-  pub right : honest → IsKeptRight old → IsKeptRight new
+  pub right : source.is_honest values → IsKeptRight old → IsKeptRight new
   pub kept : AreKeptAfter (evaluation_tree old.study.tree) es (evaluation_tree new.study.tree)
   pub labels : new.relabelled ≡ labels_by (plain_study (marked old)) es old.relabelled
-  pub counts : asked_now ≡ asked_after_edits (plain_study (marked old)) es asked
-  pub failures : failed_now ≡ failed
-  pub stays : honest → honest_now
-  pub tables : (c : Class) → held_now c ≡ held c
+  pub counts : source.asked_of values_now ≡ asked_after_edits (plain_study (marked old)) es (source.asked_of values)
+  pub failures : source.failed_of values_now ≡ source.failed_of values
+  pub stays : source.is_honest values → source.is_honest values_now
+  pub tables : (c : Class) → source.held values_now c ≡ source.held values c
   pub same : es ≡ [] → new ≡ old
 
-pub run-none : {A : Type 0} (held : Class → Bool) (honest : Type 0) (asked failed : ℕ) (old : BenchState)
-    → IsRun {A = A} held held honest honest asked asked failed failed old old []
-run-none held honest asked failed old = record {
+pub run-none : {A V : Type 0} (source : ValueSource V) (values : V) (old : BenchState) → IsRun {A = A} source values values old old []
+run-none source values old = record {
   accepted = tt;
   edit = refl;
   right = λ h k. k;
@@ -143,27 +139,25 @@ run-none held honest asked failed old = record {
   same = λ e. refl;
 }
 
-module _ {A : Type 0} (held mid now : Class → Bool) (honest honest_mid honest_now : Type 0)
-    (asked asked_mid asked_now failed failed_mid failed_now : ℕ) (old between new : BenchState) (xs : List (Edit A)) (i : ℕ)
-    (e : Edit A)
-    (h : IsRun held mid honest honest_mid asked asked_mid failed failed_mid old between (take i xs)) (short : i < length xs) (is : e ≡ get_or xs i e) where
+module _ {A V : Type 0} (source : ValueSource V) (values values_mid values_now : V) (old between new : BenchState) (xs : List (Edit A)) (i : ℕ)
+    (e : Edit A) (h : IsRun source values values_mid old between (take i xs)) (short : i < length xs) (is : e ≡ get_or xs i e) where
   abbrev s : PlainStudy
   s = plain_study (marked old)
 
   abbrev es : List (Edit A)
   es = take i xs
 
-  pub run-next : IsApplied mid now honest_mid honest_now asked_mid asked_now failed_mid failed_now between new e
-      (Ok tt) → IsRun held now honest honest_now asked asked_now failed failed_now old new (take (i + 1) xs)
-  run-next k = subst (λ ys. IsRun held now honest honest_now asked asked_now failed failed_now old new ys) (sym (take-one xs i e short is)) (record {
-    accepted = accepted-more held s es e h.accepted (accepted-same held mid (edited_by s es) e h.tables (subst (λ x. IsAccepted mid x e) h.edit k.accepted));
+  pub run-next : IsApplied source values_mid values_now between new e (Ok tt) → IsRun source values values_now old new (take (i + 1) xs)
+  run-next k = subst (λ ys. IsRun source values values_now old new ys) (sym (take-one xs i e short is)) (record {
+    accepted = accepted-more (source.held values) s es e h.accepted (accepted-same (source.held values) (source.held values_mid) (edited_by s es) e
+        h.tables (subst (λ x. IsAccepted (source.held values_mid) x e) h.edit k.accepted));
     edit = k.edit ∙ ap (λ x. edited x e) h.edit ∙ sym (edited-more s es e);
     right = λ a b. k.right (h.stays a) (h.right a b);
     kept = kept-more (evaluation_tree old.study.tree) es e (evaluation_tree between.study.tree) (evaluation_tree new.study.tree) h.kept k.kept;
     labels = k.labels ∙ ap (λ x. labels_after x e between.relabelled) h.edit ∙ ap (labels_after (edited_by s es) e)
         h.labels ∙ sym (labels-more s es e old.relabelled);
-    counts = k.counts ∙ ap (λ x. counted_up_by (length (questions_of x e)) asked_mid) h.edit
-        ∙ ap (counted_up_by (length (questions_of (edited_by s es) e))) h.counts ∙ sym (asked-more s es e asked);
+    counts = k.counts ∙ ap (λ x. counted_up_by (length (questions_of x e)) (source.asked_of values_mid)) h.edit
+        ∙ ap (counted_up_by (length (questions_of (edited_by s es) e))) h.counts ∙ sym (asked-more s es e (source.asked_of values));
     failures = k.failures ∙ h.failures;
     stays = λ a. k.stays (h.stays a);
     tables = λ c. k.tables c ∙ h.tables c;
@@ -174,13 +168,13 @@ module _ {A : Type 0} (held mid now : Class → Bool) (honest honest_mid honest_
       some [] z = let no : e ∷ [] ≡ [] = z in cc
       some (y ∷ ys) z = let no : y ∷ (ys ++ e ∷ []) ≡ [] = z in cc
 
-  module _ (r : Refusal A) (k : IsApplied mid now honest_mid honest_now asked_mid asked_now failed_mid failed_now between new e (Err r)) where
-    pub run-refusal : IsStopped held s xs i r
+  module _ (r : Refusal A) (k : IsApplied source values_mid values_now between new e (Err r)) where
+    pub run-refusal : IsStopped (source.held values) s xs i r
     run-refusal =
-        stopped-at held s xs i e r short is
-        (refusal-same held mid (edited_by s es) e r h.tables (subst (λ x. IsRefusalOf mid x e r) h.edit k.refusal))
+        stopped-at (source.held values) s xs i e r short is (refusal-same (source.held values) (source.held values_mid) (edited_by s es) e r h.tables
+        (subst (λ x. IsRefusalOf (source.held values_mid) x e r) h.edit k.refusal))
 
-    pub run-asked : HasAskedUpTo s xs i r asked asked_now
-    run-asked = asked-at s xs i e r asked asked_now short is
-        (subst (λ n. HasStopped (is_of_tables r) (length (questions_of (edited_by s es) e)) n asked_now) h.counts
-        (subst (λ x. HasStopped (is_of_tables r) (length (questions_of x e)) asked_mid asked_now) h.edit k.counts))
+    pub run-asked : HasAskedUpTo s xs i r (source.asked_of values) (source.asked_of values_now)
+    run-asked = asked-at s xs i e r (source.asked_of values) (source.asked_of values_now) short is
+        (subst (λ n. HasStopped (is_of_tables r) (length (questions_of (edited_by s es) e)) n (source.asked_of values_now)) h.counts
+        (subst (λ x. HasStopped (is_of_tables r) (length (questions_of x e)) (source.asked_of values_mid) (source.asked_of values_now)) h.edit k.counts))

@@ -2,9 +2,7 @@
 use Rattle.std.proofs.Common.{◌≡◌, ℕ, ◌+◌, ◌<◌, List, [], ◌∷◌, ◌++◌, length, take, drop, get_or, suc, inl, inr, Result, Ok, Err, IsErrAnd, IfErr, sym, ap}
 use Rattle.std.proofs.Common.{◌∙◌, subst}
 use Rattle.study_board.specs.Position.{Position}
-use Rattle.study_material.specs.declared.class.Class.{Class}
-use Rattle.study_values.specs.Values.{ProbeAnswer, IsNotDamage}
-use Rattle.study_values.specs.declared.fault.SourceFault.{SourceFault}
+use Rattle.study_values.specs.Values.{IsNotDamage, ValueSource}
 use Rattle.study_values.specs.declared.values.ProbeFault.{ProbeFault}
 use Rattle.study_values.specs.declared.values.ProbeFault.TheVariants as probe
 use Rattle.study_marks.specs.declared.refusal.Refusal.{Refusal}
@@ -14,60 +12,60 @@ use Rattle.study_marks.specs.Relabelled.{asked_each}
 use Rattle.study_marks.specs.Answers.{WereTold, IsFirstFault, TellsFirstFault, IsUndamaged}
 use Rattle.study_marks.proofs.PositionsListed.{take-one, split-at, asked_each-append, append-none}
 
-module _ {V : Type 0} (gives : V → Position → ProbeAnswer → Type 0) (may_fail : V → Class → SourceFault → Type 0) (asked_of : V → ℕ) where
-  first-told : (A : Type 0) (old : V) (asked : List Position) (new : V) (f : ProbeFault) → IsFirstFault gives may_fail asked_of old asked f new
-      → TellsFirstFault {A = A} gives may_fail asked_of old asked new (refused_by f)
+module _ {V : Type 0} (source : ValueSource V) where
+  first-told : (A : Type 0) (old : V) (asked : List Position) (new : V) (f : ProbeFault) → IsFirstFault source old asked f new
+      → TellsFirstFault {A = A} source old asked new (refused_by f)
   first-told A old asked new (probe.NoTable c) h = h
   first-told A old asked new (probe.TableRead x) h = h
   first-told A old asked new (probe.PageDamaged c n) h = h
 
   pub first-answer : {A T : Type 0} (old : V) (asked : List Position) (new : V) (f : ProbeFault) (r : Result T (Refusal A))
-      → IsErrAnd r (λ x. x ≡ refused_by f) → IsFirstFault gives may_fail asked_of old asked f new
-      → IfErr r (TellsFirstFault gives may_fail asked_of old asked new)
+      → IsErrAnd r (λ x. x ≡ refused_by f) → IsFirstFault source old asked f new
+      → IfErr r (TellsFirstFault source old asked new)
   first-answer old asked new f (Ok x) e h = absurd e
   first-answer {A = A} old asked new f (Err x) e h =
-      subst (TellsFirstFault {A = A} gives may_fail asked_of old asked new) (sym e) (first-told A old asked new f h)
+      subst (TellsFirstFault {A = A} source old asked new) (sym e) (first-told A old asked new f h)
 
   -- lists of positions, one after the other
-  pub told-append : (old mid new : V) (xs ys : List Position) → WereTold gives may_fail asked_of old xs mid → WereTold gives may_fail asked_of mid ys new
-      → WereTold gives may_fail asked_of old (xs ++ ys) new
-  told-append old mid new [] ys h k = subst (λ (s : V). WereTold gives may_fail asked_of s ys new) h k
+  pub told-append : (old mid new : V) (xs ys : List Position) → WereTold source old xs mid → WereTold source mid ys new
+      → WereTold source old (xs ++ ys) new
+  told-append old mid new [] ys h k = subst (λ (s : V). WereTold source s ys new) h k
   told-append old mid new (x ∷ xs) ys h k = (h.0, h.1, h.2, told-append h.1 mid new xs ys h.3 k)
 
-  first-front : (old new : V) (xs ys : List Position) (f : ProbeFault) → IsFirstFault gives may_fail asked_of old xs f new
-      → IsFirstFault gives may_fail asked_of old (xs ++ ys) f new
+  first-front : (old new : V) (xs ys : List Position) (f : ProbeFault) → IsFirstFault source old xs f new
+      → IsFirstFault source old (xs ++ ys) f new
   first-front old new [] ys f h = absurd h
   first-front old new (x ∷ xs) ys f (inl h) = inl h
   first-front old new (x ∷ xs) ys f (inr h) = inr (h.0, h.1, h.2, first-front h.1 new xs ys f h.3)
 
-  first-back : (old mid new : V) (xs ys : List Position) (f : ProbeFault) → WereTold gives may_fail asked_of old xs mid
-      → IsFirstFault gives may_fail asked_of mid ys f new → IsFirstFault gives may_fail asked_of old (xs ++ ys) f new
-  first-back old mid new [] ys f h k = subst (λ (s : V). IsFirstFault gives may_fail asked_of s ys f new) h k
+  first-back : (old mid new : V) (xs ys : List Position) (f : ProbeFault) → WereTold source old xs mid
+      → IsFirstFault source mid ys f new → IsFirstFault source old (xs ++ ys) f new
+  first-back old mid new [] ys f h k = subst (λ (s : V). IsFirstFault source s ys f new) h k
   first-back old mid new (x ∷ xs) ys f h k = inr (h.0, h.1, h.2, first-back h.1 mid new xs ys f h.3 k)
 
   pub told-next : (old mid new : V) (ps : List Position) (i : ℕ) (p : Position) → i < length ps → p ≡ get_or ps i p
-      → WereTold gives may_fail asked_of old (asked_each (take i ps)) mid → WereTold gives may_fail asked_of mid (asked_at p) new
-      → WereTold gives may_fail asked_of old (asked_each (take (i + 1) ps)) new
+      → WereTold source old (asked_each (take i ps)) mid → WereTold source mid (asked_at p) new
+      → WereTold source old (asked_each (take (i + 1) ps)) new
   told-next old mid new ps i p short is h k =
-      subst (λ (qs : List Position). WereTold gives may_fail asked_of old qs new)
+      subst (λ (qs : List Position). WereTold source old qs new)
       (sym (ap asked_each (take-one ps i p short is) ∙ asked_each-append (take i ps) (p ∷ []) ∙ ap (λ x. asked_each (take i ps) ++ x)
       (append-none (asked_at p))))
       (told-append old mid new (asked_each (take i ps)) (asked_at p) h k)
 
   pub first-at : (old mid new : V) (ps : List Position) (i : ℕ) (p : Position) (f : ProbeFault) → i < length ps → p ≡ get_or ps i p
-      → WereTold gives may_fail asked_of old (asked_each (take i ps)) mid → IsFirstFault gives may_fail asked_of mid (asked_at p) f new
-      → IsFirstFault gives may_fail asked_of old (asked_each ps) f new
+      → WereTold source old (asked_each (take i ps)) mid → IsFirstFault source mid (asked_at p) f new
+      → IsFirstFault source old (asked_each ps) f new
   first-at old mid new ps i p f short is h k =
-      subst (λ (qs : List Position). IsFirstFault gives may_fail asked_of old qs f new)
+      subst (λ (qs : List Position). IsFirstFault source old qs f new)
       (sym (ap asked_each (split-at ps i p short is) ∙ asked_each-append (take i ps) (p ∷ drop (suc i) ps)))
       (first-back old mid new (asked_each (take i ps)) (asked_at p ++ asked_each (drop (suc i) ps)) f h
       (first-front mid new (asked_at p) (asked_each (drop (suc i) ps)) f k))
 
   -- a result that passes a refusal on
   pub same-first : {A T : Type 0} (old : V) (asked : List Position) (new : V) (r : Result T (Refusal A)) (f : Refusal A)
-      → IsErrAnd r (λ x. x ≡ f) → TellsFirstFault gives may_fail asked_of old asked new f → IfErr r (TellsFirstFault gives may_fail asked_of old asked new)
+      → IsErrAnd r (λ x. x ≡ f) → TellsFirstFault source old asked new f → IfErr r (TellsFirstFault source old asked new)
   same-first old asked new (Ok x) f e h = absurd e
-  same-first {A = A} old asked new (Err x) f e h = subst (TellsFirstFault {A = A} gives may_fail asked_of old asked new) (sym e) h
+  same-first {A = A} old asked new (Err x) f e h = subst (TellsFirstFault {A = A} source old asked new) (sym e) h
 
 -- ---- no damage
 

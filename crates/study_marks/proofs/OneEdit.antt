@@ -18,6 +18,7 @@ use Rattle.study_marks.specs.Queries.{asked_at, positions_asked, AllHeld, IsOuts
 use Rattle.study_marks.specs.Queries.{is_of_tables, is_of_device, counted_up_by, failures_after}
 use Rattle.study_marks.specs.Edits.{with_position, with_start, with_stipulation, with_insertion, broken, first_illegal_from, insert_refusal, shift_refusal}
 use Rattle.study_marks.specs.BenchState.{BenchState, marked, evaluation_tree, IsKeptRight}
+use Rattle.study_values.specs.Values.{ValueSource}
 use Rattle.study_marks.specs.EditLists.{IsShiftRefusal, IsAccepted, IsApplied}
 use Rattle.study_marks.proofs.SameShape.{nodes_in-mapped}
 use Rattle.study_marks.proofs.StartShifted.{broken-marked}
@@ -25,11 +26,11 @@ use Rattle.study_marks.proofs.StartShifted.{broken-marked}
 same-size : (k : BenchState) → size_of (marked k).tree ≡ size_of (plain_study (marked k)).tree
 same-size k = ap (λ n. 1 + n) (sym (nodes_in-mapped (λ (x : Mark). tt {0}) (marked k).tree.below))
 
-module _ {A : Type 0} (held held_now : Class → Bool) (honest honest_now : Type 0) (asked asked_now failed failed_now : ℕ) (old new : BenchState) where
+module _ {A V : Type 0} (source : ValueSource V) (values values_now : V) (old new : BenchState) where
   applied-as : (e same : Edit A) (r : Result (Unit {0}) (Refusal A)) → e ≡ same
-      → IsApplied held held_now honest honest_now asked asked_now failed failed_now old new same r
-      → IsApplied held held_now honest honest_now asked asked_now failed failed_now old new e r
-  applied-as e same r is h = subst (λ x. IsApplied held held_now honest honest_now asked asked_now failed failed_now old new x r) (sym is) h
+      → IsApplied source values values_now old new same r
+      → IsApplied source values values_now old new e r
+  applied-as e same r is h = subst (λ x. IsApplied source values values_now old new x r) (sym is) h
 
   -- a move is not inserted
   refused-so : (o : Option (Refusal A)) (P : Type 0) (f : Refusal A) (T : Type 0)
@@ -40,30 +41,30 @@ module _ {A : Type 0} (held held_now : Class → Bool) (honest honest_now : Type
   pub insert-refused : (e : Edit A) (steps : List ℕ) (m : Move) (f : Refusal A) (r : Result (Unit {0}) (Refusal A))
       → e ≡ edits.Insert steps m → IsErrAnd r (λ x. x ≡ f)
       → MatchOption (insert_refusal (plain_study (marked old)) steps m)
-      (IsOutside held (asked_at (after (position_at (marked old) steps) m)) f)
+      (IsOutside (source.held values) (asked_at (after (position_at (marked old) steps) m)) f)
       (λ g. (let x : Result ℕ (Refusal A) = Err f in x) ≡ Err g)
       → position_at (marked old) steps ≡ position_at (plain_study (marked old)) steps
-      → HasStopped (is_of_tables f) (length (asked_at (after (position_at (marked old) steps) m))) asked asked_now
-      → failed_now ≡ (if is_of_device f then counted failed else failed)
-      → (honest → honest_now) → ((c : Class) → held_now c ≡ held c) → new ≡ old
-      → IsApplied held held_now honest honest_now asked asked_now failed failed_now old new e r
+      → HasStopped (is_of_tables f) (length (asked_at (after (position_at (marked old) steps) m))) (source.asked_of values) (source.asked_of values_now)
+      → source.failed_of values_now ≡ (if is_of_device f then counted (source.failed_of values) else source.failed_of values)
+      → (source.is_honest values → source.is_honest values_now) → ((c : Class) → source.held values_now c ≡ source.held values c) → new ≡ old
+      → IsApplied source values values_now old new e r
   insert-refused e steps m f (Ok x) is way refusal place counts failures stays tables same = absurd way
   insert-refused e steps m f (Err x) is way refusal place counts failures stays tables same =
       applied-as e (edits.Insert steps m) (Err x) is
-      (subst (λ y. IsApplied held held_now honest honest_now asked asked_now failed failed_now old new
+      (subst (λ y. IsApplied source values values_now old new
       (edits.Insert steps m) (Err y)) (sym way) (record {
         refusal =
             subst
             (λ p. MatchOption (insert_refusal (plain_study (marked old)) steps m)
-            (IsOutside held (asked_at (after p m)) f) (λ g. f ≡ g)) place
+            (IsOutside (source.held values) (asked_at (after p m)) f) (λ g. f ≡ g)) place
             (refused-so (insert_refusal (plain_study (marked old)) steps m)
-            (IsOutside held (asked_at (after (position_at (marked old) steps) m)) f) f ℕ refusal);
+            (IsOutside (source.held values) (asked_at (after (position_at (marked old) steps) m)) f) f ℕ refusal);
         accepted = tt;
         edit = tt;
         right = λ a b. tt;
         kept = tt;
         labels = tt;
-        counts = subst (λ p. HasStopped (is_of_tables f) (length (asked_at (after p m))) asked asked_now) place counts;
+        counts = subst (λ p. HasStopped (is_of_tables f) (length (asked_at (after p m))) (source.asked_of values) (source.asked_of values_now)) place counts;
         failures = failures;
         stays = stays;
         tables = tables;
@@ -78,27 +79,27 @@ module _ {A : Type 0} (held held_now : Class → Bool) (honest honest_now : Type
   pub insert-accepted : (e : Edit A) (steps : List ℕ) (m : Move) (k : ℕ) (P : Type 0) → e ≡ edits.Insert steps m
       → MatchOption (insert_refusal (plain_study (marked old)) steps m) P (λ g. (let x : Result ℕ (Refusal A) = Ok k in x) ≡ Err g)
       → position_at (marked old) steps ≡ position_at (plain_study (marked old)) steps
-      → AllHeld held (asked_at (after (position_at (marked old) steps) m))
+      → AllHeld (source.held values) (asked_at (after (position_at (marked old) steps) m))
       → plain_study (marked new) ≡ with_insertion (plain_study (marked old)) steps m
-      → (honest → IsKeptRight old → IsKeptRight new)
+      → (source.is_honest values → IsKeptRight old → IsKeptRight new)
       → ((told : Evaluation) × (evaluation_tree new.study.tree ≡ with_child (evaluation_tree old.study.tree) steps m told))
       → new.relabelled ≡ counted_up_by (length steps + 2) old.relabelled
-      → asked_now ≡ counted_up_by (length (asked_at (after (position_at (marked old) steps) m))) asked
-      → failed_now ≡ failed → (honest → honest_now) → ((c : Class) → held_now c ≡ held c)
-      → IsApplied held held_now honest honest_now asked asked_now failed failed_now old new e (Ok tt)
+      → source.asked_of values_now ≡ counted_up_by (length (asked_at (after (position_at (marked old) steps) m))) (source.asked_of values)
+      → source.failed_of values_now ≡ source.failed_of values → (source.is_honest values → source.is_honest values_now) → ((c : Class) → source.held values_now c ≡ source.held values c)
+      → IsApplied source values values_now old new e (Ok tt)
   insert-accepted e steps m k P is refusal place found edit right kept labels counts failures stays tables =
       applied-as e (edits.Insert steps m) (Ok tt) is (record {
         refusal = tt;
         accepted =
             record {
               allowed = not-refused (insert_refusal (plain_study (marked old)) steps m) P k refusal;
-              found = subst (λ p. AllHeld held (asked_at (after p m))) place found;
+              found = subst (λ p. AllHeld (source.held values) (asked_at (after p m))) place found;
             };
         edit = edit;
         right = right;
         kept = kept;
         labels = labels;
-        counts = subst (λ p. asked_now ≡ counted_up_by (length (asked_at (after p m))) asked) place counts;
+        counts = subst (λ p. source.asked_of values_now ≡ counted_up_by (length (asked_at (after p m))) (source.asked_of values)) place counts;
         failures = failures;
         stays = stays;
         tables = tables;
@@ -108,13 +109,13 @@ module _ {A : Type 0} (held held_now : Class → Bool) (honest honest_now : Type
   -- another start
   pub shift-applied : (e : Edit A) (start copied : Start) (r : Result (Unit {0}) (Refusal A)) → e ≡ edits.Shift start → copied ≡ start
       → OnOk r (first_illegal_from 0 copied.position (marked old).tree.below ≡ None)
-      → IfErr r (IsShiftRefusal held (positions_asked (with_start (plain_study (marked old)) copied)) (shift_refusal (plain_study (marked old)) copied))
-      → OnOk r (AllHeld held (positions_asked (with_start (plain_study (marked old)) copied)))
-      → OnOk r (plain_study (marked new) ≡ with_start (plain_study (marked old)) copied) → (honest → OnOk r (IsKeptRight new))
+      → IfErr r (IsShiftRefusal (source.held values) (positions_asked (with_start (plain_study (marked old)) copied)) (shift_refusal (plain_study (marked old)) copied))
+      → OnOk r (AllHeld (source.held values) (positions_asked (with_start (plain_study (marked old)) copied)))
+      → OnOk r (plain_study (marked new) ≡ with_start (plain_study (marked old)) copied) → (source.is_honest values → OnOk r (IsKeptRight new))
       → OnOk r (new.relabelled ≡ counted_up_by (size_of (marked old).tree) old.relabelled)
-      → HasAsked (length (positions_asked (with_start (plain_study (marked old)) copied))) r asked asked_now → failed_now ≡ failures_after r failed
-      → (honest → honest_now) → ((c : Class) → held_now c ≡ held c) → OnErr r (new ≡ old)
-      → IsApplied held held_now honest honest_now asked asked_now failed failed_now old new e r
+      → HasAsked (length (positions_asked (with_start (plain_study (marked old)) copied))) r (source.asked_of values) (source.asked_of values_now) → source.failed_of values_now ≡ failures_after r (source.failed_of values)
+      → (source.is_honest values → source.is_honest values_now) → ((c : Class) → source.held values_now c ≡ source.held values c) → OnErr r (new ≡ old)
+      → IsApplied source values values_now old new e r
   shift-applied e start copied r is e2 shift_broken_at refusal found edit right labels counts failures stays tables same =
       applied-as e (edits.Shift copied) r (is ∙ ap edits.Shift (sym e2)) (record {
         refusal = refusal;
@@ -132,8 +133,8 @@ module _ {A : Type 0} (held held_now : Class → Bool) (honest honest_now : Type
     where
       go : (r : Result (Unit {0}) (Refusal A))
           → OnOk r (first_illegal_from 0 copied.position (marked old).tree.below ≡ None)
-          → OnOk r (AllHeld held (positions_asked (with_start (plain_study (marked old)) copied)))
-          → OnOk r (IsAccepted {A = A} held (plain_study (marked old)) (edits.Shift copied))
+          → OnOk r (AllHeld (source.held values) (positions_asked (with_start (plain_study (marked old)) copied)))
+          → OnOk r (IsAccepted {A = A} (source.held values) (plain_study (marked old)) (edits.Shift copied))
       go (Ok x) h k = record { allowed = ap (broken {A = A}) (broken-marked old copied.position ∙ h); found = k }
       go (Err x) h k = tt
 
@@ -149,12 +150,12 @@ module _ {A : Type 0} (held held_now : Class → Bool) (honest honest_now : Type
 
   -- a new position, which only its values may refuse
   pub position-applied : (e : Edit A) (start copied : Start) (r : Result (Unit {0}) (Refusal A)) → e ≡ edits.Position start → copied ≡ start
-      → IfErr r (IsOutside held (asked_at copied.position)) → IfErr r (λ f. is_of_tables f ≡ true)
-      → OnOk r (AllHeld held (asked_at copied.position)) → OnOk r (plain_study (marked new) ≡ with_position (plain_study (marked old)) copied)
-      → (honest → OnOk r (IsKeptRight new)) → OnOk r (new.relabelled ≡ 1)
-      → HasAsked (length (asked_at copied.position)) r asked asked_now → failed_now ≡ failures_after r failed
-      → (honest → honest_now) → ((c : Class) → held_now c ≡ held c) → OnErr r (new ≡ old)
-      → IsApplied held held_now honest honest_now asked asked_now failed failed_now old new e r
+      → IfErr r (IsOutside (source.held values) (asked_at copied.position)) → IfErr r (λ f. is_of_tables f ≡ true)
+      → OnOk r (AllHeld (source.held values) (asked_at copied.position)) → OnOk r (plain_study (marked new) ≡ with_position (plain_study (marked old)) copied)
+      → (source.is_honest values → OnOk r (IsKeptRight new)) → OnOk r (new.relabelled ≡ 1)
+      → HasAsked (length (asked_at copied.position)) r (source.asked_of values) (source.asked_of values_now) → source.failed_of values_now ≡ failures_after r (source.failed_of values)
+      → (source.is_honest values → source.is_honest values_now) → ((c : Class) → source.held values_now c ≡ source.held values c) → OnErr r (new ≡ old)
+      → IsApplied source values values_now old new e r
   position-applied e start copied r is e2 refusal of_tables found edit right labels counts failures stays tables same =
       applied-as e (edits.Position copied) r (is ∙ ap edits.Position (sym e2)) (record {
         refusal = both r refusal of_tables;
@@ -174,13 +175,13 @@ module _ {A : Type 0} (held held_now : Class → Bool) (honest honest_now : Type
       anew (Ok x) = tt
       anew (Err x) = tt
 
-      both : (r : Result (Unit {0}) (Refusal A)) → IfErr r (IsOutside held (asked_at copied.position)) → IfErr r (λ f. is_of_tables f ≡ true)
-          → IfErr r (λ f. IsOutside held (asked_at copied.position) f × (is_of_tables f ≡ true))
+      both : (r : Result (Unit {0}) (Refusal A)) → IfErr r (IsOutside (source.held values) (asked_at copied.position)) → IfErr r (λ f. is_of_tables f ≡ true)
+          → IfErr r (λ f. IsOutside (source.held values) (asked_at copied.position) f × (is_of_tables f ≡ true))
       both (Ok x) h k = tt
       both (Err x) h k = (h, k)
 
-      go : (r : Result (Unit {0}) (Refusal A)) → OnOk r (AllHeld held (asked_at copied.position))
-          → OnOk r (IsAccepted {A = A} held (plain_study (marked old)) (edits.Position copied))
+      go : (r : Result (Unit {0}) (Refusal A)) → OnOk r (AllHeld (source.held values) (asked_at copied.position))
+          → OnOk r (IsAccepted {A = A} (source.held values) (plain_study (marked old)) (edits.Position copied))
       go (Ok x) h = record { allowed = refl; found = h }
       go (Err x) h = tt
 
@@ -189,8 +190,8 @@ module _ {A : Type 0} (held held_now : Class → Bool) (honest honest_now : Type
       → plain_study (marked new) ≡ with_stipulation (plain_study (marked old)) stipulation
       → (IsKeptRight old → IsKeptRight new) → evaluation_tree new.study.tree ≡ evaluation_tree old.study.tree
       → new.relabelled ≡ counted_up_by (size_of (marked old).tree) old.relabelled
-      → asked_now ≡ asked → failed_now ≡ failed → (honest → honest_now)
-      → ((c : Class) → held_now c ≡ held c) → IsApplied held held_now honest honest_now asked asked_now failed failed_now old new e (Ok tt)
+      → source.asked_of values_now ≡ source.asked_of values → source.failed_of values_now ≡ source.failed_of values → (source.is_honest values → source.is_honest values_now)
+      → ((c : Class) → source.held values_now c ≡ source.held values c) → IsApplied source values values_now old new e (Ok tt)
   stipulation-applied e stipulation is edit right kept labels counts failures stays tables =
       applied-as e (edits.Stipulate stipulation) (Ok tt) is (record {
         refusal = tt;

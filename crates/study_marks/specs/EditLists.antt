@@ -18,7 +18,7 @@ use Rattle.study_marks.specs.Queries.{is_of_tables, is_of_device, counted_up_by,
 use Rattle.study_marks.specs.Edits.{PlainStudy, with_start, edited, edit_refusal, insert_refusal, delete_refusal, promote_refusal, shift_refusal, tag_refusal}
 use Rattle.study_marks.specs.BenchState.{BenchState, marked, IsKeptRight, evaluation_tree}
 use Rattle.study_marks.specs.Answers.{TellsFirstFault}
-use Rattle.study_values.specs.Values.{ProbeAnswer}
+use Rattle.study_values.specs.Values.{ValueSource}
 use Rattle.study_values.specs.declared.fault.SourceFault.{SourceFault}
 
 module _ {A : Type 0} where
@@ -111,34 +111,31 @@ module _ {A : Type 0} where
   failures_stopped (Err s) old = if is_of_device s.refusal then counted old else old
 
   -- after n of the edits, the next is refused with the fault of the first value that could not be read, of the values in their state then
-  abbrev pub StopsAtFault : {V : Type 0} → (V → Position → ProbeAnswer → Type 0) → (V → Class → SourceFault → Type 0) → (V → ℕ) → V → PlainStudy → List (Edit A)
+  abbrev pub StopsAtFault : {V : Type 0} → ValueSource V → V → PlainStudy → List (Edit A)
       → ℕ → V → Refusal A → Type 0
-  StopsAtFault gives may_fail asked_of mid s [] n new r = ⊥
-  StopsAtFault gives may_fail asked_of mid s (e ∷ es) zero new r = TellsFirstFault gives may_fail asked_of mid (questions_of s e) new r
-  StopsAtFault gives may_fail asked_of mid s (e ∷ es) (suc n) new r = StopsAtFault gives may_fail asked_of mid (edited s e) es n new r
+  StopsAtFault source mid s [] n new r = ⊥
+  StopsAtFault source mid s (e ∷ es) zero new r = TellsFirstFault source mid (questions_of s e) new r
+  StopsAtFault source mid s (e ∷ es) (suc n) new r = StopsAtFault source mid (edited s e) es n new r
 
   -- the values of the accepted edits were probed, then those of the refused one, up to the first that could not be read
-  pub record TellsStop {V : Type 0} (gives : V → Position → ProbeAnswer → Type 0) (may_fail : V → Class → SourceFault → Type 0)
-      (asked_of : V → ℕ) (old new : V) (s : PlainStudy)
+  pub record TellsStop {V : Type 0} (source : ValueSource V) (old new : V) (s : PlainStudy)
       (es : List (Edit A)) (stop : Stopped A) : Type 0 where
     pub mid : V
-    pub asked : asked_of mid ≡ asked_after_edits s (take stop.done es) (asked_of old)
-    pub fails_as_before : (c : Class) (f : SourceFault) → may_fail mid c f → may_fail old c f
-    pub first : StopsAtFault gives may_fail asked_of mid s es stop.done new stop.refusal
+    pub asked : source.asked_of mid ≡ asked_after_edits s (take stop.done es) (source.asked_of old)
+    pub fails_as_before : (c : Class) (f : SourceFault) → source.may_fail mid c f → source.may_fail old c f
+    pub first : StopsAtFault source mid s es stop.done new stop.refusal
 
-  -- Not part of any public contract: the effect of one edit of a bench, with loaded tables, honest values, and the counts of
-  -- probes and of failures, before and after.
-  pub record IsApplied (held held_now : Class → Bool) (honest honest_now : Type 0)
-      (asked asked_now failed failed_now : ℕ) (old new : BenchState) (e : Edit A) (r : Result (Unit {0}) (Refusal A))
-      : Type 0 where
-    pub refusal : IfErr r (IsRefusalOf held (plain_study (marked old)) e)
-    pub accepted : OnOk r (IsAccepted held (plain_study (marked old)) e)
+  -- Not part of any public contract: the effect of one edit of a bench, with the values before and after.
+  pub record IsApplied {V : Type 0} (source : ValueSource V) (values values_now : V) (old new : BenchState) (e : Edit A)
+      (r : Result (Unit {0}) (Refusal A)) : Type 0 where
+    pub refusal : IfErr r (IsRefusalOf (source.held values) (plain_study (marked old)) e)
+    pub accepted : OnOk r (IsAccepted (source.held values) (plain_study (marked old)) e)
     pub edit : OnOk r (plain_study (marked new) ≡ edited (plain_study (marked old)) e)
-    pub right : honest → IsKeptRight old → OnOk r (IsKeptRight new)
+    pub right : source.is_honest values → IsKeptRight old → OnOk r (IsKeptRight new)
     pub kept : OnOk r (IsKeptAfter (evaluation_tree old.study.tree) e (evaluation_tree new.study.tree))
     pub labels : OnOk r (new.relabelled ≡ labels_after (plain_study (marked old)) e old.relabelled)
-    pub counts : HasAsked (length (questions_of (plain_study (marked old)) e)) r asked asked_now
-    pub failures : failed_now ≡ failures_after r failed
-    pub stays : honest → honest_now
-    pub tables : (c : Class) → held_now c ≡ held c
+    pub counts : HasAsked (length (questions_of (plain_study (marked old)) e)) r (source.asked_of values) (source.asked_of values_now)
+    pub failures : source.failed_of values_now ≡ failures_after r (source.failed_of values)
+    pub stays : source.is_honest values → source.is_honest values_now
+    pub tables : (c : Class) → source.held values_now c ≡ source.held values c
     pub same : OnErr r (new ≡ old)

@@ -49,24 +49,24 @@ impl<'a, A: Allocator> Bench<'a, A> {
         stipulation: Stipulation,
         values: &mut V,
     ) -> Result<Bench<'a, A>, Refusal<'a, A>>
-        ensures refusal { IfErr result (IsOutside (V.held values.old) (asked_at start.position)) }
+        ensures refusal { IfErr result (IsOutside (V.source.held values.old) (asked_at start.position)) }
         ensures takes_no_memory { IfErr result (λ e. is_of_tables e ≡ true) }
-        ensures no_damage { V.is_honest values.old → IfErr result IsUndamaged }
-        ensures first { IfErr result (TellsFirstFault V.gives V.may_fail V.asked_of values.old (asked_at start.position) values.new) }
-        ensures found { OnOk result (AllHeld (V.held values.old) (asked_at start.position)) }
+        ensures no_damage { V.source.is_honest values.old → IfErr result IsUndamaged }
+        ensures first { IfErr result (TellsFirstFault V.source values.old (asked_at start.position) values.new) }
+        ensures found { OnOk result (AllHeld (V.source.held values.old) (asked_at start.position)) }
         ensures made { IfOk result (λ b. plain_study (marked b) ≡ record {
           start = start;
           stipulation = stipulation;
           tags = None ∷ None ∷ None ∷ None ∷ None ∷ None ∷ [];
           tree = record { label = tt; below = none };
         }) }
-        ensures right { V.is_honest values.old → IfOk result IsKeptRight }
+        ensures right { V.source.is_honest values.old → IfOk result IsKeptRight }
         ensures relabelled { IfOk result (λ b. b.relabelled ≡ 1) }
-        ensures asked { HasAsked (length (asked_at start.position)) result (V.asked_of values.old) (V.asked_of values.new) }
-        ensures failures { V.failed_of values.new ≡ failures_after result (V.failed_of values.old) }
-        ensures honest { V.is_honest values.old → V.is_honest values.new }
-        ensures fails_as_before { (c : AClass) (f : ASourceFault) → V.may_fail values.new c f → V.may_fail values.old c f }
-        ensures tables { (c : AClass) → V.held values.new c ≡ V.held values.old c }
+        ensures asked { HasAsked (length (asked_at start.position)) result (V.source.asked_of values.old) (V.source.asked_of values.new) }
+        ensures failures { V.source.failed_of values.new ≡ failures_after result (V.source.failed_of values.old) }
+        ensures honest { V.source.is_honest values.old → V.source.is_honest values.new }
+        ensures fails_as_before { (c : AClass) (f : ASourceFault) → V.source.may_fail values.new c f → V.source.may_fail values.old c f }
+        ensures tables { (c : AClass) → V.source.held values.new c ≡ V.source.held values.old c }
     {
         let told = evaluate(&start.position, values)?;
         Ok(Bench {
@@ -84,19 +84,19 @@ impl<'a, A: Allocator> Bench<'a, A> {
         start: Start,
         values: &mut V,
     ) -> Result<(), Refusal<'a, A>>
-        ensures refusal { IfErr result (IsOutside (V.held values.old) (asked_at start.position)) }
+        ensures refusal { IfErr result (IsOutside (V.source.held values.old) (asked_at start.position)) }
         ensures takes_no_memory { IfErr result (λ e. is_of_tables e ≡ true) }
-        ensures no_damage { V.is_honest values.old → IfErr result IsUndamaged }
-        ensures first { IfErr result (TellsFirstFault V.gives V.may_fail V.asked_of values.old (asked_at start.position) values.new) }
-        ensures found { OnOk result (AllHeld (V.held values.old) (asked_at start.position)) }
+        ensures no_damage { V.source.is_honest values.old → IfErr result IsUndamaged }
+        ensures first { IfErr result (TellsFirstFault V.source values.old (asked_at start.position) values.new) }
+        ensures found { OnOk result (AllHeld (V.source.held values.old) (asked_at start.position)) }
         ensures edited { OnOk result (plain_study (marked self.new) ≡ with_position (plain_study (marked self.old)) start) }
-        ensures right { V.is_honest values.old → OnOk result (IsKeptRight self.new) }
+        ensures right { V.source.is_honest values.old → OnOk result (IsKeptRight self.new) }
         ensures relabelled { OnOk result (self.new.relabelled ≡ 1) }
-        ensures asked { HasAsked (length (asked_at start.position)) result (V.asked_of values.old) (V.asked_of values.new) }
-        ensures failures { V.failed_of values.new ≡ failures_after result (V.failed_of values.old) }
-        ensures honest { V.is_honest values.old → V.is_honest values.new }
-        ensures fails_as_before { (c : AClass) (f : ASourceFault) → V.may_fail values.new c f → V.may_fail values.old c f }
-        ensures tables { (c : AClass) → V.held values.new c ≡ V.held values.old c }
+        ensures asked { HasAsked (length (asked_at start.position)) result (V.source.asked_of values.old) (V.source.asked_of values.new) }
+        ensures failures { V.source.failed_of values.new ≡ failures_after result (V.source.failed_of values.old) }
+        ensures honest { V.source.is_honest values.old → V.source.is_honest values.new }
+        ensures fails_as_before { (c : AClass) (f : ASourceFault) → V.source.may_fail values.new c f → V.source.may_fail values.old c f }
+        ensures tables { (c : AClass) → V.source.held values.new c ≡ V.source.held values.old c }
         ensures same { OnErr result (self.new ≡ self.old) }
     {
         let told = evaluate(&start.position, values)?;
@@ -112,21 +112,21 @@ impl<'a, A: Allocator> Bench<'a, A> {
         values: &mut V,
     ) -> Result<(), Refusal<'a, A>>
         ensures broken { OnOk result (first_illegal_from 0 start.position (marked self.old).tree.below ≡ None) }
-        ensures refusal { IfErr result (IsShiftRefusal (V.held values.old) (positions_asked (with_start (plain_study (marked self.old)) start))
+        ensures refusal { IfErr result (IsShiftRefusal (V.source.held values.old) (positions_asked (with_start (plain_study (marked self.old)) start))
             (shift_refusal (plain_study (marked self.old)) start)) }
         ensures edited { OnOk result (plain_study (marked self.new) ≡ with_start (plain_study (marked self.old)) start) }
-        ensures right { V.is_honest values.old → OnOk result (IsKeptRight self.new) }
+        ensures right { V.source.is_honest values.old → OnOk result (IsKeptRight self.new) }
         ensures relabelled { OnOk result (self.new.relabelled ≡ counted_up_by (size_of (marked self.old).tree) self.old.relabelled) }
-        ensures no_damage { V.is_honest values.old → IfErr result IsUndamaged }
-        ensures first { IfErr result (TellsFirstFault V.gives V.may_fail V.asked_of values.old
+        ensures no_damage { V.source.is_honest values.old → IfErr result IsUndamaged }
+        ensures first { IfErr result (TellsFirstFault V.source values.old
             (positions_asked (with_start (plain_study (marked self.old)) start)) values.new) }
-        ensures found { OnOk result (AllHeld (V.held values.old) (positions_asked (with_start (plain_study (marked self.old)) start))) }
+        ensures found { OnOk result (AllHeld (V.source.held values.old) (positions_asked (with_start (plain_study (marked self.old)) start))) }
         ensures asked { HasAsked (length (positions_asked (with_start (plain_study (marked self.old)) start))) result
-            (V.asked_of values.old) (V.asked_of values.new) }
-        ensures failures { V.failed_of values.new ≡ failures_after result (V.failed_of values.old) }
-        ensures honest { V.is_honest values.old → V.is_honest values.new }
-        ensures fails_as_before { (c : AClass) (f : ASourceFault) → V.may_fail values.new c f → V.may_fail values.old c f }
-        ensures tables { (c : AClass) → V.held values.new c ≡ V.held values.old c }
+            (V.source.asked_of values.old) (V.source.asked_of values.new) }
+        ensures failures { V.source.failed_of values.new ≡ failures_after result (V.source.failed_of values.old) }
+        ensures honest { V.source.is_honest values.old → V.source.is_honest values.new }
+        ensures fails_as_before { (c : AClass) (f : ASourceFault) → V.source.may_fail values.new c f → V.source.may_fail values.old c f }
+        ensures tables { (c : AClass) → V.source.held values.new c ≡ V.source.held values.old c }
         ensures same { OnErr result (self.new ≡ self.old) }
     {
         let mut steps = ArrayVec::new();
@@ -144,22 +144,23 @@ impl<'a, A: Allocator> Bench<'a, A> {
         values: &mut V,
     ) -> Result<u16, Refusal<'a, A>>
         ensures refusal { MatchOption (insert_refusal (plain_study (marked self.old)) path.now m)
-            (IfErr result (IsOutside (V.held values.old) (asked_at (after (position_at (marked self.old) path.now) m))))
+            (IfErr result (IsOutside (V.source.held values.old) (asked_at (after (position_at (marked self.old) path.now) m))))
             (λ fault. result ≡ Err fault) }
-        ensures no_damage { V.is_honest values.old → IfErr result IsUndamaged }
-        ensures first { IfErr result (TellsFirstFault V.gives V.may_fail V.asked_of values.old
+        ensures no_damage { V.source.is_honest values.old → IfErr result IsUndamaged }
+        ensures first { IfErr result (TellsFirstFault V.source values.old
             (asked_at (after (position_at (marked self.old) path.now) m)) values.new) }
-        ensures found { OnOk result (AllHeld (V.held values.old) (asked_at (after (position_at (marked self.old) path.now) m))) }
+        ensures found { OnOk result (AllHeld (V.source.held values.old) (asked_at (after (position_at (marked self.old) path.now) m))) }
         ensures edited { OnOk result (plain_study (marked self.new) ≡ with_insertion (plain_study (marked self.old)) path.now m) }
         ensures kept { OnOk result ((told : ATold) × (evaluation_tree self.new.study.tree ≡ with_child (evaluation_tree self.old.study.tree) path.now m told)) }
         ensures place { IfOk result (λ k. k ≡ children_at (marked self.old).tree.below path.now) }
-        ensures right { V.is_honest values.old → IsKeptRight self.old → OnOk result (IsKeptRight self.new) }
+        ensures right { V.source.is_honest values.old → IsKeptRight self.old → OnOk result (IsKeptRight self.new) }
         ensures relabelled { OnOk result (self.new.relabelled ≡ counted_up_by (length path.now + 2) self.old.relabelled) }
-        ensures asked { HasAsked (length (asked_at (after (position_at (marked self.old) path.now) m))) result (V.asked_of values.old) (V.asked_of values.new) }
-        ensures failures { V.failed_of values.new ≡ failures_after result (V.failed_of values.old) }
-        ensures honest { V.is_honest values.old → V.is_honest values.new }
-        ensures fails_as_before { (c : AClass) (f : ASourceFault) → V.may_fail values.new c f → V.may_fail values.old c f }
-        ensures tables { (c : AClass) → V.held values.new c ≡ V.held values.old c }
+        ensures asked { HasAsked (length (asked_at (after (position_at (marked self.old) path.now) m))) result (V.source.asked_of values.old)
+            (V.source.asked_of values.new) }
+        ensures failures { V.source.failed_of values.new ≡ failures_after result (V.source.failed_of values.old) }
+        ensures honest { V.source.is_honest values.old → V.source.is_honest values.new }
+        ensures fails_as_before { (c : AClass) (f : ASourceFault) → V.source.may_fail values.new c f → V.source.may_fail values.old c f }
+        ensures tables { (c : AClass) → V.source.held values.new c ≡ V.source.held values.old c }
         ensures same { OnErr result (self.new ≡ self.old) }
     {
         let steps = path.steps();
@@ -236,18 +237,18 @@ impl<'a, A: Allocator> Bench<'a, A> {
 
     /// Probes every value anew.
     pub fn reannotate<V: Values>(&mut self, values: &mut V) -> Result<(), Refusal<'a, A>>
-        ensures refusal { IfErr result (IsOutside (V.held values.old) (positions_asked (marked self.old))) }
+        ensures refusal { IfErr result (IsOutside (V.source.held values.old) (positions_asked (marked self.old))) }
         ensures study { OnOk result (plain_study (marked self.new) ≡ plain_study (marked self.old)) }
-        ensures right { V.is_honest values.old → OnOk result (IsKeptRight self.new) }
+        ensures right { V.source.is_honest values.old → OnOk result (IsKeptRight self.new) }
         ensures relabelled { OnOk result (self.new.relabelled ≡ counted_up_by (size_of (marked self.old).tree) self.old.relabelled) }
-        ensures no_damage { V.is_honest values.old → IfErr result IsUndamaged }
-        ensures first { IfErr result (TellsFirstFault V.gives V.may_fail V.asked_of values.old (positions_asked (marked self.old)) values.new) }
-        ensures found { OnOk result (AllHeld (V.held values.old) (positions_asked (marked self.old))) }
-        ensures asked { HasAsked (length (positions_asked (marked self.old))) result (V.asked_of values.old) (V.asked_of values.new) }
-        ensures failures { V.failed_of values.new ≡ failures_after result (V.failed_of values.old) }
-        ensures honest { V.is_honest values.old → V.is_honest values.new }
-        ensures fails_as_before { (c : AClass) (f : ASourceFault) → V.may_fail values.new c f → V.may_fail values.old c f }
-        ensures tables { (c : AClass) → V.held values.new c ≡ V.held values.old c }
+        ensures no_damage { V.source.is_honest values.old → IfErr result IsUndamaged }
+        ensures first { IfErr result (TellsFirstFault V.source values.old (positions_asked (marked self.old)) values.new) }
+        ensures found { OnOk result (AllHeld (V.source.held values.old) (positions_asked (marked self.old))) }
+        ensures asked { HasAsked (length (positions_asked (marked self.old))) result (V.source.asked_of values.old) (V.source.asked_of values.new) }
+        ensures failures { V.source.failed_of values.new ≡ failures_after result (V.source.failed_of values.old) }
+        ensures honest { V.source.is_honest values.old → V.source.is_honest values.new }
+        ensures fails_as_before { (c : AClass) (f : ASourceFault) → V.source.may_fail values.new c f → V.source.may_fail values.old c f }
+        ensures tables { (c : AClass) → V.source.held values.new c ≡ V.source.held values.old c }
         ensures same { OnErr result (self.new ≡ self.old) }
     {
         let start = self.start.copied();
@@ -260,19 +261,19 @@ impl<'a, A: Allocator> Bench<'a, A> {
         edits: &[Edit<'a, A>],
         values: &mut V,
     ) -> Result<(), Stopped<'a, A>>
-        ensures stopped { IfErr result (λ s. IsStopped (V.held values.old) (plain_study (marked self.old)) edits.now s.done s.refusal) }
-        ensures no_damage { V.is_honest values.old → IfErr result (λ s. IsUndamaged s.refusal) }
-        ensures first { IfErr result (TellsStop V.gives V.may_fail V.asked_of values.old values.new (plain_study (marked self.old)) edits.now) }
-        ensures accepted { AreAccepted (V.held values.old) (plain_study (marked self.old)) (accepted_of result edits.now) }
+        ensures stopped { IfErr result (λ s. IsStopped (V.source.held values.old) (plain_study (marked self.old)) edits.now s.done s.refusal) }
+        ensures no_damage { V.source.is_honest values.old → IfErr result (λ s. IsUndamaged s.refusal) }
+        ensures first { IfErr result (TellsStop V.source values.old values.new (plain_study (marked self.old)) edits.now) }
+        ensures accepted { AreAccepted (V.source.held values.old) (plain_study (marked self.old)) (accepted_of result edits.now) }
         ensures edited { plain_study (marked self.new) ≡ edited_by (plain_study (marked self.old)) (accepted_of result edits.now) }
         ensures kept { AreKeptAfter (evaluation_tree self.old.study.tree) (accepted_of result edits.now) (evaluation_tree self.new.study.tree) }
-        ensures right { V.is_honest values.old → IsKeptRight self.old → IsKeptRight self.new }
+        ensures right { V.source.is_honest values.old → IsKeptRight self.old → IsKeptRight self.new }
         ensures relabelled { self.new.relabelled ≡ labels_by (plain_study (marked self.old)) (accepted_of result edits.now) self.old.relabelled }
-        ensures asked { HasAskedBy (plain_study (marked self.old)) edits.now result (V.asked_of values.old) (V.asked_of values.new) }
-        ensures failures { V.failed_of values.new ≡ failures_stopped result (V.failed_of values.old) }
-        ensures honest { V.is_honest values.old → V.is_honest values.new }
-        ensures fails_as_before { (c : AClass) (f : ASourceFault) → V.may_fail values.new c f → V.may_fail values.old c f }
-        ensures tables { (c : AClass) → V.held values.new c ≡ V.held values.old c }
+        ensures asked { HasAskedBy (plain_study (marked self.old)) edits.now result (V.source.asked_of values.old) (V.source.asked_of values.new) }
+        ensures failures { V.source.failed_of values.new ≡ failures_stopped result (V.source.failed_of values.old) }
+        ensures honest { V.source.is_honest values.old → V.source.is_honest values.new }
+        ensures fails_as_before { (c : AClass) (f : ASourceFault) → V.source.may_fail values.new c f → V.source.may_fail values.old c f }
+        ensures tables { (c : AClass) → V.source.held values.new c ≡ V.source.held values.old c }
         ensures same { accepted_of result edits.now ≡ [] → self.new ≡ self.old }
     {
         let mut done = 0;
@@ -306,20 +307,20 @@ impl<'a, A: Allocator> Bench<'a, A> {
     /// Sets another start, from which each move of the tree is legal, and keeps the tree: probes every value, then writes all labels.
     fn annotate<V: Values>(&mut self, start: Start, values: &mut V) -> Result<(), Refusal<'a, A>>
         requires playable { IsPlayable start.position self.old.study.tree.below }
-        ensures refusal { IfErr result (IsOutside (V.held values.old) (positions_asked (with_start (plain_study (marked self.old)) start))) }
-        ensures no_damage { V.is_honest values.old → IfErr result IsUndamaged }
-        ensures first { IfErr result (TellsFirstFault V.gives V.may_fail V.asked_of values.old
+        ensures refusal { IfErr result (IsOutside (V.source.held values.old) (positions_asked (with_start (plain_study (marked self.old)) start))) }
+        ensures no_damage { V.source.is_honest values.old → IfErr result IsUndamaged }
+        ensures first { IfErr result (TellsFirstFault V.source values.old
             (positions_asked (with_start (plain_study (marked self.old)) start)) values.new) }
-        ensures found { OnOk result (AllHeld (V.held values.old) (positions_asked (with_start (plain_study (marked self.old)) start))) }
+        ensures found { OnOk result (AllHeld (V.source.held values.old) (positions_asked (with_start (plain_study (marked self.old)) start))) }
         ensures edited { OnOk result (plain_study (marked self.new) ≡ with_start (plain_study (marked self.old)) start) }
-        ensures right { V.is_honest values.old → OnOk result (IsKeptRight self.new) }
+        ensures right { V.source.is_honest values.old → OnOk result (IsKeptRight self.new) }
         ensures relabelled { OnOk result (self.new.relabelled ≡ counted_up_by (size_of (marked self.old).tree) self.old.relabelled) }
         ensures asked { HasAsked (length (positions_asked (with_start (plain_study (marked self.old)) start))) result
-            (V.asked_of values.old) (V.asked_of values.new) }
-        ensures failures { V.failed_of values.new ≡ failures_after result (V.failed_of values.old) }
-        ensures honest { V.is_honest values.old → V.is_honest values.new }
-        ensures fails_as_before { (c : AClass) (f : ASourceFault) → V.may_fail values.new c f → V.may_fail values.old c f }
-        ensures tables { (c : AClass) → V.held values.new c ≡ V.held values.old c }
+            (V.source.asked_of values.old) (V.source.asked_of values.new) }
+        ensures failures { V.source.failed_of values.new ≡ failures_after result (V.source.failed_of values.old) }
+        ensures honest { V.source.is_honest values.old → V.source.is_honest values.new }
+        ensures fails_as_before { (c : AClass) (f : ASourceFault) → V.source.may_fail values.new c f → V.source.may_fail values.old c f }
+        ensures tables { (c : AClass) → V.source.held values.new c ≡ V.source.held values.old c }
         ensures same { OnErr result (self.new ≡ self.old) }
     {
         let all = evaluate_all(self.alloc, &self.tree, &start.position, values)?;
@@ -331,12 +332,10 @@ impl<'a, A: Allocator> Bench<'a, A> {
 
     /// Applies one edit.
     fn apply<V: Values>(&mut self, edit: &Edit<'a, A>, values: &mut V) -> Result<(), Refusal<'a, A>>
-        ensures applied { IsApplied (V.held values.old) (V.held values.new) (V.is_honest values.old) (V.is_honest values.new)
-            (V.asked_of values.old) (V.asked_of values.new) (V.failed_of values.old) (V.failed_of values.new)
-            self.old self.new edit.now result }
-        ensures fails_as_before { (c : AClass) (f : ASourceFault) → V.may_fail values.new c f → V.may_fail values.old c f }
-        ensures no_damage { V.is_honest values.old → IfErr result IsUndamaged }
-        ensures first { IfErr result (TellsFirstFault V.gives V.may_fail V.asked_of values.old
+        ensures applied { IsApplied V.source values.old values.new self.old self.new edit.now result }
+        ensures fails_as_before { (c : AClass) (f : ASourceFault) → V.source.may_fail values.new c f → V.source.may_fail values.old c f }
+        ensures no_damage { V.source.is_honest values.old → IfErr result IsUndamaged }
+        ensures first { IfErr result (TellsFirstFault V.source values.old
             (questions_of (plain_study (marked self.old)) edit.now) values.new) }
     {
         match edit {

@@ -34,19 +34,19 @@ impl<'a, A: Allocator> Bench<'a, A> {
         values: &mut V,
     ) -> Result<Mark, Refusal<'a, A>>
         ensures refusal { MatchOption (trial_refusal (plain_study (marked self.now)) path.now m)
-            (IfErr result (IsOutside (V.held values.old) (after (position_at (marked self.now) path.now) m ∷ [])))
+            (IfErr result (IsOutside (V.source.held values.old) (after (position_at (marked self.now) path.now) m ∷ [])))
             (λ fault. result ≡ Err fault) }
         ensures takes_no_memory { IsErrOf result Refusal.OutOfMemory → ⊥ }
-        ensures no_damage { V.is_honest values.old → IfErr result IsUndamaged }
-        ensures first { IfErr result (TellsFirstFault V.gives V.may_fail V.asked_of values.old
+        ensures no_damage { V.source.is_honest values.old → IfErr result IsUndamaged }
+        ensures first { IfErr result (TellsFirstFault V.source values.old
             (after (position_at (marked self.now) path.now) m ∷ []) values.new) }
-        ensures found { OnOk result (AllHeld (V.held values.old) (after (position_at (marked self.now) path.now) m ∷ [])) }
-        ensures mark { V.is_honest values.old → IsKeptRight self.now → IfOk result (IsMarkOf (marked self.now) path.now m) }
-        ensures asked { HasAsked 1 result (V.asked_of values.old) (V.asked_of values.new) }
-        ensures failures { V.failed_of values.new ≡ failures_after result (V.failed_of values.old) }
-        ensures honest { V.is_honest values.old → V.is_honest values.new }
-        ensures fails_as_before { (c : AClass) (f : ASourceFault) → V.may_fail values.new c f → V.may_fail values.old c f }
-        ensures tables { (c : AClass) → V.held values.new c ≡ V.held values.old c }
+        ensures found { OnOk result (AllHeld (V.source.held values.old) (after (position_at (marked self.now) path.now) m ∷ [])) }
+        ensures mark { V.source.is_honest values.old → IsKeptRight self.now → IfOk result (IsMarkOf (marked self.now) path.now m) }
+        ensures asked { HasAsked 1 result (V.source.asked_of values.old) (V.source.asked_of values.new) }
+        ensures failures { V.source.failed_of values.new ≡ failures_after result (V.source.failed_of values.old) }
+        ensures honest { V.source.is_honest values.old → V.source.is_honest values.new }
+        ensures fails_as_before { (c : AClass) (f : ASourceFault) → V.source.may_fail values.new c f → V.source.may_fail values.old c f }
+        ensures tables { (c : AClass) → V.source.held values.new c ≡ V.source.held values.old c }
     {
         let steps = path.steps();
         let before = self.check_move(steps, &m)?;

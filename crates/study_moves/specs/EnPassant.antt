@@ -7,7 +7,8 @@ use Rattle.study_moves.specs.Rules.{is_en_passant, is_legal}
 -- some man captures on this passed square by a legal move
 abbrev pub is_capturable_en_passant : Position → Option ℕ → Bool
 is_capturable_en_passant p None = false
-is_capturable_en_passant p (Some x) = list_any (λ man. is_en_passant p.passed man x && is_legal p (record { origin = man.at; target = x; promoted = None })) p.men
+is_capturable_en_passant p (Some x) = list_any
+    (λ man. is_en_passant p.passed man x && is_legal p (record { origin = man.at; target = x; promoted = None })) p.men
 
 abbrev pub has_legal_en_passant : Position → Bool
 has_legal_en_passant p = is_capturable_en_passant p p.passed

@@ -173,10 +173,9 @@ fn record_of<'a, 'b, A: Allocator, B: Allocator, V: Values>(
     values: &mut V,
     number: u32,
 ) -> Result<Text<'a, A>, TextFault>
-    ensures text { V.is_honest values.old → IfOk result (λ text. IsRecord (marked bench.now) number text) }
+    ensures text { V.source.is_honest values.old → IfOk result (λ text. IsRecord (marked bench.now) number text) }
     ensures form { IfOk result (λ text. IsSomeRecord number text) }
-    ensures asked { HasAsked V.held (within (marked bench.now).start.position V.gives)
-        V.may_fail V.asked_of V.failed_of V.is_honest values.old result values.new }
+    ensures asked { HasAsked (within (marked bench.now).start.position V.source) values.old result values.new }
 {
     let mut text = Text::new(alloc);
     let parts = parts_of(alloc, bench, values)?;
@@ -203,15 +202,14 @@ pub fn write_record<'a, 'b, A: Allocator, B: Allocator, V: Values, W: Write>(
     number: u32,
     out: &mut W,
 ) -> Result<(), ReviewFault>
-    ensures plain { V.is_honest values.old → IsKeptRight bench.now → OnOk result ((text : List ℕ)
+    ensures plain { V.source.is_honest values.old → IsKeptRight bench.now → OnOk result ((text : List ℕ)
         × IsRecordOf (plain_study (marked bench.now)) number text × Appends (W.contents out.old) (W.contents out.new) text) }
     ensures form { OnOk result ((text : List ℕ) × IsSomeRecord number text × Appends (W.contents out.old) (W.contents out.new) text) }
-    ensures device { V.is_honest values.old → IsKeptRight bench.now → result ≡ Err ReviewFault.Device → (text : List ℕ)
+    ensures device { V.source.is_honest values.old → IsKeptRight bench.now → result ≡ Err ReviewFault.Device → (text : List ℕ)
         × IsRecordOf (plain_study (marked bench.now)) number text × TakesPrefix (W.contents out.old) (W.contents out.new) text }
     ensures memory { result ≡ Err ReviewFault.OutOfMemory → out.new ≡ out.old }
     ensures untold { (fault : AProbeFault) → result ≡ Err (ReviewFault.Values fault) → out.new ≡ out.old }
-    ensures asked { HasReviewed V.held (within (marked bench.now).start.position V.gives)
-        V.may_fail V.asked_of V.failed_of V.is_honest values.old result values.new }
+    ensures asked { HasReviewed (within (marked bench.now).start.position V.source) values.old result values.new }
 {
     let text = record_of(alloc, bench, values, number)?;
     write_text(out, text.as_slice())?;

@@ -36,12 +36,11 @@ pub fn parts_of<'a, 'b, A: Allocator, B: Allocator, V: Values>(
     bench: &Bench<'b, B>,
     values: &mut V,
 ) -> Result<Sections<'a, A>, TextFault>
-    ensures text { V.is_honest values.old → IfOk result (λ p. AreRows FaultItems (marked bench.now) p.faults
+    ensures text { V.source.is_honest values.old → IfOk result (λ p. AreRows FaultItems (marked bench.now) p.faults
         × AreTimeFaults (marked bench.now) p.time_faults × AreRows Cards (marked bench.now) p.duals
         × AreRows TryRows (marked bench.now) p.tries × AreRows ZugzwangRows (marked bench.now) p.zugzwangs
         × AreRows DefenceRows (marked bench.now) p.defences × AreRows EndRows (marked bench.now) p.ends) }
-    ensures asked { HasAsked V.held (within (marked bench.now).start.position V.gives)
-        V.may_fail V.asked_of V.failed_of V.is_honest values.old result values.new }
+    ensures asked { HasAsked (within (marked bench.now).start.position V.source) values.old result values.new }
 {
     // (the study has at most 4,096 nodes)
     let _size = bench.size();
@@ -335,12 +334,11 @@ fn entry_of<'a, 's, 'b, A: Allocator, S: Allocator, B: Allocator, V: Values>(
     number: u32,
     list: &Listed<'_, 's, S>,
 ) -> Result<Entry<'a, 's, A, S>, TextFault>
-    ensures text { V.is_honest values.old → IfOk result (λ entry. IsPage (marked bench.now) number entry.page) }
-    ensures rows { V.is_honest values.old → IfOk result (λ entry. (row : List ℕ) × IsRow (marked bench.now) number row
+    ensures text { V.source.is_honest values.old → IfOk result (λ entry. IsPage (marked bench.now) number entry.page) }
+    ensures rows { V.source.is_honest values.old → IfOk result (λ entry. (row : List ℕ) × IsRow (marked bench.now) number row
         × (entry.rows ≡ list.now.rows.now ++ row)) }
     ensures entry { IfOk result (λ entry. IsEntry number entry.page) }
-    ensures asked { HasAsked V.held (within (marked bench.now).start.position V.gives)
-        V.may_fail V.asked_of V.failed_of V.is_honest values.old result values.new }
+    ensures asked { HasAsked (within (marked bench.now).start.position V.source) values.old result values.new }
 {
     let mut page = Html::new(alloc);
     let mut content = Html::new(alloc);
@@ -366,20 +364,19 @@ pub fn write_page<'a, 's, 'b, A: Allocator, S: Allocator, B: Allocator, V: Value
     list: Listed<'_, 's, S>,
     out: &mut W,
 ) -> Result<Html<'s, S>, ReviewFault>
-    ensures ok { V.is_honest values.old → OnOk result ((text : List ℕ) × IsPage (marked bench.now) number text
+    ensures ok { V.source.is_honest values.old → OnOk result ((text : List ℕ) × IsPage (marked bench.now) number text
         × Appends (W.contents out.old) (W.contents out.new) text) }
-    ensures plain { V.is_honest values.old → IsKeptRight bench.now → OnOk result ((text : List ℕ)
+    ensures plain { V.source.is_honest values.old → IsKeptRight bench.now → OnOk result ((text : List ℕ)
         × IsPageOf (plain_study (marked bench.now)) number text × Appends (W.contents out.old) (W.contents out.new) text) }
-    ensures rows { V.is_honest values.old → IfOk result (λ rows. (row : List ℕ) × IsRow (marked bench.now) number row
+    ensures rows { V.source.is_honest values.old → IfOk result (λ rows. (row : List ℕ) × IsRow (marked bench.now) number row
         × (rows ≡ list.entry.rows.now ++ row)) }
     ensures entry { OnOk result ((text : List ℕ) × IsEntry number text × Appends (W.contents out.old) (W.contents out.new) text) }
     ensures nested { OnOk result ((text : List ℕ) × IsWellNested text × Appends (W.contents out.old) (W.contents out.new) text) }
-    ensures device { V.is_honest values.old → result ≡ Err ReviewFault.Device → (text : List ℕ) × IsPage (marked bench.now) number text
+    ensures device { V.source.is_honest values.old → result ≡ Err ReviewFault.Device → (text : List ℕ) × IsPage (marked bench.now) number text
         × TakesPrefix (W.contents out.old) (W.contents out.new) text }
     ensures memory { result ≡ Err ReviewFault.OutOfMemory → out.new ≡ out.old }
     ensures untold { (fault : AProbeFault) → result ≡ Err (ReviewFault.Values fault) → out.new ≡ out.old }
-    ensures asked { HasReviewed V.held (within (marked bench.now).start.position V.gives)
-        V.may_fail V.asked_of V.failed_of V.is_honest values.old result values.new }
+    ensures asked { HasReviewed (within (marked bench.now).start.position V.source) values.old result values.new }
 {
     let entry = entry_of(alloc, bench, values, number, &list)?;
     write_text(out, entry.page.as_slice())?;

@@ -118,19 +118,19 @@ fn add_dual<'a, A: Allocator, V: Values>(
 ) -> Result<(), TextFault>
     requires depth { made.now.before.depth + 1 < 2 ^ 64 }
     requires legal { is_legal made.now.before.position made.now.played ≡ true }
-    ensures faults { V.is_honest values.old → OnOk result (Grew (EmptyUnless dual.listed (IsFaultOf start.now made.now.before.aim
+    ensures faults { V.source.is_honest values.old → OnOk result (Grew (EmptyUnless dual.listed (IsFaultOf start.now made.now.before.aim
         made.now.before.depth made.now.before.line.items made.now.before.position made.now.played dual.value (Some (MoveMark.Dual dual.others))))
         parts.old.faults parts.new.faults) }
-    ensures time { V.is_honest values.old → OnOk result (Rose (CountWhere dual.listed (IsTimeDual made.now.before.aim made.now.before.depth
+    ensures time { V.source.is_honest values.old → OnOk result (Rose (CountWhere dual.listed (IsTimeDual made.now.before.aim made.now.before.depth
         made.now.before.line.items made.now.before.position made.now.played)) parts.old.time_faults parts.new.time_faults) }
-    ensures duals { V.is_honest values.old → OnOk result (Grew (IsCardOf start.now made.now.before.aim made.now.before.depth
+    ensures duals { V.source.is_honest values.old → OnOk result (Grew (IsCardOf start.now made.now.before.aim made.now.before.depth
         made.now.before.line.items made.now.before.position made.now.played dual.value (Some (MoveMark.Dual dual.others)))
         parts.old.duals parts.new.duals) }
     ensures tries { parts.new.tries ≡ parts.old.tries }
     ensures zugzwangs { parts.new.zugzwangs ≡ parts.old.zugzwangs }
     ensures defences { parts.new.defences ≡ parts.old.defences }
     ensures ends { parts.new.ends ≡ parts.old.ends }
-    ensures asked { HasAsked V.held (within made.now.before.position V.gives) V.may_fail V.asked_of V.failed_of V.is_honest values.old result values.new }
+    ensures asked { HasAsked (within made.now.before.position V.source) values.old result values.new }
 {
     match timed_alternatives(&made.before, made.played, values) {
         Err(fault) => Err(TextFault::Untold(fault)),
@@ -182,15 +182,14 @@ pub fn add_move<'a, 'b, A: Allocator, B: Allocator, V: Values>(
     made: &mut MoveContext,
     values: &mut V,
 ) -> Result<(), TextFault>
-    ensures faults { V.is_honest values.old → OnOk result (Grew (FaultItems (marked bench.now) steps.now) parts.old.faults parts.new.faults) }
-    ensures time { V.is_honest values.old → OnOk result (Rose (IsTimeFault (marked bench.now) steps.now) parts.old.time_faults parts.new.time_faults) }
-    ensures duals { V.is_honest values.old → OnOk result (Grew (Cards (marked bench.now) steps.now) parts.old.duals parts.new.duals) }
+    ensures faults { V.source.is_honest values.old → OnOk result (Grew (FaultItems (marked bench.now) steps.now) parts.old.faults parts.new.faults) }
+    ensures time { V.source.is_honest values.old → OnOk result (Rose (IsTimeFault (marked bench.now) steps.now) parts.old.time_faults parts.new.time_faults) }
+    ensures duals { V.source.is_honest values.old → OnOk result (Grew (Cards (marked bench.now) steps.now) parts.old.duals parts.new.duals) }
     ensures tries { parts.new.tries ≡ parts.old.tries }
     ensures zugzwangs { parts.new.zugzwangs ≡ parts.old.zugzwangs }
     ensures defences { parts.new.defences ≡ parts.old.defences }
     ensures ends { parts.new.ends ≡ parts.old.ends }
-    ensures asked { HasAsked V.held (within (marked bench.now).start.position V.gives)
-        V.may_fail V.asked_of V.failed_of V.is_honest values.old result values.new }
+    ensures asked { HasAsked (within (marked bench.now).start.position V.source) values.old result values.new }
 {
     let first = bench.start();
     let value = value_at(bench, steps);
@@ -255,8 +254,8 @@ fn add_try<'a, 'b, A: Allocator, B: Allocator, V: Values>(
     values: &mut V,
 ) -> Result<(), TextFault>
     requires { IsPlaceOf (marked bench.now) steps.now place.now }
-    ensures text { V.is_honest values.old → OnOk result (Grew (TryRows (marked bench.now) steps.now) html.old html.new) }
-    ensures asked { HasAsked V.held (within place.now.position V.gives) V.may_fail V.asked_of V.failed_of V.is_honest values.old result values.new }
+    ensures text { V.source.is_honest values.old → OnOk result (Grew (TryRows (marked bench.now) steps.now) html.old html.new) }
+    ensures asked { HasAsked (within place.now.position V.source) values.old result values.new }
 {
     if !is_try(bench, steps) {
         return Ok(());
@@ -304,8 +303,8 @@ fn add_defences<'a, 'b, A: Allocator, B: Allocator, V: Values>(
 ) -> Result<(), TextFault>
     requires found { IsTrue (has_spot (marked bench.now).tree steps.now) }
     requires place { IsPlaceOf (marked bench.now) steps.now place.now }
-    ensures text { V.is_honest values.old → OnOk result (Grew (DefenceRows (marked bench.now) steps.now) html.old html.new) }
-    ensures asked { HasAsked V.held (within place.now.position V.gives) V.may_fail V.asked_of V.failed_of V.is_honest values.old result values.new }
+    ensures text { V.source.is_honest values.old → OnOk result (Grew (DefenceRows (marked bench.now) steps.now) html.old html.new) }
+    ensures asked { HasAsked (within place.now.position V.source) values.old result values.new }
 {
     if !is_defended(bench, steps) {
         return Ok(());
@@ -375,9 +374,9 @@ fn add_continued<'a, A: Allocator, V: Values>(
     values: &mut V,
 ) -> Result<(), TextFault>
     requires { place.now.depth + 20 < 2 ^ 64 }
-    ensures text { V.is_honest values.old → OnOk result (Grew (IsEnd start.now place.now.depth node.now place.now.position value)
+    ensures text { V.source.is_honest values.old → OnOk result (Grew (IsEnd start.now place.now.depth node.now place.now.position value)
         html.old html.new) }
-    ensures asked { HasAsked V.held (within place.now.position V.gives) V.may_fail V.asked_of V.failed_of V.is_honest values.old result values.new }
+    ensures asked { HasAsked (within place.now.position V.source) values.old result values.new }
 {
     if value == Value::Draw {
         let before = NodeContext {
@@ -414,8 +413,8 @@ fn add_end<'a, 'b, A: Allocator, B: Allocator, V: Values>(
     values: &mut V,
 ) -> Result<(), TextFault>
     requires { IsPlaceOf (marked bench.now) steps.now place.now }
-    ensures text { V.is_honest values.old → OnOk result (Grew (EndRows (marked bench.now) steps.now) html.old html.new) }
-    ensures asked { HasAsked V.held (within place.now.position V.gives) V.may_fail V.asked_of V.failed_of V.is_honest values.old result values.new }
+    ensures text { V.source.is_honest values.old → OnOk result (Grew (EndRows (marked bench.now) steps.now) html.old html.new) }
+    ensures asked { HasAsked (within place.now.position V.source) values.old result values.new }
 {
     if !is_open_end(bench, steps, &place.position) {
         return Ok(());
@@ -464,8 +463,8 @@ fn add_zugzwang<'a, 'b, A: Allocator, B: Allocator, V: Values>(
     values: &mut V,
 ) -> Result<(), TextFault>
     requires { IsPlaceOf (marked bench.now) steps.now place.now }
-    ensures text { V.is_honest values.old → OnOk result (Grew (ZugzwangRows (marked bench.now) steps.now) html.old html.new) }
-    ensures asked { HasAsked V.held (within place.now.position V.gives) V.may_fail V.asked_of V.failed_of V.is_honest values.old result values.new }
+    ensures text { V.source.is_honest values.old → OnOk result (Grew (ZugzwangRows (marked bench.now) steps.now) html.old html.new) }
+    ensures asked { HasAsked (within place.now.position V.source) values.old result values.new }
 {
     match zugzwang_at(&place.position, values) {
         Err(fault) => Err(TextFault::Untold(fault)),
@@ -491,12 +490,12 @@ pub fn add_position<'a, 'b, A: Allocator, B: Allocator, V: Values>(
     ensures faults { parts.new.faults ≡ parts.old.faults }
     ensures time { parts.new.time_faults ≡ parts.old.time_faults }
     ensures duals { parts.new.duals ≡ parts.old.duals }
-    ensures tries { V.is_honest values.old → OnOk result (Grew (TryRows (marked bench.now) steps.now) parts.old.tries parts.new.tries) }
-    ensures zugzwangs { V.is_honest values.old
+    ensures tries { V.source.is_honest values.old → OnOk result (Grew (TryRows (marked bench.now) steps.now) parts.old.tries parts.new.tries) }
+    ensures zugzwangs { V.source.is_honest values.old
         → OnOk result (Grew (ZugzwangRows (marked bench.now) steps.now) parts.old.zugzwangs parts.new.zugzwangs) }
-    ensures defences { V.is_honest values.old → OnOk result (Grew (DefenceRows (marked bench.now) steps.now) parts.old.defences parts.new.defences) }
-    ensures ends { V.is_honest values.old → OnOk result (Grew (EndRows (marked bench.now) steps.now) parts.old.ends parts.new.ends) }
-    ensures asked { HasAsked V.held (within place.now.position V.gives) V.may_fail V.asked_of V.failed_of V.is_honest values.old result values.new }
+    ensures defences { V.source.is_honest values.old → OnOk result (Grew (DefenceRows (marked bench.now) steps.now) parts.old.defences parts.new.defences) }
+    ensures ends { V.source.is_honest values.old → OnOk result (Grew (EndRows (marked bench.now) steps.now) parts.old.ends parts.new.ends) }
+    ensures asked { HasAsked (within place.now.position V.source) values.old result values.new }
 {
     add_try(alloc, &mut parts.tries, bench, steps, place, values)?;
     add_zugzwang(alloc, &mut parts.zugzwangs, bench, steps, place, values)?;

@@ -8,7 +8,8 @@ ghost use Rattle.study_moves.specs.Rules.{is_legal};
 ghost use Rattle.study_notation.specs.StartAfter.{start_after};
 ghost use Rattle.study_tree.specs.Edits.{node_in, width};
 ghost use Rattle.study_tree.specs.Forest.{Twig};
-ghost use Rattle.study_page.specs.Tree.{move_element, sign_words, dual_words, number_where, played_words, below_words, made_words, list_where, others_of, item_words, tree_words};
+ghost use Rattle.study_page.specs.Tree.{move_element, sign_words, dual_words, number_where, played_words, below_words, made_words, list_where};
+ghost use Rattle.study_page.specs.Tree.{others_of, item_words, tree_words};
 
 use crate::play_rows::is_white;
 use std::alloc::{AllocError, Allocator};

@@ -15,7 +15,7 @@ use Rattle.study_prober.specs.declared.page_cache.PageKey.{PageKey}
 use Rattle.study_prober.specs.declared.open_table.OpenTable.{OpenTable}
 use Rattle.study_prober.specs.Sources.{GivesOf, HonestOf, IsHeaderOf, IsGivenPage, IsAnswerFrom, AreOf, GivesRight, AreHonestAlike}
 use Rattle.study_prober.specs.PageCache.{key_at}
-use Rattle.study_values.specs.Values.{ProbeAnswer}
+use Rattle.study_values.specs.Values.{ProbeAnswer, ValueSource}
 use Rattle.study_values.specs.declared.values.ProbeFault.TheVariants.{NoTable}
 
 -- the sources, each at the place of its class, the cached pages, the last used first, and their largest number
@@ -71,6 +71,17 @@ MayFail gives (Some h) c f = (n : ℕ) × (n < pages_of c) × gives h.source (of
 -- a possible answer of these sources for a position
 abbrev pub IsPagedAnswer : {S : Type 0} → GivesOf S → List (Option (OpenTable S)) → Position → ProbeAnswer → Type 0
 IsPagedAnswer gives sources p answer = (c : Class) → IsOf c p → IsHeldAnswer gives (held_of sources c) c (index_of p) answer
+
+-- tables read by pages as a source of values
+abbrev pub paged_source : {S : Type 0} → HonestOf S → GivesOf S → ValueSource (Paged S)
+paged_source honest gives = record {
+  is_honest = λ w. SourcesAreRight honest w.sources;
+  held = λ w c. is_some (held_of w.sources c);
+  gives = λ w p answer. IsPagedAnswer gives w.sources p answer;
+  may_fail = λ w c f. MayFail gives (held_of w.sources c) c f;
+  asked_of = λ w. w.asked;
+  failed_of = λ w. w.failed;
+}
 
 -- a page that is cached by a probe of the cell of a number: the page with the cell, as the source may return it
 abbrev pub IsPageFor : {S : Type 0} → GivesOf S → Class → OpenTable S → ℕ → PageKey → List ℕ → Type 0

@@ -40,44 +40,34 @@ impl<V: Values> FailingValues<V> {
 }
 
 impl<V: Values> Values for FailingValues<V> {
-    ghost use Rattle.study_prober.specs.FailingValues.{FailsNext, IsFailingAnswer};
+    ghost use Rattle.study_prober.specs.FailingValues.{FailsNext, IsFailingAnswer, failing_source};
 
-    ghost is_honest = { λ w. V.is_honest w.values };
-
-    ghost held = { λ w c. V.held w.values c };
-
-    ghost gives = { λ w p answer. IsFailingAnswer V.held V.gives w p answer };
-
-    ghost may_fail = { λ w c f. (f ≡ Device) ⊎ V.may_fail w.values c f };
-
-    ghost asked_of = { λ w. w.asked };
-
-    ghost failed_of = { λ w. w.failures };
+    ghost source = { failing_source V.source };
 
     fn value(&mut self, p: &Position) -> Result<Value, ProbeFault>
-        ensures game { V.is_honest self.old.values → IfOk result (IsValueOf p.now) }
-        ensures no_damage { V.is_honest self.old.values → IfErr result IsNotDamage }
-        ensures stays_honest { V.is_honest self.old.values → V.is_honest self.new.values }
-        ensures given { IsFailingAnswer V.held V.gives self.old p.now result }
+        ensures game { V.source.is_honest self.old.values → IfOk result (IsValueOf p.now) }
+        ensures no_damage { V.source.is_honest self.old.values → IfErr result IsNotDamage }
+        ensures stays_honest { V.source.is_honest self.old.values → V.source.is_honest self.new.values }
+        ensures given { IsFailingAnswer V.source self.old p.now result }
         ensures failed_so { (c : AClass) (f : ASourceFault) → IsOf c p.now → IsErrOf result (ProbeFault.TableRead f)
-            → (f ≡ Device) ⊎ V.may_fail self.old.values c f }
-        ensures fails_as_before { (c : AClass) (f : ASourceFault) → (f ≡ Device) ⊎ V.may_fail self.new.values c f
-            → (f ≡ Device) ⊎ V.may_fail self.old.values c f }
-        ensures no_table { (c : AClass) → IsErrOf result (ProbeFault.NoTable c) ↔ (IsOf c p.now × (V.held self.old.values c ≡ false)) }
+            → (f ≡ Device) ⊎ V.source.may_fail self.old.values c f }
+        ensures fails_as_before { (c : AClass) (f : ASourceFault) → (f ≡ Device) ⊎ V.source.may_fail self.new.values c f
+            → (f ≡ Device) ⊎ V.source.may_fail self.old.values c f }
+        ensures no_table { (c : AClass) → IsErrOf result (ProbeFault.NoTable c) ↔ (IsOf c p.now × (V.source.held self.old.values c ≡ false)) }
         ensures damaged { (c : AClass) (n : ℕ) → IsErrOf result (ProbeFault.PageDamaged c n)
             → IsOf c p.now × (n ≡ page_number p.now) }
-        ensures same_tables { (c : AClass) → V.held self.new.values c ≡ V.held self.old.values c }
+        ensures same_tables { (c : AClass) → V.source.held self.new.values c ≡ V.source.held self.old.values c }
         ensures asked { self.new.asked ≡ counted self.old.asked }
         ensures failures { self.new.failures ≡ faults_after self.old.failures result }
-        ensures fails { FailsNext V.held self.old p.now → result ≡ Err (ProbeFault.TableRead SourceFault.Device) }
-        ensures not_asked { FailsNext V.held self.old p.now → self.new.values ≡ self.old.values }
+        ensures fails { FailsNext V.source self.old p.now → result ≡ Err (ProbeFault.TableRead SourceFault.Device) }
+        ensures not_asked { FailsNext V.source self.old p.now → self.new.values ≡ self.old.values }
         ensures same { self.new.fails_at ≡ self.old.fails_at }
 
         // Any other probe is passed to the values, once, and returns an answer that they may give.
-        ensures passed { (FailsNext V.held self.old p.now → ⊥) → V.gives self.old.values p.now result }
-        ensures asked_on { (FailsNext V.held self.old p.now → ⊥) → V.asked_of self.new.values ≡ counted (V.asked_of self.old.values) }
-        ensures failures_on { (FailsNext V.held self.old p.now → ⊥)
-            → V.failed_of self.new.values ≡ faults_after (V.failed_of self.old.values) result }
+        ensures passed { (FailsNext V.source self.old p.now → ⊥) → V.source.gives self.old.values p.now result }
+        ensures asked_on { (FailsNext V.source self.old p.now → ⊥) → V.source.asked_of self.new.values ≡ counted (V.source.asked_of self.old.values) }
+        ensures failures_on { (FailsNext V.source self.old p.now → ⊥)
+            → V.source.failed_of self.new.values ≡ faults_after (V.source.failed_of self.old.values) result }
     {
         let number = self.asked;
         self.asked = self.asked.saturating_add(1);

@@ -212,17 +212,7 @@ fn probe_paged<'a, S: PageSource, A: Allocator>(
 }
 
 impl<'a, S: PageSource, A: Allocator> Values for PagedTables<'a, S, A> {
-    ghost is_honest = { λ w. SourcesAreRight S.honest w.sources };
-
-    ghost held = { λ w c. is_some (held_of w.sources c) };
-
-    ghost gives = { λ w p answer. IsPagedAnswer S.gives w.sources p answer };
-
-    ghost may_fail = { λ w c f. MayFail S.gives (held_of w.sources c) c f };
-
-    ghost asked_of = { λ w. w.asked };
-
-    ghost failed_of = { λ w. w.failed };
+    ghost source = { paged_source S.honest S.gives };
 
     fn value(&mut self, p: &Position) -> Result<Value, ProbeFault>
         ensures game { SourcesAreRight S.honest self.old.sources → IfOk result (IsValueOf p.now) }

@@ -14,7 +14,7 @@ ghost use Rattle.study_text.specs.Counts.{counted};
 ghost use Rattle.study_values.specs.declared.fault.SourceFault.{SourceFault as ASourceFault};
 ghost use Rattle.study_values.specs.Values.{IsNotDamage, faults_after, page_number};
 ghost use Rattle.study_tablefile.specs.Format.{page_cells_of};
-ghost use Rattle.study_prober.specs.WholeTables.{TablesAreRight, IsCellAnswer, Whole};
+ghost use Rattle.study_prober.specs.WholeTables.{TablesAreRight, IsCellAnswer, Whole, whole_source};
 
 use crate::cell_pages::CellPages;
 use std::alloc::Allocator;
@@ -69,17 +69,7 @@ impl<'a, A: Allocator> WholeTables<'a, A> {
 }
 
 impl<'a, A: Allocator> Values for WholeTables<'a, A> {
-    ghost is_honest = { λ w. TablesAreRight w.tables };
-
-    ghost held = { λ w c. is_some (table_of w.tables c) };
-
-    ghost gives = { λ w p answer. IsCellAnswer w.tables p answer };
-
-    ghost may_fail = { λ w c f. ⊥ };
-
-    ghost asked_of = { λ w. w.asked };
-
-    ghost failed_of = { λ w. 0 };
+    ghost source = { whole_source };
 
     fn value(&mut self, p: &Position) -> Result<Value, ProbeFault>
         ensures game { TablesAreRight self.old.tables → IfOk result (IsValueOf p.now) }

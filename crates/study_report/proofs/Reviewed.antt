@@ -3,7 +3,7 @@ use Rattle.std.proofs.Common.{◌≡◌, ℕ, Bool, true, List, [], ◌∷◌, R
 use Rattle.study_board.specs.Position.{Position, IsValid}
 use Rattle.study_material.specs.declared.class.Class.{Class}
 use Rattle.study_values.specs.declared.fault.SourceFault.{SourceFault}
-use Rattle.study_values.specs.Values.{ProbeAnswer}
+use Rattle.study_values.specs.Values.{ValueSource}
 use Rattle.study_values.specs.declared.values.ProbeFault.{ProbeFault}
 use Rattle.study_values.specs.declared.values.ProbeFault.TheVariants.{NoTable, TableRead, PageDamaged}
 use Rattle.study_marks.specs.Answers.{WereTold, IsFirstFault}
@@ -15,62 +15,60 @@ use Rattle.study_facts.specs.Order.{HasReviewed}
 use Rattle.study_facts.proofs.Within.{missed-needed, unread-needed}
 use Rattle.study_report.specs.Told.{IsUntoldBy}
 
-module _ {V : Type 0} (held : V → Class → Bool) (gives : V → Position → ProbeAnswer → Type 0)
-    (may_fail : V → Class → SourceFault → Type 0) (asked_of failed_of : V → ℕ) (is_honest : V → Type 0) where
-  told-fails : (old new : V) (asked : List Position) → WereTold gives may_fail asked_of old asked new
-      → (c : Class) (f : SourceFault) → may_fail new c f → may_fail old c f
-  told-fails old new [] e c f m = subst (λ (v : V). may_fail v c f) e m
+module _ {V : Type 0} (source : ValueSource V) where
+  told-fails : (old new : V) (asked : List Position) → WereTold source old asked new
+      → (c : Class) (f : SourceFault) → source.may_fail new c f → source.may_fail old c f
+  told-fails old new [] e c f m = subst (λ (v : V). source.may_fail v c f) e m
   told-fails old new (p ∷ ps) (v, mid, a, rest) c f m = a.fails_as_before c f (told-fails mid new ps rest c f m)
 
-  fault-fails : (old new : V) (asked : List Position) (g : ProbeFault) → IsFirstFault gives may_fail asked_of old asked g new
-      → (c : Class) (f : SourceFault) → may_fail new c f → may_fail old c f
+  fault-fails : (old new : V) (asked : List Position) (g : ProbeFault) → IsFirstFault source old asked g new
+      → (c : Class) (f : SourceFault) → source.may_fail new c f → source.may_fail old c f
   fault-fails old new [] g h c f m = absurd h
   fault-fails old new (p ∷ ps) g (inl a) c f m = a.fails_as_before c f m
   fault-fails old new (p ∷ ps) g (inr (v, mid, a, rest)) c f m = a.fails_as_before c f (fault-fails mid new ps g rest c f m)
 
   abbrev pub Reviews : {T : Type 0} → V → Result T ReviewFault → V → Type 0
-  Reviews {T = T} old r new = HasReviewed held gives may_fail asked_of failed_of is_honest {T = T} old r new
+  Reviews {T = T} old r new = HasReviewed source {T = T} old r new
 
   pub reviewed-fails : {T : Type 0} (old new : V) (r : Result T ReviewFault) → Reviews old r new
-      → (c : Class) (f : SourceFault) → may_fail new c f → may_fail old c f
+      → (c : Class) (f : SourceFault) → source.may_fail new c f → source.may_fail old c f
   reviewed-fails old new (Ok x) h c f m = told-fails old new h.told.0 h.told.1 c f m
   reviewed-fails old new (Err OutOfMemory) h c f m = told-fails old new h.told.0 h.told.1 c f m
   reviewed-fails old new (Err Device) h c f m = told-fails old new h.told.0 h.told.1 c f m
   reviewed-fails old new (Err (Values g)) h c f m = fault-fails old new h.told.0 g h.told.1 c f m
 
-  pub reviewed-honest : {T : Type 0} (old new : V) (r : Result T ReviewFault) → Reviews old r new → is_honest old → is_honest new
+  pub reviewed-honest : {T : Type 0} (old new : V) (r : Result T ReviewFault) → Reviews old r new → source.is_honest old → source.is_honest new
   reviewed-honest old new (Ok x) h = h.honest
   reviewed-honest old new (Err OutOfMemory) h = h.honest
   reviewed-honest old new (Err Device) h = h.honest
   reviewed-honest old new (Err (Values g)) h = h.honest
 
-  pub reviewed-tables : {T : Type 0} (old new : V) (r : Result T ReviewFault) → Reviews old r new → (c : Class) → held new c ≡ held old c
+  pub reviewed-tables : {T : Type 0} (old new : V) (r : Result T ReviewFault) → Reviews old r new → (c : Class) → source.held new c ≡ source.held old c
   reviewed-tables old new (Ok x) h = h.tables
   reviewed-tables old new (Err OutOfMemory) h = h.tables
   reviewed-tables old new (Err Device) h = h.tables
   reviewed-tables old new (Err (Values g)) h = h.tables
 
-module _ {V : Type 0} (held : V → Class → Bool) (gives : V → Position → ProbeAnswer → Type 0)
-    (may_fail : V → Class → SourceFault → Type 0) (asked_of failed_of : V → ℕ) (is_honest : V → Type 0) (p : Position) (valid : IsValid p) where
-  untold-by : (paged : Bool) (old new : V) (fault : ProbeFault) → is_honest old
-      → ((f : SourceFault) → failed_of new ≡ failures_of {T = Unit {0}} (Err (TableRead f)) (failed_of old) → paged ≡ true)
-      → Stopped held (within p gives) may_fail asked_of failed_of is_honest old fault new
-      → IsUntoldBy (held old) paged (may_fail old) p fault
+module _ {V : Type 0} (source : ValueSource V) (p : Position) (valid : IsValid p) where
+  untold-by : (paged : Bool) (old new : V) (fault : ProbeFault) → source.is_honest old
+      → ((f : SourceFault) → source.failed_of new ≡ failures_of {T = Unit {0}} (Err (TableRead f)) (source.failed_of old) → paged ≡ true)
+      → Stopped (within p source) old fault new
+      → IsUntoldBy (source.held old) paged (source.may_fail old) p fault
   untold-by paged old new (NoTable c) honest by_pages h =
-      (h.untold c refl, missed-needed gives may_fail asked_of p valid old new (NoTable c) c h.told refl)
+      (h.untold c refl, missed-needed source p valid old new (NoTable c) c h.told refl)
   untold-by paged old new (TableRead f) honest by_pages h =
-      let read = unread-needed gives may_fail asked_of p valid old new (TableRead f) f h.told refl in
+      let read = unread-needed source p valid old new (TableRead f) f h.told refl in
       (by_pages f h.failures, read.0, read.1, read.2)
   untold-by paged old new (PageDamaged c n) honest by_pages h = absurd (h.no_damage honest)
 
   -- why a study is refused
-  pub reviewed-why : {T : Type 0} (paged : Bool) (old new : V) (r : Result T ReviewFault) (fault : ProbeFault) → is_honest old
-      → ((f : SourceFault) → failed_of new ≡ failures_of {T = Unit {0}} (Err (TableRead f)) (failed_of old) → paged ≡ true)
-      → HasReviewed held (within p gives) may_fail asked_of failed_of is_honest {T = T} old r new → r ≡ Err (Values fault)
-      → IsUntoldBy (held old) paged (may_fail old) p fault
+  pub reviewed-why : {T : Type 0} (paged : Bool) (old new : V) (r : Result T ReviewFault) (fault : ProbeFault) → source.is_honest old
+      → ((f : SourceFault) → source.failed_of new ≡ failures_of {T = Unit {0}} (Err (TableRead f)) (source.failed_of old) → paged ≡ true)
+      → HasReviewed (within p source) {T = T} old r new → r ≡ Err (Values fault)
+      → IsUntoldBy (source.held old) paged (source.may_fail old) p fault
   reviewed-why {T = T} paged old new r fault honest by_pages h e =
       untold-by paged old new fault honest by_pages
-      (subst (λ (x : Result T ReviewFault). HasReviewed held (within p gives) may_fail asked_of failed_of is_honest {T = T} old x new) e h)
+      (subst (λ (x : Result T ReviewFault). HasReviewed (within p source) {T = T} old x new) e h)
 
 -- the same classes are loaded, and tables may fail in no further way
 pub untold-same : (h k : Class → Bool) (paged by : Bool) (may m : Class → SourceFault → Type 0) (fault : ProbeFault) → ((c : Class) → h c ≡ k c)

@@ -41,9 +41,10 @@ fn play_from<V: Values>(
     values: &mut V,
 ) -> Result<ArrayVec<EvaluatedMove, 20>, TextFault>
     requires { All (λ x. is_legal p.now x.played ≡ true) told.now }
-    ensures game { AreChosen (λ v. true) p.now (legal_list p.now) told.now → V.is_honest values.old → IfOk result (λ list. IsBestPlay 20 p.now list.items) }
+    ensures game { AreChosen (λ v. true) p.now (legal_list p.now) told.now → V.source.is_honest values.old → IfOk result (λ list.
+        IsBestPlay 20 p.now list.items) }
     ensures legal { IfOk result (λ list. ArePlayed p.now list.items) }
-    ensures asked { HasAsked V.held (within p.now V.gives) V.may_fail V.asked_of V.failed_of V.is_honest values.old result values.new }
+    ensures asked { HasAsked (within p.now V.source) values.old result values.new }
 {
     let mut list = ArrayVec::new();
     match best_of(p, told) {
@@ -69,9 +70,9 @@ fn add_best<A: Allocator, V: Values>(
     values: &mut V,
 ) -> Result<(), TextFault>
     requires { All (λ x. is_legal p.now x.played ≡ true) told.now }
-    ensures text { AreChosen (λ v. true) p.now (legal_list p.now) told.now → V.is_honest values.old
+    ensures text { AreChosen (λ v. true) p.now (legal_list p.now) told.now → V.source.is_honest values.old
         → OnOk result (Grew (IsPlay steps.now p.now value) text.old text.new) }
-    ensures asked { HasAsked V.held (within p.now V.gives) V.may_fail V.asked_of V.failed_of V.is_honest values.old result values.new }
+    ensures asked { HasAsked (within p.now V.source) values.old result values.new }
 {
     let list = play_from(p, told, values)?;
     add_play(text, steps, p, value, list.as_slice())?;
@@ -90,9 +91,9 @@ pub fn add_best_play_or_draws<A: Allocator, V: Values>(
     requires legal { All (λ x. is_legal p.now x.played ≡ true) told.now }
     requires all { length told.now ≡ length (legal_list p.now) }
     requires few { length told.now < 2 ^ 32 }
-    ensures text { AreChosen (λ v. true) p.now (legal_list p.now) told.now → V.is_honest values.old
+    ensures text { AreChosen (λ v. true) p.now (legal_list p.now) told.now → V.source.is_honest values.old
         → OnOk result (Grew (IsEnd steps.now p.now value) text.old text.new) }
-    ensures asked { HasAsked V.held (within p.now V.gives) V.may_fail V.asked_of V.failed_of V.is_honest values.old result values.new }
+    ensures asked { HasAsked (within p.now V.source) values.old result values.new }
 {
     match value {
         Value::Draw => {

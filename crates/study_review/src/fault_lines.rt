@@ -46,10 +46,10 @@ fn add_alternative<A: Allocator, V: Values>(
 ) -> Result<u16, TextFault>
     requires depth { step.now.before.depth + 1 < 2 ^ 64 }
     requires legal { is_legal step.now.before.position.now x.now.played ≡ true }
-    ensures text { V.is_honest values.old → IfOk result (λ n. Grew (AreAlsoLines step.now.steps.now step.now.before.aim.now
+    ensures text { V.source.is_honest values.old → IfOk result (λ n. Grew (AreAlsoLines step.now.steps.now step.now.before.aim.now
         step.now.before.depth step.now.line.now step.now.before.position.now step.now.played (x.now ∷ []) n) text.old text.new) }
     ensures few { IfOk result (λ n. n ≤ 1) }
-    ensures asked { HasAsked V.held (within step.now.before.position.now V.gives) V.may_fail V.asked_of V.failed_of V.is_honest values.old result values.new }
+    ensures asked { HasAsked (within step.now.before.position.now V.source) values.old result values.new }
 {
     let before = &step.before;
     if contains_move(&x.played, &[step.played]) || !holds(before.aim, before.depth + 1, x.value) {
@@ -80,10 +80,10 @@ pub fn add_alternatives<A: Allocator, V: Values>(
     requires depth { step.now.before.depth + 1 < 2 ^ 64 }
     requires legal { All (λ x. is_legal step.now.before.position.now x.played ≡ true) told.now }
     requires few { length told.now < 2 ^ 16 }
-    ensures text { V.is_honest values.old → IfOk result (λ n. Grew (AreAlsoLines step.now.steps.now step.now.before.aim.now
+    ensures text { V.source.is_honest values.old → IfOk result (λ n. Grew (AreAlsoLines step.now.steps.now step.now.before.aim.now
         step.now.before.depth step.now.line.now step.now.before.position.now step.now.played told.now n) text.old text.new) }
     ensures few { IfOk result (λ n. n ≤ length told.now) }
-    ensures asked { HasAsked V.held (within step.now.before.position.now V.gives) V.may_fail V.asked_of V.failed_of V.is_honest values.old result values.new }
+    ensures asked { HasAsked (within step.now.before.position.now V.source) values.old result values.new }
 {
     match told.split_first() {
         None => Ok(0),
@@ -166,10 +166,11 @@ fn add_dual_lines<'a, 'b, A: Allocator, B: Allocator, V: Values>(
     requires value { value ≡ value_at (marked bench.now) step.now.steps.now }
     requires mark { mark_at (marked bench.now) step.now.steps.now ≡ Some (MoveMark.Dual others) }
     requires listed { listed ≡ is_solution_move (marked bench.now) step.now.steps.now }
-    ensures also { V.is_honest values.old → OnOk result (Grew (AlsoLines (marked bench.now) step.now.steps.now) draft.old.nodes draft.new.nodes) }
-    ensures fault { V.is_honest values.old → OnOk result (Grew (FaultLines (marked bench.now) step.now.steps.now) draft.old.faults draft.new.faults) }
-    ensures time { V.is_honest values.old → OnOk result (Rose (IsTimeFault (marked bench.now) step.now.steps.now) draft.old.time_faults draft.new.time_faults) }
-    ensures asked { HasAsked V.held (within step.now.before.position.now V.gives) V.may_fail V.asked_of V.failed_of V.is_honest values.old result values.new }
+    ensures also { V.source.is_honest values.old → OnOk result (Grew (AlsoLines (marked bench.now) step.now.steps.now) draft.old.nodes draft.new.nodes) }
+    ensures fault { V.source.is_honest values.old → OnOk result (Grew (FaultLines (marked bench.now) step.now.steps.now) draft.old.faults draft.new.faults) }
+    ensures time { V.source.is_honest values.old → OnOk result (Rose (IsTimeFault (marked bench.now) step.now.steps.now) draft.old.time_faults
+        draft.new.time_faults) }
+    ensures asked { HasAsked (within step.now.before.position.now V.source) values.old result values.new }
 {
     evaluate_legal_moves(step.before.position, values, &mut draft.told)?;
     let time = add_alternatives(&mut draft.nodes, step, draft.told.as_slice(), values)?;
@@ -231,10 +232,11 @@ pub fn add_move<'a, 'b, A: Allocator, B: Allocator, V: Values>(
     requires value { mark.value ≡ value_at (marked bench.now) step.now.steps.now }
     requires mark { mark.on_move ≡ mark_at (marked bench.now) step.now.steps.now }
     requires listed { listed ≡ is_solution_move (marked bench.now) step.now.steps.now }
-    ensures also { V.is_honest values.old → OnOk result (Grew (AlsoLines (marked bench.now) step.now.steps.now) draft.old.nodes draft.new.nodes) }
-    ensures fault { V.is_honest values.old → OnOk result (Grew (FaultLines (marked bench.now) step.now.steps.now) draft.old.faults draft.new.faults) }
-    ensures time { V.is_honest values.old → OnOk result (Rose (IsTimeFault (marked bench.now) step.now.steps.now) draft.old.time_faults draft.new.time_faults) }
-    ensures asked { HasAsked V.held (within step.now.before.position.now V.gives) V.may_fail V.asked_of V.failed_of V.is_honest values.old result values.new }
+    ensures also { V.source.is_honest values.old → OnOk result (Grew (AlsoLines (marked bench.now) step.now.steps.now) draft.old.nodes draft.new.nodes) }
+    ensures fault { V.source.is_honest values.old → OnOk result (Grew (FaultLines (marked bench.now) step.now.steps.now) draft.old.faults draft.new.faults) }
+    ensures time { V.source.is_honest values.old → OnOk result (Rose (IsTimeFault (marked bench.now) step.now.steps.now) draft.old.time_faults
+        draft.new.time_faults) }
+    ensures asked { HasAsked (within step.now.before.position.now V.source) values.old result values.new }
 {
     match on_move(mark) {
         Some(MoveMark::Dual(others)) => {

@@ -114,9 +114,9 @@ fn add_missing<'a, 'b, A: Allocator, B: Allocator, V: Values>(
     requires value { here.now.value ≡ value_at (marked bench.now) here.now.steps.now }
     requires solution { here.now.solution ≡ in_solution (aim_of (marked bench.now)) 0 here.now.steps.now }
     requires legal { All (λ x. is_legal here.now.node.position.now x.played ≡ true) told.now }
-    ensures text { AreChosen (λ v. true) here.now.node.position.now (legal_list here.now.node.position.now) told.now → V.is_honest values.old
+    ensures text { AreChosen (λ v. true) here.now.node.position.now (legal_list here.now.node.position.now) told.now → V.source.is_honest values.old
         → OnOk result (Grew (MissingLines (marked bench.now) here.now.steps.now) text.old text.new) }
-    ensures asked { HasAsked V.held (within here.now.node.position.now V.gives) V.may_fail V.asked_of V.failed_of V.is_honest values.old result values.new }
+    ensures asked { HasAsked (within here.now.node.position.now V.source) values.old result values.new }
 {
     if !is_defended(here) {
         return Ok(());
@@ -148,9 +148,9 @@ fn add_end<'b, A: Allocator, B: Allocator, V: Values>(
     requires legal { All (λ x. is_legal here.now.node.position.now x.played ≡ true) told.now }
     requires all { length told.now ≡ length (legal_list here.now.node.position.now) }
     requires few { length told.now < 2 ^ 32 }
-    ensures text { AreChosen (λ v. true) here.now.node.position.now (legal_list here.now.node.position.now) told.now → V.is_honest values.old
+    ensures text { AreChosen (λ v. true) here.now.node.position.now (legal_list here.now.node.position.now) told.now → V.source.is_honest values.old
         → OnOk result (Grew (EndLines (marked bench.now) here.now.steps.now) text.old text.new) }
-    ensures asked { HasAsked V.held (within here.now.node.position.now V.gives) V.may_fail V.asked_of V.failed_of V.is_honest values.old result values.new }
+    ensures asked { HasAsked (within here.now.node.position.now V.source) values.old result values.new }
 {
     if !is_open_end(here, told) {
         return Ok(());
@@ -183,9 +183,9 @@ fn add_told<'a, 'b, A: Allocator, B: Allocator, V: Values>(
     requires legal { All (λ x. is_legal here.now.node.position.now x.played ≡ true) told.now }
     requires all { length told.now ≡ length (legal_list here.now.node.position.now) }
     requires few { length told.now < 2 ^ 32 }
-    ensures text { AreChosen (λ v. true) here.now.node.position.now (legal_list here.now.node.position.now) told.now → V.is_honest values.old
+    ensures text { AreChosen (λ v. true) here.now.node.position.now (legal_list here.now.node.position.now) told.now → V.source.is_honest values.old
         → OnOk result (Grew (OwnLines (marked bench.now) here.now.steps.now) text.old text.new) }
-    ensures asked { HasAsked V.held (within here.now.node.position.now V.gives) V.may_fail V.asked_of V.failed_of V.is_honest values.old result values.new }
+    ensures asked { HasAsked (within here.now.node.position.now V.source) values.old result values.new }
 {
     add_refuted(text, bench, here, told)?;
     add_missing(alloc, text, bench, here, told, values)?;
@@ -207,8 +207,8 @@ fn add_node_lines<'a, 'b, A: Allocator, B: Allocator, V: Values>(
     requires children { here.now.children ≡ width (below_at (marked bench.now).tree.below here.now.steps.now) }
     requires solution { here.now.solution ≡ in_solution (aim_of (marked bench.now)) 0 here.now.steps.now }
     requires tried { here.now.tried ≡ is_try (marked bench.now) here.now.steps.now }
-    ensures text { V.is_honest values.old → OnOk result (Grew (OwnLines (marked bench.now) here.now.steps.now) text.old text.new) }
-    ensures asked { HasAsked V.held (within here.now.node.position.now V.gives) V.may_fail V.asked_of V.failed_of V.is_honest values.old result values.new }
+    ensures text { V.source.is_honest values.old → OnOk result (Grew (OwnLines (marked bench.now) here.now.steps.now) text.old text.new) }
+    ensures asked { HasAsked (within here.now.node.position.now V.source) values.old result values.new }
 {
     if here.children != 0 && !here.tried && !is_defended(here) {
         return Ok(());
@@ -223,9 +223,9 @@ fn add_zugzwang<A: Allocator, V: Values>(
     here: &ReviewNode<'_>,
     values: &mut V,
 ) -> Result<(), TextFault>
-    ensures text { V.is_honest values.old → OnOk result ((z : Option AZugzwang) × IsZugzwangOf here.now.node.position.now z
+    ensures text { V.source.is_honest values.old → OnOk result ((z : Option AZugzwang) × IsZugzwangOf here.now.node.position.now z
         × (text.new ≡ text.old ++ zugzwang_line here.now.steps.now z)) }
-    ensures asked { HasAsked V.held (within here.now.node.position.now V.gives) V.may_fail V.asked_of V.failed_of V.is_honest values.old result values.new }
+    ensures asked { HasAsked (within here.now.node.position.now V.source) values.old result values.new }
 {
     match zugzwang_at(here.node.position, values) {
         Err(fault) => Err(TextFault::Untold(fault)),
@@ -251,8 +251,8 @@ pub fn add_here<'a, 'b, A: Allocator, B: Allocator, V: Values>(
     requires children { here.now.children ≡ width (below_at (marked bench.now).tree.below here.now.steps.now) }
     requires solution { here.now.solution ≡ in_solution (aim_of (marked bench.now)) 0 here.now.steps.now }
     requires tried { here.now.tried ≡ is_try (marked bench.now) here.now.steps.now }
-    ensures text { V.is_honest values.old → OnOk result (Grew (HereLines (marked bench.now) here.now.steps.now) text.old text.new) }
-    ensures asked { HasAsked V.held (within here.now.node.position.now V.gives) V.may_fail V.asked_of V.failed_of V.is_honest values.old result values.new }
+    ensures text { V.source.is_honest values.old → OnOk result (Grew (HereLines (marked bench.now) here.now.steps.now) text.old text.new) }
+    ensures asked { HasAsked (within here.now.node.position.now V.source) values.old result values.new }
 {
     add_node_lines(alloc, text, bench, here, told, values)?;
     add_zugzwang(text, here, values)

@@ -46,11 +46,10 @@ fn add_lines<'a, 'b, A: Allocator, B: Allocator, V: Values>(
     requires before { IsStand (marked bench.now) (parent_path steps.now) stands.0.now }
     requires here { IsStand (marked bench.now) steps.now stands.1.now }
     requires by { arrival_of (spot_at (marked bench.now).tree steps.now) ≡ Some by.now }
-    ensures faults { V.is_honest values.old → OnOk result (Grew (FaultLines (marked bench.now) steps.now) draft.old.faults draft.new.faults) }
-    ensures time { V.is_honest values.old → OnOk result (Rose (IsTimeFault (marked bench.now) steps.now) draft.old.time_faults draft.new.time_faults) }
-    ensures nodes { V.is_honest values.old → OnOk result (Grew (NodeLines (marked bench.now) steps.now) draft.old.nodes draft.new.nodes) }
-    ensures asked { HasAsked V.held (within (marked bench.now).start.position V.gives)
-        V.may_fail V.asked_of V.failed_of V.is_honest values.old result values.new }
+    ensures faults { V.source.is_honest values.old → OnOk result (Grew (FaultLines (marked bench.now) steps.now) draft.old.faults draft.new.faults) }
+    ensures time { V.source.is_honest values.old → OnOk result (Rose (IsTimeFault (marked bench.now) steps.now) draft.old.time_faults draft.new.time_faults) }
+    ensures nodes { V.source.is_honest values.old → OnOk result (Grew (NodeLines (marked bench.now) steps.now) draft.old.nodes draft.new.nodes) }
+    ensures asked { HasAsked (within (marked bench.now).start.position V.source) values.old result values.new }
 {
     let first = bench.start();
     let (before, here) = stands;
@@ -120,12 +119,12 @@ fn descend<'a, 'b, A: Allocator, B: Allocator, V: Values>(
     ensures line { OnOk result ((p : APosition) × (trail.new.line.items ≡ trail.old.line.items ++ p ∷ [])) }
     ensures line_to { OnOk result (trail.new.line.items ≡ line_to (marked bench.now) trail.new.steps.items) }
     ensures stands { OnOk result (WentTo (marked bench.now) trail.new.steps.items trail.old.stands.items trail.new.stands.items) }
-    ensures faults { V.is_honest values.old → OnOk result (Grew (FaultLines (marked bench.now) trail.new.steps.items) draft.old.faults draft.new.faults) }
-    ensures time { V.is_honest values.old → OnOk result (Rose (IsTimeFault (marked bench.now) trail.new.steps.items)
+    ensures faults { V.source.is_honest values.old → OnOk result (Grew (FaultLines (marked bench.now) trail.new.steps.items) draft.old.faults
+        draft.new.faults) }
+    ensures time { V.source.is_honest values.old → OnOk result (Rose (IsTimeFault (marked bench.now) trail.new.steps.items)
         draft.old.time_faults draft.new.time_faults) }
-    ensures nodes { V.is_honest values.old → OnOk result (Grew (NodeLines (marked bench.now) trail.new.steps.items) draft.old.nodes draft.new.nodes) }
-    ensures asked { HasAsked V.held (within (marked bench.now).start.position V.gives)
-        V.may_fail V.asked_of V.failed_of V.is_honest values.old result values.new }
+    ensures nodes { V.source.is_honest values.old → OnOk result (Grew (NodeLines (marked bench.now) trail.new.steps.items) draft.old.nodes draft.new.nodes) }
+    ensures asked { HasAsked (within (marked bench.now).start.position V.source) values.old result values.new }
 {
     let first = bench.start();
     trail.steps.push(place)?;
@@ -181,15 +180,14 @@ fn add_below<'a, 'b, A: Allocator, B: Allocator, V: Values>(
     ensures steps { OnOk result (trail.new.steps.items ≡ trail.old.steps.items) }
     ensures line { OnOk result (trail.new.line.items ≡ trail.old.line.items) }
     ensures stands { OnOk result (trail.new.stands.items ≡ trail.old.stands.items) }
-    ensures faults { V.is_honest values.old → OnOk result (Grew (LinesOfEach (FaultLines (marked bench.now))
+    ensures faults { V.source.is_honest values.old → OnOk result (Grew (LinesOfEach (FaultLines (marked bench.now))
         (paths_from trail.old.steps.items 0 (below_at (marked bench.now).tree.below trail.old.steps.items))) draft.old.faults draft.new.faults) }
-    ensures time { V.is_honest values.old → OnOk result (Rose (SumOfEach (IsTimeFault (marked bench.now))
+    ensures time { V.source.is_honest values.old → OnOk result (Rose (SumOfEach (IsTimeFault (marked bench.now))
         (paths_from trail.old.steps.items 0 (below_at (marked bench.now).tree.below trail.old.steps.items)))
         draft.old.time_faults draft.new.time_faults) }
-    ensures nodes { V.is_honest values.old → OnOk result (Grew (LinesOfEach (NodeLines (marked bench.now))
+    ensures nodes { V.source.is_honest values.old → OnOk result (Grew (LinesOfEach (NodeLines (marked bench.now))
         (paths_from trail.old.steps.items 0 (below_at (marked bench.now).tree.below trail.old.steps.items))) draft.old.nodes draft.new.nodes) }
-    ensures asked { HasAsked V.held (within (marked bench.now).start.position V.gives)
-        V.may_fail V.asked_of V.failed_of V.is_honest values.old result values.new }
+    ensures asked { HasAsked (within (marked bench.now).start.position V.source) values.old result values.new }
 {
     for place in 0..last_stand(trail).children {
         descend(alloc, draft, trail, bench, aim, place, values)?;
@@ -214,9 +212,8 @@ fn add_root<'a, 'b, A: Allocator, B: Allocator, V: Values>(
     requires mark { mark ≡ (marked bench.now).tree.label }
     ensures faults { draft.new.faults ≡ draft.old.faults }
     ensures time { draft.new.time_faults ≡ draft.old.time_faults }
-    ensures nodes { V.is_honest values.old → OnOk result (Grew (NodeLines (marked bench.now) []) draft.old.nodes draft.new.nodes) }
-    ensures asked { HasAsked V.held (within (marked bench.now).start.position V.gives)
-        V.may_fail V.asked_of V.failed_of V.is_honest values.old result values.new }
+    ensures nodes { V.source.is_honest values.old → OnOk result (Grew (NodeLines (marked bench.now) []) draft.old.nodes draft.new.nodes) }
+    ensures asked { HasAsked (within (marked bench.now).start.position V.source) values.old result values.new }
 {
     let here = ReviewNode {
         node: NodeContext {
@@ -267,13 +264,12 @@ pub fn add_all<'a, 'b, A: Allocator, B: Allocator, V: Values>(
     values: &mut V,
 ) -> Result<(), TextFault>
     requires { root ≡ (marked bench.now).tree.label }
-    ensures faults { V.is_honest values.old → OnOk result (Grew (LinesOfEach (FaultLines (marked bench.now)) (written_order (marked bench.now)))
+    ensures faults { V.source.is_honest values.old → OnOk result (Grew (LinesOfEach (FaultLines (marked bench.now)) (written_order (marked bench.now)))
         draft.old.faults draft.new.faults) }
-    ensures time { V.is_honest values.old → OnOk result (Rose (AreTimeFaults (marked bench.now)) draft.old.time_faults draft.new.time_faults) }
-    ensures nodes { V.is_honest values.old → OnOk result (Grew (LinesOfEach (NodeLines (marked bench.now)) (written_order (marked bench.now)))
+    ensures time { V.source.is_honest values.old → OnOk result (Rose (AreTimeFaults (marked bench.now)) draft.old.time_faults draft.new.time_faults) }
+    ensures nodes { V.source.is_honest values.old → OnOk result (Grew (LinesOfEach (NodeLines (marked bench.now)) (written_order (marked bench.now)))
         draft.old.nodes draft.new.nodes) }
-    ensures asked { HasAsked V.held (within (marked bench.now).start.position V.gives)
-        V.may_fail V.asked_of V.failed_of V.is_honest values.old result values.new }
+    ensures asked { HasAsked (within (marked bench.now).start.position V.source) values.old result values.new }
 {
     let aim = aim_in(bench);
     let stand = root_walk_state(bench, child_count(bench, &[]));

@@ -1,28 +1,27 @@
 -- The fault of the first value that could not be read, for tables of either kind.
-use Rattle.std.proofs.Common.{◌≡◌, ℕ, Bool, false, List, [], ◌∷◌, Option, Some, None, is_some, Result, Ok, Err, IfErr, refl, sym, subst, inl, inr}
+use Rattle.std.proofs.Common.{◌≡◌, ℕ, false, List, [], ◌∷◌, Option, Some, None, is_some, Result, Ok, Err, IfErr, refl, sym, subst, inl, inr}
 use Rattle.study_board.specs.Position.{Position}
 use Rattle.study_material.specs.declared.class.Class.{Class}
 use Rattle.study_values.specs.declared.fault.SourceFault.{SourceFault}
-use Rattle.study_tablefile.specs.PageSource.{Question}
-use Rattle.study_values.specs.Values.{ProbeAnswer}
+use Rattle.study_values.specs.Values.{ValueSource}
+use Rattle.study_prober.specs.Sources.{GivesOf, HonestOf}
 use Rattle.study_prober.specs.declared.open_table.OpenTable.{OpenTable}
 use Rattle.study_values.specs.declared.values.ProbeFault.{ProbeFault}
 use Rattle.study_values.specs.declared.values.ProbeFault.TheVariants as probe
-use Rattle.study_prober.specs.WholeTables.{Whole, IsCellAnswer}
-use Rattle.study_prober.specs.PagedTables.{Paged, IsPagedAnswer, MayFail, held_of}
+use Rattle.study_prober.specs.WholeTables.{Whole, whole_source}
+use Rattle.study_prober.specs.PagedTables.{Paged, MayFail, held_of, paged_source}
 use Rattle.study_marks.specs.declared.refusal.Refusal.{Refusal as EditRefusal}
 use Rattle.study_marks.specs.declared.refusal.Refusal.TheVariants as edit
 use Rattle.study_marks.specs.Answers.{IsFirstFault, TellsFirstFault}
 use Rattle.study_script.specs.declared.tables.Tables.{Tables}
 use Rattle.study_script.specs.declared.tables.Tables.TheVariants as held
 use Rattle.study_script.specs.Replies.{MayFailAmong}
-use Rattle.study_script.specs.SessionHolds.{tables_give, tables_may_fail, tables_asked, tables_held, IsFailingTable}
+use Rattle.study_script.specs.SessionHolds.{tables_may_fail, tables_source, tables_held, IsFailingTable}
 
-module _ {P : Type 0} (gives : P → Question → Result (List ℕ) SourceFault → Type 0) where
+module _ {P : Type 0} (honest : HonestOf P) (gives : GivesOf P) where
   whole_first : (A : Type 0) (old new : Whole) (ps : List Position) (f : ProbeFault)
-      → IsFirstFault (λ (w : Whole) p answer. IsCellAnswer w.tables p answer) (λ (w : Whole) (c : Class) (f : SourceFault). ⊥) (λ (w : Whole). w.asked) old ps
-      f new
-      → IsFirstFault (tables_give {A = A} gives) (tables_may_fail gives) tables_asked (held.Whole old) ps f (held.Whole new)
+      → IsFirstFault whole_source old ps f new
+      → IsFirstFault (tables_source {A = A} honest gives) (held.Whole old) ps f (held.Whole new)
   whole_first A old new [] f h = absurd h
   whole_first A old new (p ∷ ps) f (inl a) = inl (record { valid = a.valid; given = a.given; asked = a.asked; failed_so = a.failed_so; fails_as_before = a.fails_as_before })
   whole_first A old new (p ∷ ps) f (inr h) = inr (
@@ -39,9 +38,8 @@ module _ {P : Type 0} (gives : P → Question → Result (List ℕ) SourceFault 
   )
 
   whole_tells : {A : Type 0} (old new : Whole) (ps : List Position) (r : EditRefusal A)
-      → TellsFirstFault (λ (w : Whole) p answer. IsCellAnswer w.tables p answer) (λ (w : Whole) (c : Class) (f : SourceFault). ⊥) (λ (w : Whole). w.asked) old
-      ps new r
-      → TellsFirstFault (tables_give {A = A} gives) (tables_may_fail gives) tables_asked (held.Whole old) ps (held.Whole new) r
+      → TellsFirstFault whole_source old ps new r
+      → TellsFirstFault (tables_source {A = A} honest gives) (held.Whole old) ps (held.Whole new) r
   whole_tells {A = A} old new ps (edit.NoTable c) h = whole_first A old new ps (probe.NoTable c) h
   whole_tells {A = A} old new ps (edit.TableRead f) h = whole_first A old new ps f h
   whole_tells old new ps edit.NoSuchNode h = tt
@@ -56,18 +54,16 @@ module _ {P : Type 0} (gives : P → Question → Result (List ℕ) SourceFault 
   whole_tells old new ps edit.OutOfMemory h = tt
 
   pub whole_told : {A T : Type 0} (t : Tables P A) (old new : Whole) (ps : List Position) (r : Result T (EditRefusal A)) → t ≡ held.Whole old
-      → IfErr r (TellsFirstFault (λ (w : Whole) p answer. IsCellAnswer w.tables p answer) (λ (w : Whole) (c : Class) (f : SourceFault). ⊥)
-      (λ (w : Whole). w.asked) old ps new)
-      → IfErr r (TellsFirstFault (tables_give gives) (tables_may_fail gives) tables_asked t ps (held.Whole new))
+      → IfErr r (TellsFirstFault whole_source old ps new)
+      → IfErr r (TellsFirstFault (tables_source honest gives) t ps (held.Whole new))
   whole_told t old new ps (Ok x) is h = tt
   whole_told {A = A} t old new ps (Err x) is h =
-      subst (λ (u : Tables P A). TellsFirstFault (tables_give gives) (tables_may_fail gives) tables_asked u ps (held.Whole new) x) (sym is)
+      subst (λ (u : Tables P A). TellsFirstFault (tables_source honest gives) u ps (held.Whole new) x) (sym is)
       (whole_tells old new ps x h)
 
   paged_first : (A : Type 0) (old new : Paged P) (ps : List Position) (f : ProbeFault)
-      → IsFirstFault (λ (w : Paged P) p answer. IsPagedAnswer gives w.sources p answer) (λ (w : Paged P) (c : Class) (f : SourceFault). MayFail gives
-      (held_of w.sources c) c f) (λ (w : Paged P). w.asked) old ps f new
-      → IsFirstFault (tables_give {A = A} gives) (tables_may_fail gives) tables_asked (held.Paged old) ps f (held.Paged new)
+      → IsFirstFault (paged_source honest gives) old ps f new
+      → IsFirstFault (tables_source {A = A} honest gives) (held.Paged old) ps f (held.Paged new)
   paged_first A old new [] f h = absurd h
   paged_first A old new (p ∷ ps) f (inl a) = inl (record { valid = a.valid; given = a.given; asked = a.asked; failed_so = a.failed_so; fails_as_before = a.fails_as_before })
   paged_first A old new (p ∷ ps) f (inr h) = inr (
@@ -84,9 +80,8 @@ module _ {P : Type 0} (gives : P → Question → Result (List ℕ) SourceFault 
   )
 
   paged_tells : {A : Type 0} (old new : Paged P) (ps : List Position) (r : EditRefusal A)
-      → TellsFirstFault (λ (w : Paged P) p answer. IsPagedAnswer gives w.sources p answer) (λ (w : Paged P) (c : Class) (f : SourceFault). MayFail gives
-      (held_of w.sources c) c f) (λ (w : Paged P). w.asked) old ps new r
-      → TellsFirstFault (tables_give {A = A} gives) (tables_may_fail gives) tables_asked (held.Paged old) ps (held.Paged new) r
+      → TellsFirstFault (paged_source honest gives) old ps new r
+      → TellsFirstFault (tables_source {A = A} honest gives) (held.Paged old) ps (held.Paged new) r
   paged_tells {A = A} old new ps (edit.NoTable c) h = paged_first A old new ps (probe.NoTable c) h
   paged_tells {A = A} old new ps (edit.TableRead f) h = paged_first A old new ps f h
   paged_tells old new ps edit.NoSuchNode h = tt
@@ -101,15 +96,15 @@ module _ {P : Type 0} (gives : P → Question → Result (List ℕ) SourceFault 
   paged_tells old new ps edit.OutOfMemory h = tt
 
   pub paged_told : {A T : Type 0} (t : Tables P A) (old new : Paged P) (ps : List Position) (r : Result T (EditRefusal A)) → t ≡ held.Paged old
-      → IfErr r (TellsFirstFault (λ (w : Paged P) p answer. IsPagedAnswer gives w.sources p answer) (λ (w : Paged P) (c : Class) (f : SourceFault). MayFail
-      gives (held_of w.sources c) c f) (λ (w : Paged P). w.asked) old ps new)
-      → IfErr r (TellsFirstFault (tables_give gives) (tables_may_fail gives) tables_asked t ps (held.Paged new))
+      → IfErr r (TellsFirstFault (paged_source honest gives) old ps new)
+      → IfErr r (TellsFirstFault (tables_source honest gives) t ps (held.Paged new))
   paged_told t old new ps (Ok x) is h = tt
   paged_told {A = A} t old new ps (Err x) is h =
-      subst (λ (u : Tables P A). TellsFirstFault (tables_give gives) (tables_may_fail gives) tables_asked u ps (held.Paged new) x) (sym is)
+      subst (λ (u : Tables P A). TellsFirstFault (tables_source honest gives) u ps (held.Paged new) x) (sym is)
       (paged_tells old new ps x h)
 
-  -- without a table nothing may fail
+-- without a table nothing may fail
+module _ {P : Type 0} (gives : GivesOf P) where
   pub none_fails : {A : Type 0} (t : Tables P A) (c : Class) (f : SourceFault) → tables_held t c ≡ false → tables_may_fail gives t c f → ⊥
   none_fails (held.Whole w) c f none m = m
   none_fails (held.Paged w) c f none m = go (held_of w.sources c) none m
@@ -119,17 +114,17 @@ module _ {P : Type 0} (gives : P → Question → Result (List ℕ) SourceFault 
       go (Some h) e k = let contrary : ⊥ = cc in contrary
 
 -- the first value that could not be read is of a class whose table may fail so
-module _ {V : Type 0} (gives : V → Position → ProbeAnswer → Type 0) (may_fail : V → Class → SourceFault → Type 0) (asked_of : V → ℕ)
+module _ {V : Type 0} (source : ValueSource V)
     (known : Class → SourceFault → Type 0) where
-  failing-among : (old new : V) (ps : List Position) (f : SourceFault) → ((c : Class) (g : SourceFault) → may_fail old c g → known c g)
-      → IsFirstFault gives may_fail asked_of old ps (probe.TableRead f) new → MayFailAmong known ps f
+  failing-among : (old new : V) (ps : List Position) (f : SourceFault) → ((c : Class) (g : SourceFault) → source.may_fail old c g → known c g)
+      → IsFirstFault source old ps (probe.TableRead f) new → MayFailAmong known ps f
   failing-among old new [] f knows h = absurd h
   failing-among old new (p ∷ ps) f knows (inl a) = inl (λ c of. knows c f (a.failed_so c f of refl))
   failing-among old new (p ∷ ps) f knows (inr h) = inr (failing-among h.1 new ps f (λ c g m. knows c g (h.2.fails_as_before c g m)) h.3)
 
   pub failing_known : {A : Type 0} (old new : V) (asked : List Position) (r : EditRefusal A)
-      → ((c : Class) (g : SourceFault) → may_fail old c g → known c g)
-      → TellsFirstFault gives may_fail asked_of old asked new r → IsFailingTable known asked r
+      → ((c : Class) (g : SourceFault) → source.may_fail old c g → known c g)
+      → TellsFirstFault source old asked new r → IsFailingTable known asked r
   failing_known old new asked (edit.TableRead (probe.TableRead f)) knows h = failing-among old new asked f knows h
   failing_known old new asked (edit.TableRead (probe.NoTable c)) knows h = tt
   failing_known old new asked (edit.TableRead (probe.PageDamaged c n)) knows h = tt

@@ -121,13 +121,15 @@ IsProbingEditWithMemory s o asked new text reply = IsProbingEdit s o asked new t
 abbrev pub IsPositionReply : State → Environment → Document → Start → Reply → Type 0
 IsPositionReply s o empty new reply = reply ≡ accepted (record s { document = start new }) (reply_line (codes "position ") (fen_text new))
 IsPositionReply s o (start old) new reply = reply ≡ accepted (record s { document = start new }) (reply_line (codes "position ") (fen_text new))
-IsPositionReply s o (study old) new reply = IsProbingEdit s o (asked_at new.position) (with_position old new) (reply_line (codes "position ") (fen_text new)) reply
+IsPositionReply s o (study old) new reply =
+    IsProbingEdit s o (asked_at new.position) (with_position old new) (reply_line (codes "position ") (fen_text new)) reply
 
 -- `shift`: a move of the tree is not legal, which may also be reported as want of memory for its path
 abbrev pub IsShiftReply : State → Environment → PlainStudy → Start → Option (EditRefusal (Unit {0})) → Reply → Type 0
 IsShiftReply s no_room old new (Some refusal) reply = reply ≡ refused s OutOfMemory
 IsShiftReply s _ old new (Some refusal) reply = reply ≡ refused_as s (edit_words refusal)
-IsShiftReply s o old new None reply = IsProbingEditWithMemory s o (positions_asked (with_start old new)) (with_start old new) (reply_line (codes "shift ") (fen_text new)) reply
+IsShiftReply s o old new None reply =
+    IsProbingEditWithMemory s o (positions_asked (with_start old new)) (with_start old new) (reply_line (codes "shift ") (fen_text new)) reply
 
 abbrev pub IsStartReply : State → Environment → FenCommand → Document → Result Start FenFault → Reply → Type 0
 IsStartReply s o PositionWord document (Err fault) reply = reply ≡ refused s (Fen fault)
@@ -164,7 +166,8 @@ inserted_text old steps m = insert_text (steps ++ children_at old.tree.below ste
 
 abbrev pub IsInserted : State → Environment → PlainStudy → List ℕ → Move → Option (EditRefusal (Unit {0})) → Reply → Type 0
 IsInserted s o old steps m (Some refusal) reply = reply ≡ refused_as s (edit_words refusal)
-IsInserted s o old steps m None reply = IsProbingEditWithMemory s o (asked_at (after (position_at old steps) m)) (with_insertion old steps m) (inserted_text old steps m) reply
+IsInserted s o old steps m None reply =
+    IsProbingEditWithMemory s o (asked_at (after (position_at old steps) m)) (with_insertion old steps m) (inserted_text old steps m) reply
 
 abbrev pub IsMoveReply : State → Environment → PlainStudy → List ℕ → Result Move SanFault → Reply → Type 0
 IsMoveReply s o old steps (Err fault) reply = reply ≡ refused s (San fault)

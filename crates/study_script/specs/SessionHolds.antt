@@ -4,13 +4,12 @@ use Rattle.study_script.specs.declared.store.StoreFault.{StoreFault}
 use Rattle.std.specs.Io.KnownBytes.{Appends}
 use Rattle.study_board.specs.Position.{Position}
 use Rattle.study_values.specs.declared.fault.SourceFault.{SourceFault}
-use Rattle.study_tablefile.specs.PageSource.{Question}
 use Rattle.study_text.specs.Taken.{TakesPrefix}
 use Rattle.study_material.specs.declared.class.Class.{Class}
 use Rattle.study_table.specs.Table.{Table, table_of}
-use Rattle.study_values.specs.Values.{ProbeAnswer}
+use Rattle.study_values.specs.Values.{ProbeAnswer, ValueSource}
 use Rattle.study_prober.specs.WholeTables.{TablesAreRight, IsCellAnswer}
-use Rattle.study_prober.specs.Sources.{GivesOf}
+use Rattle.study_prober.specs.Sources.{GivesOf, HonestOf}
 use Rattle.study_prober.specs.PagedTables.{SourcesAreRight, IsPagedAnswer, MayFail, held_of}
 use Rattle.study_marks.specs.declared.refusal.Refusal.{Refusal as EditRefusal}
 use Rattle.study_marks.specs.declared.refusal.Refusal.TheVariants as edit
@@ -39,7 +38,7 @@ module _ {A : Type 0} where
 
 module _ {P A : Type 0} where
   -- each value that is returned is the game's
-  abbrev pub tables_honest : (P → Table → ℕ → Type 0) → Tables P A → Type 0
+  abbrev pub tables_honest : HonestOf P → Tables P A → Type 0
   tables_honest honest (Whole w) = TablesAreRight w.tables
   tables_honest honest (Paged w) = SourcesAreRight honest w.sources
 
@@ -49,7 +48,7 @@ module _ {P A : Type 0} where
   tables_held (Paged w) c = is_some (held_of w.sources c)
 
   -- the possible answers for a position
-  abbrev pub tables_give : (P → Question → Result (List ℕ) SourceFault → Type 0) → Tables P A → Position → ProbeAnswer → Type 0
+  abbrev pub tables_give : GivesOf P → Tables P A → Position → ProbeAnswer → Type 0
   tables_give gives (Whole w) p answer = IsCellAnswer w.tables p answer
   tables_give gives (Paged w) p answer = IsPagedAnswer gives w.sources p answer
 
@@ -65,6 +64,17 @@ module _ {P A : Type 0} where
   abbrev pub tables_failed : Tables P A → ℕ
   tables_failed (Whole w) = 0
   tables_failed (Paged w) = w.failed
+
+  -- the tables as a source of values
+  abbrev pub tables_source : HonestOf P → GivesOf P → ValueSource (Tables P A)
+  tables_source honest gives = record {
+    is_honest = tables_honest honest;
+    held = tables_held;
+    gives = tables_give gives;
+    may_fail = tables_may_fail gives;
+    asked_of = tables_asked;
+    failed_of = tables_failed;
+  }
 
   abbrev pub are_paged : Tables P A → Bool
   are_paged (Whole w) = false

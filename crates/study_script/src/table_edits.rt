@@ -12,7 +12,7 @@ ghost use Rattle.study_marks.specs.EditLists.{IsShiftRefusal};
 ghost use Rattle.study_marks.specs.Answers.{IsUndamaged, TellsFirstFault};
 ghost use Rattle.study_marks.specs.Edits.{first_illegal_from, with_position, with_start, with_insertion, shift_refusal, insert_refusal};
 ghost use Rattle.study_script.specs.Replies.{new_study};
-ghost use Rattle.study_script.specs.SessionHolds.{tables_held, tables_honest, tables_give, tables_may_fail, tables_asked, are_paged, HasNoDeviceFault};
+ghost use Rattle.study_script.specs.SessionHolds.{tables_held, tables_honest, tables_may_fail, tables_source, are_paged, HasNoDeviceFault};
 
 use crate::tables::Tables;
 use std::alloc::Allocator;
@@ -31,7 +31,7 @@ pub fn set_position<'a, P: PageSource, A: Allocator>(
     ensures refusal { IfErr result (IsOutside (tables_held tables.old) (asked_at start.position)) }
     ensures device { IfErr result (HasNoDeviceFault (are_paged tables.old)) }
     ensures takes_no_memory { IfErr result (λ e. is_of_tables e ≡ true) }
-    ensures first { IfErr result (TellsFirstFault (tables_give P.gives) (tables_may_fail P.gives) tables_asked tables.old
+    ensures first { IfErr result (TellsFirstFault (tables_source P.honest P.gives) tables.old
         (asked_at start.position) tables.new) }
     ensures no_damage { tables_honest P.honest tables.old → IfErr result IsUndamaged }
     ensures found { OnOk result (AllHeld (tables_held tables.old) (asked_at start.position)) }
@@ -59,7 +59,7 @@ pub fn shift_position<'a, P: PageSource, A: Allocator>(
         (shift_refusal (plain_study (marked bench.old)) start)) }
     ensures broken { OnOk result (first_illegal_from 0 start.position (marked bench.old).tree.below ≡ None) }
     ensures device { IfErr result (HasNoDeviceFault (are_paged tables.old)) }
-    ensures first { IfErr result (TellsFirstFault (tables_give P.gives) (tables_may_fail P.gives) tables_asked tables.old
+    ensures first { IfErr result (TellsFirstFault (tables_source P.honest P.gives) tables.old
         (positions_asked (with_start (plain_study (marked bench.old)) start)) tables.new) }
     ensures no_damage { tables_honest P.honest tables.old → IfErr result IsUndamaged }
     ensures found { OnOk result (AllHeld (tables_held tables.old) (positions_asked (with_start (plain_study (marked bench.old)) start))) }
@@ -88,7 +88,7 @@ pub fn insert_move<'a, P: PageSource, A: Allocator>(
         (IfErr result (IsOutside (tables_held tables.old) (asked_at (after (position_at (marked bench.old) path.now) m))))
         (λ fault. result ≡ Err fault) }
     ensures device { IfErr result (HasNoDeviceFault (are_paged tables.old)) }
-    ensures first { IfErr result (TellsFirstFault (tables_give P.gives) (tables_may_fail P.gives) tables_asked tables.old
+    ensures first { IfErr result (TellsFirstFault (tables_source P.honest P.gives) tables.old
         (asked_at (after (position_at (marked bench.old) path.now) m)) tables.new) }
     ensures no_damage { tables_honest P.honest tables.old → IfErr result IsUndamaged }
     ensures found { OnOk result (AllHeld (tables_held tables.old) (asked_at (after (position_at (marked bench.old) path.now) m))) }
@@ -117,7 +117,7 @@ pub fn new_bench<'a, P: PageSource, A: Allocator>(
     ensures refusal { IfErr result (IsOutside (tables_held tables.old) (asked_at start.position)) }
     ensures device { IfErr result (HasNoDeviceFault (are_paged tables.old)) }
     ensures takes_no_memory { IfErr result (λ e. is_of_tables e ≡ true) }
-    ensures first { IfErr result (TellsFirstFault (tables_give P.gives) (tables_may_fail P.gives) tables_asked tables.old
+    ensures first { IfErr result (TellsFirstFault (tables_source P.honest P.gives) tables.old
         (asked_at start.position) tables.new) }
     ensures no_damage { tables_honest P.honest tables.old → IfErr result IsUndamaged }
     ensures found { OnOk result (AllHeld (tables_held tables.old) (asked_at start.position)) }

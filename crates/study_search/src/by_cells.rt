@@ -135,10 +135,10 @@ fn read_page<V: CellPages>(
     values: &mut V,
 ) -> Result<(), ProbeFault>
     requires { 4096 * page < 2 * side_step class }
-    ensures game { V.is_honest values.old → OnOk result (AreValuesOf class page into.new) }
-    ensures faults { IfErr result (CanReport V.held V.may_fail V.is_honest values.old) }
-    ensures honest { V.is_honest values.old → V.is_honest values.new }
-    ensures tables { HasSameTables V.held V.may_fail values.old values.new }
+    ensures game { V.source.is_honest values.old → OnOk result (AreValuesOf class page into.new) }
+    ensures faults { IfErr result (CanReport V.source values.old) }
+    ensures honest { V.source.is_honest values.old → V.source.is_honest values.new }
+    ensures tables { HasSameTables V.source values.old values.new }
 {
     values.read_cells(class, page, into)
 }
@@ -169,11 +169,11 @@ fn next_facing<V: CellPages>(
     requires page { 4096 * page < 2 * side_step class }
     requires from { 4096 * page ≤ from }
     requires to { to ≤ 4096 * page + 4096 }
-    ensures game { V.is_honest values.old → AreValuesOf class page own.now → IfOk result (IsNext (IsZugzwangAt class) from to) }
+    ensures game { V.source.is_honest values.old → AreValuesOf class page own.now → IfOk result (IsNext (IsZugzwangAt class) from to) }
     ensures within { IfOk result (λ next. IfSome next (λ n. (from ≤ n) × (n < to))) }
-    ensures faults { IfErr result (CanReport V.held V.may_fail V.is_honest values.old) }
-    ensures honest { V.is_honest values.old → V.is_honest values.new }
-    ensures tables { HasSameTables V.held V.may_fail values.old values.new }
+    ensures faults { IfErr result (CanReport V.source values.old) }
+    ensures honest { V.source.is_honest values.old → V.source.is_honest values.new }
+    ensures tables { HasSameTables V.source values.old values.new }
 {
     values_are_unique();
     let other_page = opposite(class, page);
@@ -196,11 +196,11 @@ fn next_on_page<V: CellPages>(
     requires page { 4096 * page < 2 * side_step class }
     requires from { 4096 * page ≤ from }
     requires to { to ≤ 4096 * page + 4096 }
-    ensures game { V.is_honest values.old → IfOk result (IsNext (IsZugzwangAt class) from to) }
+    ensures game { V.source.is_honest values.old → IfOk result (IsNext (IsZugzwangAt class) from to) }
     ensures within { IfOk result (λ next. IfSome next (λ n. (from ≤ n) × (n < to))) }
-    ensures faults { IfErr result (CanReport V.held V.may_fail V.is_honest values.old) }
-    ensures honest { V.is_honest values.old → V.is_honest values.new }
-    ensures tables { HasSameTables V.held V.may_fail values.old values.new }
+    ensures faults { IfErr result (CanReport V.source values.old) }
+    ensures honest { V.source.is_honest values.old → V.source.is_honest values.new }
+    ensures tables { HasSameTables V.source values.old values.new }
 {
     let mut own = [0; PAGE_CELLS];
     match read_page(class, page, &mut own, values) {
@@ -250,11 +250,11 @@ fn next_on<V: CellPages>(
     requires theme { search.now.theme ≡ theme.Zugzwang }
     requires whole { side_step search.now.class % 4096 ≡ 0 }
     requires page { 4096 * page < 2 * side_step search.now.class }
-    ensures game { V.is_honest values.old → IfOk result (IsNext (IsFoundOn search.now page) from to) }
+    ensures game { V.source.is_honest values.old → IfOk result (IsNext (IsFoundOn search.now page) from to) }
     ensures within { IfOk result (λ next. IfSome next (λ n. (from ≤ n) × (n < to))) }
-    ensures faults { IfErr result (CanReport V.held V.may_fail V.is_honest values.old) }
-    ensures honest { V.is_honest values.old → V.is_honest values.new }
-    ensures tables { HasSameTables V.held V.may_fail values.old values.new }
+    ensures faults { IfErr result (CanReport V.source values.old) }
+    ensures honest { V.source.is_honest values.old → V.source.is_honest values.new }
+    ensures tables { HasSameTables V.source values.old values.new }
 {
     let class = search.class;
     let wanted = is_for(search.side, side_on(class, page));
@@ -286,11 +286,11 @@ pub fn next_zugzwang<V: CellPages>(
 ) -> Result<Option<u32>, ProbeFault>
     requires theme { search.now.theme ≡ theme.Zugzwang }
     requires whole { side_step search.now.class % 4096 ≡ 0 }
-    ensures game { V.is_honest values.old → IfOk result (IsNext (IsFound search.now) from to) }
+    ensures game { V.source.is_honest values.old → IfOk result (IsNext (IsFound search.now) from to) }
     ensures within { IfOk result (λ next. IfSome next (λ n. (from ≤ n) × (n < to))) }
-    ensures faults { IfErr result (CanReport V.held V.may_fail V.is_honest values.old) }
-    ensures honest { V.is_honest values.old → V.is_honest values.new }
-    ensures tables { HasSameTables V.held V.may_fail values.old values.new }
+    ensures faults { IfErr result (CanReport V.source values.old) }
+    ensures honest { V.source.is_honest values.old → V.source.is_honest values.new }
+    ensures tables { HasSameTables V.source values.old values.new }
 {
     let end = end_page(search.class, to);
     for page in from / PAGE..end {

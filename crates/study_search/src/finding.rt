@@ -50,10 +50,10 @@ fn is_looked_for<V: Values>(
     search: &Search,
     values: &mut V,
 ) -> Result<bool, ProbeFault>
-    ensures game { V.is_honest values.old → IfOk result (λ b. (b ≡ true) ↔ IsLookedFor search.now p.now) }
-    ensures faults { IfErr result (CanReport V.held V.may_fail V.is_honest values.old) }
-    ensures honest { V.is_honest values.old → V.is_honest values.new }
-    ensures tables { HasSameTables V.held V.may_fail values.old values.new }
+    ensures game { V.source.is_honest values.old → IfOk result (λ b. (b ≡ true) ↔ IsLookedFor search.now p.now) }
+    ensures faults { IfErr result (CanReport V.source values.old) }
+    ensures honest { V.source.is_honest values.old → V.source.is_honest values.new }
+    ensures tables { HasSameTables V.source values.old values.new }
 {
     let wanted = is_for(search.side, p.to_move());
     if wanted {
@@ -64,10 +64,10 @@ fn is_looked_for<V: Values>(
 
 /// Whether the number is that of a matching position.
 fn is_found<V: Values>(search: &Search, number: u32, values: &mut V) -> Result<bool, ProbeFault>
-    ensures game { V.is_honest values.old → IfOk result (λ b. (b ≡ true) ↔ IsFound search.now number) }
-    ensures faults { IfErr result (CanReport V.held V.may_fail V.is_honest values.old) }
-    ensures honest { V.is_honest values.old → V.is_honest values.new }
-    ensures tables { HasSameTables V.held V.may_fail values.old values.new }
+    ensures game { V.source.is_honest values.old → IfOk result (λ b. (b ≡ true) ↔ IsFound search.now number) }
+    ensures faults { IfErr result (CanReport V.source values.old) }
+    ensures honest { V.source.is_honest values.old → V.source.is_honest values.new }
+    ensures tables { HasSameTables V.source values.old values.new }
 {
     let wanted = is_for(search.side, side_at(search.class, number));
     if !wanted {
@@ -86,11 +86,11 @@ fn next_by_values<V: Values>(
     to: u32,
     values: &mut V,
 ) -> Result<Option<u32>, ProbeFault>
-    ensures game { V.is_honest values.old → IfOk result (IsNext (IsFound search.now) from to) }
+    ensures game { V.source.is_honest values.old → IfOk result (IsNext (IsFound search.now) from to) }
     ensures within { IfOk result (λ next. IfSome next (λ n. (from ≤ n) × (n < to))) }
-    ensures faults { IfErr result (CanReport V.held V.may_fail V.is_honest values.old) }
-    ensures honest { V.is_honest values.old → V.is_honest values.new }
-    ensures tables { HasSameTables V.held V.may_fail values.old values.new }
+    ensures faults { IfErr result (CanReport V.source values.old) }
+    ensures honest { V.source.is_honest values.old → V.source.is_honest values.new }
+    ensures tables { HasSameTables V.source values.old values.new }
 {
     for number in from..to {
         match is_found(search, number, values) {
@@ -109,11 +109,11 @@ pub fn next_found<V: CellPages>(
     to: u32,
     values: &mut V,
 ) -> Result<Option<u32>, ProbeFault>
-    ensures game { V.is_honest values.old → IfOk result (IsNext (IsFound search.now) from to) }
+    ensures game { V.source.is_honest values.old → IfOk result (IsNext (IsFound search.now) from to) }
     ensures within { IfOk result (λ next. IfSome next (λ n. (from ≤ n) × (n < to))) }
-    ensures faults { IfErr result (CanReport V.held V.may_fail V.is_honest values.old) }
-    ensures honest { V.is_honest values.old → V.is_honest values.new }
-    ensures tables { HasSameTables V.held V.may_fail values.old values.new }
+    ensures faults { IfErr result (CanReport V.source values.old) }
+    ensures honest { V.source.is_honest values.old → V.source.is_honest values.new }
+    ensures tables { HasSameTables V.source values.old values.new }
 {
     let by_cells = is_by_cells(search);
     if by_cells {
@@ -130,10 +130,10 @@ pub fn most_only_moves<V: Values>(
     limit: u8,
     values: &mut V,
 ) -> Result<Option<u8>, ProbeFault>
-    ensures game { V.is_honest values.old → IfOk result (IsMost outcome p.now limit) }
-    ensures faults { IfErr result (CanReport V.held V.may_fail V.is_honest values.old) }
-    ensures honest { V.is_honest values.old → V.is_honest values.new }
-    ensures tables { HasSameTables V.held V.may_fail values.old values.new }
+    ensures game { V.source.is_honest values.old → IfOk result (IsMost outcome p.now limit) }
+    ensures faults { IfErr result (CanReport V.source values.old) }
+    ensures honest { V.source.is_honest values.old → V.source.is_honest values.new }
+    ensures tables { HasSameTables V.source values.old values.new }
 {
     match has_only_moves(p, outcome, 0, values) {
         Err(fault) => return Err(fault),

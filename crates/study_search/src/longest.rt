@@ -38,10 +38,10 @@ fn mate_by(value: Value) -> Option<u8>
 
 /// The number of plies in which the side to move mates, if it does.
 pub fn mate_of<V: Values>(p: &Position, values: &mut V) -> Result<Option<u8>, ProbeFault>
-    ensures game { V.is_honest values.old → IfOk result (λ mate. (k : ℕ) → (mate ≡ Some k) ↔ IsWon p.now k) }
-    ensures faults { IfErr result (CanReport V.held V.may_fail V.is_honest values.old) }
-    ensures honest { V.is_honest values.old → V.is_honest values.new }
-    ensures tables { HasSameTables V.held V.may_fail values.old values.new }
+    ensures game { V.source.is_honest values.old → IfOk result (λ mate. (k : ℕ) → (mate ≡ Some k) ↔ IsWon p.now k) }
+    ensures faults { IfErr result (CanReport V.source values.old) }
+    ensures honest { V.source.is_honest values.old → V.source.is_honest values.new }
+    ensures tables { HasSameTables V.source values.old values.new }
 {
     values_are_unique();
     match value_of(p, values) {
@@ -52,10 +52,10 @@ pub fn mate_of<V: Values>(p: &Position, values: &mut V) -> Result<Option<u8>, Pr
 
 /// The number of plies in which the side mates, if it is to move and does.
 fn mate_for<V: Values>(p: &Position, side: Side, values: &mut V) -> Result<Option<u8>, ProbeFault>
-    ensures game { V.is_honest values.old → IfOk result (λ mate. (k : ℕ) → (mate ≡ Some k) ↔ MatesIn side k p.now) }
-    ensures faults { IfErr result (CanReport V.held V.may_fail V.is_honest values.old) }
-    ensures honest { V.is_honest values.old → V.is_honest values.new }
-    ensures tables { HasSameTables V.held V.may_fail values.old values.new }
+    ensures game { V.source.is_honest values.old → IfOk result (λ mate. (k : ℕ) → (mate ≡ Some k) ↔ MatesIn side k p.now) }
+    ensures faults { IfErr result (CanReport V.source values.old) }
+    ensures honest { V.source.is_honest values.old → V.source.is_honest values.new }
+    ensures tables { HasSameTables V.source values.old values.new }
 {
     let wanted = is_for(Some(side), p.to_move());
     if wanted {
@@ -71,10 +71,10 @@ fn mate_at<V: Values>(
     number: u32,
     values: &mut V,
 ) -> Result<Option<u8>, ProbeFault>
-    ensures game { V.is_honest values.old → IfOk result (λ mate. (k : ℕ) → (mate ≡ Some k) ↔ MatesAt class side number k) }
-    ensures faults { IfErr result (CanReport V.held V.may_fail V.is_honest values.old) }
-    ensures honest { V.is_honest values.old → V.is_honest values.new }
-    ensures tables { HasSameTables V.held V.may_fail values.old values.new }
+    ensures game { V.source.is_honest values.old → IfOk result (λ mate. (k : ℕ) → (mate ≡ Some k) ↔ MatesAt class side number k) }
+    ensures faults { IfErr result (CanReport V.source values.old) }
+    ensures honest { V.source.is_honest values.old → V.source.is_honest values.new }
+    ensures tables { HasSameTables V.source values.old values.new }
 {
     let wanted = is_for(Some(side), side_at(class, number));
     if !wanted {
@@ -92,10 +92,10 @@ pub fn longest_mate<V: Values>(
     side: Side,
     values: &mut V,
 ) -> Result<Option<u8>, ProbeFault>
-    ensures game { V.is_honest values.old → IfOk result (IsLongest class side) }
-    ensures faults { IfErr result (CanReport V.held V.may_fail V.is_honest values.old) }
-    ensures honest { V.is_honest values.old → V.is_honest values.new }
-    ensures tables { HasSameTables V.held V.may_fail values.old values.new }
+    ensures game { V.source.is_honest values.old → IfOk result (IsLongest class side) }
+    ensures faults { IfErr result (CanReport V.source values.old) }
+    ensures honest { V.source.is_honest values.old → V.source.is_honest values.new }
+    ensures tables { HasSameTables V.source values.old values.new }
 {
     let mut longest = None;
     for number in 0..cells(class) {

@@ -49,10 +49,10 @@ pub(crate) fn has<V: Values>(
     outcome: Outcome,
     values: &mut V,
 ) -> Result<bool, ProbeFault>
-    ensures game { V.is_honest values.old → IfOk result (λ b. (b ≡ true) ↔ Has outcome p.now) }
-    ensures faults { IfErr result (CanReport V.held V.may_fail V.is_honest values.old) }
-    ensures honest { V.is_honest values.old → V.is_honest values.new }
-    ensures tables { HasSameTables V.held V.may_fail values.old values.new }
+    ensures game { V.source.is_honest values.old → IfOk result (λ b. (b ≡ true) ↔ Has outcome p.now) }
+    ensures faults { IfErr result (CanReport V.source values.old) }
+    ensures honest { V.source.is_honest values.old → V.source.is_honest values.new }
+    ensures tables { HasSameTables V.source values.old values.new }
 {
     values_are_unique();
     match value_of(p, values) {
@@ -63,10 +63,10 @@ pub(crate) fn has<V: Values>(
 
 /// Whether the move that led here keeps the outcome.
 fn holds<V: Values>(q: &Position, outcome: Outcome, values: &mut V) -> Result<bool, ProbeFault>
-    ensures game { V.is_honest values.old → IfOk result (λ b. (b ≡ true) ↔ Holds outcome q.now) }
-    ensures faults { IfErr result (CanReport V.held V.may_fail V.is_honest values.old) }
-    ensures honest { V.is_honest values.old → V.is_honest values.new }
-    ensures tables { HasSameTables V.held V.may_fail values.old values.new }
+    ensures game { V.source.is_honest values.old → IfOk result (λ b. (b ≡ true) ↔ Holds outcome q.now) }
+    ensures faults { IfErr result (CanReport V.source values.old) }
+    ensures honest { V.source.is_honest values.old → V.source.is_honest values.new }
+    ensures tables { HasSameTables V.source values.old values.new }
 {
     values_are_unique();
     match value_of(q, values) {
@@ -83,10 +83,10 @@ fn some_holds<V: Values>(
     values: &mut V,
 ) -> Result<bool, ProbeFault>
     requires legal { All (λ m. is_legal p.now m ≡ true) moves.now }
-    ensures game { V.is_honest values.old → IfOk result (λ b. (b ≡ true) ↔ SomeLeads (Holds outcome) p.now moves.now) }
-    ensures faults { IfErr result (CanReport V.held V.may_fail V.is_honest values.old) }
-    ensures honest { V.is_honest values.old → V.is_honest values.new }
-    ensures tables { HasSameTables V.held V.may_fail values.old values.new }
+    ensures game { V.source.is_honest values.old → IfOk result (λ b. (b ≡ true) ↔ SomeLeads (Holds outcome) p.now moves.now) }
+    ensures faults { IfErr result (CanReport V.source values.old) }
+    ensures honest { V.source.is_honest values.old → V.source.is_honest values.new }
+    ensures tables { HasSameTables V.source values.old values.new }
 {
     match moves.split_first() {
         None => Ok(false),
@@ -109,11 +109,11 @@ fn only_among<V: Values>(
     values: &mut V,
 ) -> Result<Option<Move>, ProbeFault>
     requires legal { All (λ m. is_legal p.now m ≡ true) moves.now }
-    ensures game { V.is_honest values.old → IfOk result (λ only. (m : AMove) → (only ≡ Some m) ↔ IsOnlyAmong outcome p.now m moves.now) }
+    ensures game { V.source.is_honest values.old → IfOk result (λ only. (m : AMove) → (only ≡ Some m) ↔ IsOnlyAmong outcome p.now m moves.now) }
     ensures legal { IfOk result (λ only. IfSome only (λ m. is_legal p.now m ≡ true)) }
-    ensures faults { IfErr result (CanReport V.held V.may_fail V.is_honest values.old) }
-    ensures honest { V.is_honest values.old → V.is_honest values.new }
-    ensures tables { HasSameTables V.held V.may_fail values.old values.new }
+    ensures faults { IfErr result (CanReport V.source values.old) }
+    ensures honest { V.source.is_honest values.old → V.source.is_honest values.new }
+    ensures tables { HasSameTables V.source values.old values.new }
 {
     match moves.split_first() {
         None => Ok(None),
@@ -138,11 +138,11 @@ pub fn only_move<V: Values>(
     outcome: Outcome,
     values: &mut V,
 ) -> Result<Option<Move>, ProbeFault>
-    ensures game { V.is_honest values.old → IfOk result (λ only. (m : AMove) → (only ≡ Some m) ↔ IsOnlyMove outcome p.now m) }
+    ensures game { V.source.is_honest values.old → IfOk result (λ only. (m : AMove) → (only ≡ Some m) ↔ IsOnlyMove outcome p.now m) }
     ensures legal { IfOk result (λ only. IfSome only (λ m. is_legal p.now m ≡ true)) }
-    ensures faults { IfErr result (CanReport V.held V.may_fail V.is_honest values.old) }
-    ensures honest { V.is_honest values.old → V.is_honest values.new }
-    ensures tables { HasSameTables V.held V.may_fail values.old values.new }
+    ensures faults { IfErr result (CanReport V.source values.old) }
+    ensures honest { V.source.is_honest values.old → V.source.is_honest values.new }
+    ensures tables { HasSameTables V.source values.old values.new }
 {
     let moves = legal_moves(p);
     only_among(p, outcome, moves.as_slice(), values)
@@ -154,11 +154,11 @@ pub fn key_move<V: Values>(
     outcome: Outcome,
     values: &mut V,
 ) -> Result<Option<Move>, ProbeFault>
-    ensures game { V.is_honest values.old → IfOk result (λ only. (m : AMove) → (only ≡ Some m) ↔ IsKey outcome p.now m) }
+    ensures game { V.source.is_honest values.old → IfOk result (λ only. (m : AMove) → (only ≡ Some m) ↔ IsKey outcome p.now m) }
     ensures legal { IfOk result (λ only. IfSome only (λ m. is_legal p.now m ≡ true)) }
-    ensures faults { IfErr result (CanReport V.held V.may_fail V.is_honest values.old) }
-    ensures honest { V.is_honest values.old → V.is_honest values.new }
-    ensures tables { HasSameTables V.held V.may_fail values.old values.new }
+    ensures faults { IfErr result (CanReport V.source values.old) }
+    ensures honest { V.source.is_honest values.old → V.source.is_honest values.new }
+    ensures tables { HasSameTables V.source values.old values.new }
 {
     match has(p, outcome, values) {
         Err(fault) => Err(fault),
@@ -179,10 +179,10 @@ fn some_reply_leads<V: Values>(
     requires legal { All (λ m. is_legal q.now m ≡ true) replies.now }
     requires few { length replies.now ≤ MAX_MOVES }
     requires some { 0 < n }
-    ensures game { V.is_honest values.old → IfOk result (λ b. (b ≡ true) ↔ SomeLeads (HasOnlyMoves outcome n) q.now replies.now) }
-    ensures faults { IfErr result (CanReport V.held V.may_fail V.is_honest values.old) }
-    ensures honest { V.is_honest values.old → V.is_honest values.new }
-    ensures tables { HasSameTables V.held V.may_fail values.old values.new }
+    ensures game { V.source.is_honest values.old → IfOk result (λ b. (b ≡ true) ↔ SomeLeads (HasOnlyMoves outcome n) q.now replies.now) }
+    ensures faults { IfErr result (CanReport V.source values.old) }
+    ensures honest { V.source.is_honest values.old → V.source.is_honest values.new }
+    ensures tables { HasSameTables V.source values.old values.new }
 {
     match replies.split_first() {
         None => Ok(false),
@@ -207,11 +207,11 @@ fn finds_only_moves<V: Values>(
     values: &mut V,
 ) -> Result<bool, ProbeFault>
     requires { 0 < n }
-    ensures game { V.is_honest values.old → (outcome ≡ Outcome.Draw → Has Outcome.Draw p.now)
+    ensures game { V.source.is_honest values.old → (outcome ≡ Outcome.Draw → Has Outcome.Draw p.now)
         → IfOk result (λ b. (b ≡ true) ↔ HasOnlyMoves outcome n p.now) }
-    ensures faults { IfErr result (CanReport V.held V.may_fail V.is_honest values.old) }
-    ensures honest { V.is_honest values.old → V.is_honest values.new }
-    ensures tables { HasSameTables V.held V.may_fail values.old values.new }
+    ensures faults { IfErr result (CanReport V.source values.old) }
+    ensures honest { V.source.is_honest values.old → V.source.is_honest values.new }
+    ensures tables { HasSameTables V.source values.old values.new }
 {
     let _men = p.men();
     match only_move(p, outcome, values) {
@@ -238,10 +238,10 @@ fn has_only_moves_on<V: Values>(
     values: &mut V,
 ) -> Result<bool, ProbeFault>
     requires { 0 < n }
-    ensures game { V.is_honest values.old → IfOk result (λ b. (b ≡ true) ↔ HasOnlyMoves outcome n p.now) }
-    ensures faults { IfErr result (CanReport V.held V.may_fail V.is_honest values.old) }
-    ensures honest { V.is_honest values.old → V.is_honest values.new }
-    ensures tables { HasSameTables V.held V.may_fail values.old values.new }
+    ensures game { V.source.is_honest values.old → IfOk result (λ b. (b ≡ true) ↔ HasOnlyMoves outcome n p.now) }
+    ensures faults { IfErr result (CanReport V.source values.old) }
+    ensures honest { V.source.is_honest values.old → V.source.is_honest values.new }
+    ensures tables { HasSameTables V.source values.old values.new }
 {
     match outcome {
         Outcome::Win => finds_only_moves(p, outcome, n, values),
@@ -257,10 +257,10 @@ pub fn has_only_moves<V: Values>(
     n: u8,
     values: &mut V,
 ) -> Result<bool, ProbeFault>
-    ensures game { V.is_honest values.old → IfOk result (λ b. (b ≡ true) ↔ HasOnlyMoves outcome n p.now) }
-    ensures faults { IfErr result (CanReport V.held V.may_fail V.is_honest values.old) }
-    ensures honest { V.is_honest values.old → V.is_honest values.new }
-    ensures tables { HasSameTables V.held V.may_fail values.old values.new }
+    ensures game { V.source.is_honest values.old → IfOk result (λ b. (b ≡ true) ↔ HasOnlyMoves outcome n p.now) }
+    ensures faults { IfErr result (CanReport V.source values.old) }
+    ensures honest { V.source.is_honest values.old → V.source.is_honest values.new }
+    ensures tables { HasSameTables V.source values.old values.new }
 {
     match has(p, outcome, values) {
         Err(fault) => Err(fault),

@@ -21,10 +21,10 @@ fn has_lower_number<V: Values>(
     q: &Position,
     values: &mut V,
 ) -> Result<bool, ProbeFault>
-    ensures game { V.is_honest values.old → IfOk result (λ b. (b ≡ true) ↔ (¬ (IsDrawn q.now) × (index_of p.now ≤ index_of q.now))) }
-    ensures faults { IfErr result (CanReport V.held V.may_fail V.is_honest values.old) }
-    ensures honest { V.is_honest values.old → V.is_honest values.new }
-    ensures tables { HasSameTables V.held V.may_fail values.old values.new }
+    ensures game { V.source.is_honest values.old → IfOk result (λ b. (b ≡ true) ↔ (¬ (IsDrawn q.now) × (index_of p.now ≤ index_of q.now))) }
+    ensures faults { IfErr result (CanReport V.source values.old) }
+    ensures honest { V.source.is_honest values.old → V.source.is_honest values.new }
+    ensures tables { HasSameTables V.source values.old values.new }
 {
     match has(q, Outcome::Draw, values) {
         Err(fault) => Err(fault),
@@ -39,10 +39,10 @@ fn has_lower_number<V: Values>(
 
 /// Whether the first of two positions is drawn or, if neither is, has the lower number.
 fn comes_first<V: Values>(p: &Position, q: &Position, values: &mut V) -> Result<bool, ProbeFault>
-    ensures game { V.is_honest values.old → IfOk result (λ b. (b ≡ true) ↔ ComesFirst p.now q.now) }
-    ensures faults { IfErr result (CanReport V.held V.may_fail V.is_honest values.old) }
-    ensures honest { V.is_honest values.old → V.is_honest values.new }
-    ensures tables { HasSameTables V.held V.may_fail values.old values.new }
+    ensures game { V.source.is_honest values.old → IfOk result (λ b. (b ≡ true) ↔ ComesFirst p.now q.now) }
+    ensures faults { IfErr result (CanReport V.source values.old) }
+    ensures honest { V.source.is_honest values.old → V.source.is_honest values.new }
+    ensures tables { HasSameTables V.source values.old values.new }
 {
     match has(p, Outcome::Draw, values) {
         Err(fault) => Err(fault),
@@ -53,10 +53,10 @@ fn comes_first<V: Values>(p: &Position, q: &Position, values: &mut V) -> Result<
 
 /// Whether, of a mutual zugzwang with White to move and its colour image with the other side to move, this one is listed.
 pub fn is_listed_of_two<V: Values>(p: &Position, values: &mut V) -> Result<bool, ProbeFault>
-    ensures game { V.is_honest values.old → IsValid (handed_on p.now) → IfOk result (λ b. (b ≡ true) ↔ IsListedOfTwo p.now) }
-    ensures faults { IfErr result (CanReport V.held V.may_fail V.is_honest values.old) }
-    ensures honest { V.is_honest values.old → V.is_honest values.new }
-    ensures tables { HasSameTables V.held V.may_fail values.old values.new }
+    ensures game { V.source.is_honest values.old → IsValid (handed_on p.now) → IfOk result (λ b. (b ≡ true) ↔ IsListedOfTwo p.now) }
+    ensures faults { IfErr result (CanReport V.source values.old) }
+    ensures honest { V.source.is_honest values.old → V.source.is_honest values.new }
+    ensures tables { HasSameTables V.source values.old values.new }
 {
     match handed_on(p) {
         None => Ok(false),

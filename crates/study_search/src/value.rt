@@ -8,10 +8,10 @@ use study_values::{ProbeFault, Value, Values};
 
 /// The value of a position.
 pub fn value_of<V: Values>(p: &Position, values: &mut V) -> Result<Value, ProbeFault>
-    ensures game { V.is_honest values.old → IfOk result (IsValueOf p.now) }
-    ensures faults { IfErr result (CanReport V.held V.may_fail V.is_honest values.old) }
-    ensures honest { V.is_honest values.old → V.is_honest values.new }
-    ensures tables { HasSameTables V.held V.may_fail values.old values.new }
+    ensures game { V.source.is_honest values.old → IfOk result (IsValueOf p.now) }
+    ensures faults { IfErr result (CanReport V.source values.old) }
+    ensures honest { V.source.is_honest values.old → V.source.is_honest values.new }
+    ensures tables { HasSameTables V.source values.old values.new }
 {
     let _men = p.men();
     values.value(p)

@@ -14,11 +14,11 @@ use study_zugzwang::{half_points, handed_on};
 
 /// The number of half points that the side to move scores.
 fn score<V: Values>(p: &Position, values: &mut V) -> Result<u8, ProbeFault>
-    ensures game { V.is_honest values.old → IfOk result (Scores p.now) }
+    ensures game { V.source.is_honest values.old → IfOk result (Scores p.now) }
     ensures few { IfOk result (λ k. k < 3) }
-    ensures faults { IfErr result (CanReport V.held V.may_fail V.is_honest values.old) }
-    ensures honest { V.is_honest values.old → V.is_honest values.new }
-    ensures tables { HasSameTables V.held V.may_fail values.old values.new }
+    ensures faults { IfErr result (CanReport V.source values.old) }
+    ensures honest { V.source.is_honest values.old → V.source.is_honest values.new }
+    ensures tables { HasSameTables V.source values.old values.new }
 {
     match value_of(p, values) {
         Err(fault) => Err(fault),
@@ -27,10 +27,10 @@ fn score<V: Values>(p: &Position, values: &mut V) -> Result<u8, ProbeFault>
 }
 
 fn scores_less_than<V: Values>(p: &Position, limit: u8, values: &mut V) -> Result<bool, ProbeFault>
-    ensures game { V.is_honest values.old → IfOk result (λ b. (b ≡ true) ↔ ScoresLessThan p.now limit) }
-    ensures faults { IfErr result (CanReport V.held V.may_fail V.is_honest values.old) }
-    ensures honest { V.is_honest values.old → V.is_honest values.new }
-    ensures tables { HasSameTables V.held V.may_fail values.old values.new }
+    ensures game { V.source.is_honest values.old → IfOk result (λ b. (b ≡ true) ↔ ScoresLessThan p.now limit) }
+    ensures faults { IfErr result (CanReport V.source values.old) }
+    ensures honest { V.source.is_honest values.old → V.source.is_honest values.new }
+    ensures tables { HasSameTables V.source values.old values.new }
 {
     values_are_unique();
     match score(p, values) {
@@ -41,10 +41,10 @@ fn scores_less_than<V: Values>(p: &Position, limit: u8, values: &mut V) -> Resul
 
 /// Whether no capture in passing is legal, and the same men are a valid position with the other side to move, in which that side scores less.
 fn other_scores_less<V: Values>(p: &Position, limit: u8, values: &mut V) -> Result<bool, ProbeFault>
-    ensures game { V.is_honest values.old → IfOk result (λ b. (b ≡ true) ↔ OtherScoresLess p.now limit) }
-    ensures faults { IfErr result (CanReport V.held V.may_fail V.is_honest values.old) }
-    ensures honest { V.is_honest values.old → V.is_honest values.new }
-    ensures tables { HasSameTables V.held V.may_fail values.old values.new }
+    ensures game { V.source.is_honest values.old → IfOk result (λ b. (b ≡ true) ↔ OtherScoresLess p.now limit) }
+    ensures faults { IfErr result (CanReport V.source values.old) }
+    ensures honest { V.source.is_honest values.old → V.source.is_honest values.new }
+    ensures tables { HasSameTables V.source values.old values.new }
 {
     let passing = has_legal_en_passant(p);
     if passing {
@@ -58,10 +58,10 @@ fn other_scores_less<V: Values>(p: &Position, limit: u8, values: &mut V) -> Resu
 
 /// Whether the position is a mutual zugzwang, whoever is to move. If the side to move wins, nothing else is evaluated.
 pub fn is_zugzwang<V: Values>(p: &Position, values: &mut V) -> Result<bool, ProbeFault>
-    ensures game { V.is_honest values.old → IfOk result (λ b. (b ≡ true) ↔ IsZugzwang p.now) }
-    ensures faults { IfErr result (CanReport V.held V.may_fail V.is_honest values.old) }
-    ensures honest { V.is_honest values.old → V.is_honest values.new }
-    ensures tables { HasSameTables V.held V.may_fail values.old values.new }
+    ensures game { V.source.is_honest values.old → IfOk result (λ b. (b ≡ true) ↔ IsZugzwang p.now) }
+    ensures faults { IfErr result (CanReport V.source values.old) }
+    ensures honest { V.source.is_honest values.old → V.source.is_honest values.new }
+    ensures tables { HasSameTables V.source values.old values.new }
 {
     values_are_unique();
     match score(p, values) {

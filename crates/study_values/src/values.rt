@@ -1,12 +1,11 @@
 //! Sources of values of positions.
 ghost use Rattle.std.specs.Prelude.{◌≡◌, ◌↔◌, ℕ, Bool, false, IfOk, IfErr, IsErrOf};
-ghost use Rattle.study_board.specs.Position.{Position as APosition};
 ghost use Rattle.study_material.specs.declared.class.Class.{Class as AClass};
 ghost use Rattle.study_material.specs.Class.{IsOf};
 ghost use Rattle.study_values.specs.Game.{IsValueOf};
 ghost use Rattle.study_text.specs.Counts.{counted};
 ghost use Rattle.study_values.specs.declared.fault.SourceFault.{SourceFault as ASourceFault};
-ghost use Rattle.study_values.specs.Values.{ProbeAnswer, IsNotDamage, faults_after, page_number};
+ghost use Rattle.study_values.specs.Values.{IsNotDamage, ValueSource, faults_after, page_number};
 
 use crate::fault::SourceFault;
 use crate::value::Value;
@@ -49,45 +48,33 @@ pub fn failures_after(count: u64, answer: &Result<Value, ProbeFault>) -> u64
 /// Returns the values of positions, and counts how often one was probed and how often a device or a page failed. Both
 /// counts stay at the last value of their type.
 pub trait Values: Drop {
-    /// Each value that is returned, by this call and all later ones, is the game's.
-    ghost is_honest: { Self → Type 0 };
-    /// A table of the class is loaded.
-    ghost held: { Self → AClass → Bool };
-
-    /// The possible answers to the next probe, of this position. An implementation that does not specify its answers may give any.
-    ghost gives: { Self → APosition → ProbeAnswer → Type 0 };
-
-    /// Reading a table of this class may fail for this fault, in this call or any later one.
-    ghost may_fail: { Self → AClass → ASourceFault → Type 0 };
-
-    ghost asked_of: { Self → ℕ };
-
-    ghost failed_of: { Self → ℕ };
+    /// What is known of the values in each state. An implementation that does not specify its answers may give any.
+    ghost source: { ValueSource Self };
 
     /// The value of a position.
     fn value(&mut self, p: &Position) -> Result<Value, ProbeFault>
-        ensures game { is_honest self.old → IfOk result (IsValueOf p.now) }
-        ensures no_damage { is_honest self.old → IfErr result IsNotDamage }
-        ensures stays_honest { is_honest self.old → is_honest self.new }
-        ensures given { gives self.old p.now result }
-        ensures failed_so { (c : AClass) (f : ASourceFault) → IsOf c p.now → IsErrOf result (ProbeFault.TableRead f) → may_fail self.old c f }
-        ensures fails_as_before { (c : AClass) (f : ASourceFault) → may_fail self.new c f → may_fail self.old c f }
-        ensures no_table { (c : AClass) → IsErrOf result (ProbeFault.NoTable c) ↔ (IsOf c p.now × (held self.old c ≡ false)) }
+        ensures game { source.is_honest self.old → IfOk result (IsValueOf p.now) }
+        ensures no_damage { source.is_honest self.old → IfErr result IsNotDamage }
+        ensures stays_honest { source.is_honest self.old → source.is_honest self.new }
+        ensures given { source.gives self.old p.now result }
+        ensures failed_so { (c : AClass) (f : ASourceFault) → IsOf c p.now → IsErrOf result (ProbeFault.TableRead f) → source.may_fail self.old c f }
+        ensures fails_as_before { (c : AClass) (f : ASourceFault) → source.may_fail self.new c f → source.may_fail self.old c f }
+        ensures no_table { (c : AClass) → IsErrOf result (ProbeFault.NoTable c) ↔ (IsOf c p.now × (source.held self.old c ≡ false)) }
         ensures damaged { (c : AClass) (n : ℕ) → IsErrOf result (ProbeFault.PageDamaged c n)
             → IsOf c p.now × (n ≡ page_number p.now) }
-        ensures same_tables { (c : AClass) → held self.new c ≡ held self.old c }
-        ensures asked { asked_of self.new ≡ counted (asked_of self.old) }
-        ensures failures { failed_of self.new ≡ faults_after (failed_of self.old) result };
+        ensures same_tables { (c : AClass) → source.held self.new c ≡ source.held self.old c }
+        ensures asked { source.asked_of self.new ≡ counted (source.asked_of self.old) }
+        ensures failures { source.failed_of self.new ≡ faults_after (source.failed_of self.old) result };
 
     /// Whether a table of the class is loaded.
     fn holds(&self, class: Class) -> bool
-        ensures { result ≡ held self.now class };
+        ensures { result ≡ source.held self.now class };
 
     /// The number of probes so far.
     fn asked(&self) -> u64
-        ensures { result ≡ asked_of self.now };
+        ensures { result ≡ source.asked_of self.now };
 
     /// The number of failures of a device or a page so far.
     fn failures(&self) -> u64
-        ensures { result ≡ failed_of self.now };
+        ensures { result ≡ source.failed_of self.now };
 }

@@ -1,5 +1,5 @@
 -- The values after all legal moves, probed in order.
-use Rattle.std.proofs.Common.{◌≡◌, ℕ, Bool, true, false, not, List, [], ◌∷◌, ◌++◌, inl, inr, append-nil, append_assoc, Result, Ok, Err, OnOk, IfErr, IsErrAnd, IsErrOf, refl, sym, ap, subst, ◌∙◌}
+use Rattle.std.proofs.Common.{◌≡◌, ℕ, false, not, List, [], ◌∷◌, ◌++◌, inl, inr, append-nil, append_assoc, Result, Ok, Err, OnOk, IfErr, IsErrAnd, IsErrOf, refl, sym, ap, subst, ◌∙◌}
 use Rattle.std.specs.List.{filter}
 use Rattle.study_board.specs.Position.{Position, IsValid}
 use Rattle.study_material.specs.declared.class.Class.{Class}
@@ -7,7 +7,7 @@ use Rattle.study_values.specs.declared.fault.SourceFault.{SourceFault}
 use Rattle.study_moves.specs.declared.moves.Move.{Move}
 use Rattle.study_moves.specs.LegalList.{legal_list}
 use Rattle.study_values.specs.declared.value.Value.{Value}
-use Rattle.study_values.specs.Values.{ProbeAnswer, IsNotDamage, faults_after}
+use Rattle.study_values.specs.Values.{ProbeAnswer, IsNotDamage, faults_after, ValueSource}
 use Rattle.study_values.specs.declared.values.ProbeFault.{ProbeFault}
 use Rattle.study_values.specs.declared.values.ProbeFault.TheVariants as probe
 use Rattle.study_marks.specs.Answers.{Answers, WereTold, IsFirstFault}
@@ -16,7 +16,7 @@ use Rattle.study_marks.specs.Evaluated.{IsProbeFaultOf, failures_of}
 use Rattle.study_facts.specs.Continuations.{moves_except}
 use Rattle.study_text.specs.Counts.{counted}
 use Rattle.study_material.specs.Class.{IsOf}
-use Rattle.study_facts.proofs.Asking.{of-told, of-fault, all-then, stops-then, none-asked}
+use Rattle.study_facts.proofs.Asking.{of-told, of-fault, all-then, stops-then}
 use Rattle.study_facts.proofs.AskedSteps.{asked-one}
 use Rattle.study_facts.proofs.NotHeld.{untold-of}
 use Rattle.study_view.specs.Asked.{EachTold, StoppedAt, HasToldEach, HasToldSome, HasWalked, HasViewed}
@@ -44,45 +44,44 @@ pub refused-so : {T E : Type 0} (r : Result T E) (x y : E) → IsErrAnd r (λ z.
 refused-so (Ok t) x y is e = absurd is
 refused-so (Err z) x y is e = let same : z ≡ y = cc in sym is ∙ same
 
-module _ {V : Type 0} (held : V → Class → Bool) (gives : V → Position → ProbeAnswer → Type 0)
-    (may_fail : V → Class → SourceFault → Type 0) (asked_of failed_of : V → ℕ) (is_honest : V → Type 0) where
+module _ {V : Type 0} (source : ValueSource V) where
   pub told-each : {T : Type 0} (p : Position) (asked : List Position) → EachReached p asked → (old new : V) (r : Result T ProbeFault)
-      → OnOk r (WereTold gives may_fail asked_of old asked new)
-      → IfErr r (λ f. IsFirstFault gives may_fail asked_of old asked f new)
-      → IfErr r (IsProbeFaultOf (held old) asked) → (is_honest old → IfErr r IsNotDamage)
-      → failed_of new ≡ failures_of r (failed_of old) → (is_honest old → is_honest new)
-      → ((c : Class) → held new c ≡ held old c) → HasToldEach held gives may_fail asked_of failed_of is_honest {T = T} p asked old r new
+      → OnOk r (WereTold source old asked new)
+      → IfErr r (λ f. IsFirstFault source old asked f new)
+      → IfErr r (IsProbeFaultOf (source.held old) asked) → (source.is_honest old → IfErr r IsNotDamage)
+      → source.failed_of new ≡ failures_of r (source.failed_of old) → (source.is_honest old → source.is_honest new)
+      → ((c : Class) → source.held new c ≡ source.held old c) → HasToldEach source {T = T} p asked old r new
   told-each p asked reached old new (Ok x) t f u d n i s = record {
-    each = ([], subst (λ (qs : List Position). WereTold gives may_fail asked_of old qs new) (sym (append-nil asked)) t);
-    all = of-told held (within p gives) may_fail asked_of failed_of is_honest old new (told-within may_fail asked_of gives p old new asked reached t) n i s;
+    each = ([], subst (λ (qs : List Position). WereTold source old qs new) (sym (append-nil asked)) t);
+    all = of-told (within p source) old new (told-within source p old new asked reached t) n i s;
   }
   told-each {T = T} p asked reached old new (Err e) t f u d n i s = record {
-    first = ([], subst (λ (qs : List Position). IsFirstFault gives may_fail asked_of old qs e new) (sym (append-nil asked)) f);
-    stopped = of-fault held (within p gives) may_fail asked_of failed_of is_honest T old new e
-        (fault-within may_fail asked_of gives p (held old) old new asked e reached u f)
-        (λ c q. untold-of (held old) asked e c u q) d n i s;
+    first = ([], subst (λ (qs : List Position). IsFirstFault source old qs e new) (sym (append-nil asked)) f);
+    stopped = of-fault (within p source) T old new e
+        (fault-within source p (source.held old) old new asked e reached u f)
+        (λ c q. untold-of (source.held old) asked e c u q) d n i s;
   }
 
   -- the same for a position that leads to it
   pub each-wider : (p q : Position) → LeadsTo p q → (asked : List Position) (old new : V)
-      → EachTold held gives may_fail asked_of failed_of is_honest q asked old new → EachTold held gives may_fail asked_of failed_of is_honest p asked old new
+      → EachTold source q asked old new → EachTold source p asked old new
   each-wider p q lead asked old new h =
-      record { each = h.each; all = all-wider held gives may_fail asked_of failed_of is_honest p q lead old new h.all }
+      record { each = h.each; all = all-wider source p q lead old new h.all }
 
   pub stopped-wider : (p q : Position) → LeadsTo p q → (asked : List Position) (old : V) (f : ProbeFault) (new : V)
-      → StoppedAt held gives may_fail asked_of failed_of is_honest q asked old f new → StoppedAt held gives may_fail asked_of failed_of is_honest p asked old f new
+      → StoppedAt source q asked old f new → StoppedAt source p asked old f new
   stopped-wider p q lead asked old f new h =
-      record { first = h.first; stopped = stops-wider held gives may_fail asked_of failed_of is_honest p q lead old new f h.stopped }
+      record { first = h.first; stopped = stops-wider source p q lead old new f h.stopped }
 
   pub some-wider : {T : Type 0} (p q : Position) → LeadsTo p q → (old new : V) (r : Result T ProbeFault)
-      → HasToldSome held (within q gives) may_fail asked_of failed_of is_honest {T = T} old r new
-      → HasToldSome held (within p gives) may_fail asked_of failed_of is_honest {T = T} old r new
-  some-wider p q lead old new (Ok x) h = all-wider held gives may_fail asked_of failed_of is_honest p q lead old new h
-  some-wider p q lead old new (Err f) h = stops-wider held gives may_fail asked_of failed_of is_honest p q lead old new f h
+      → HasToldSome (within q source) {T = T} old r new
+      → HasToldSome (within p source) {T = T} old r new
+  some-wider p q lead old new (Ok x) h = all-wider source p q lead old new h
+  some-wider p q lead old new (Err f) h = stops-wider source p q lead old new f h
 
   -- an answer that is possible for positions reached from here is possible here
   plain-answer : (p : Position) (old : V) (q : Position) (a : ProbeAnswer) (new : V)
-      → Answers (within p gives) may_fail asked_of old q a new → Answers gives may_fail asked_of old q a new
+      → Answers (within p source) old q a new → Answers source old q a new
   plain-answer p old q a new h = record {
     valid = h.valid;
     given = h.given.0;
@@ -91,59 +90,59 @@ module _ {V : Type 0} (held : V → Class → Bool) (gives : V → Position → 
     fails_as_before = h.fails_as_before;
   }
 
-  plain-told : (p : Position) (old new : V) (qs : List Position) → WereTold (within p gives) may_fail asked_of old qs new
-      → WereTold gives may_fail asked_of old qs new
+  plain-told : (p : Position) (old new : V) (qs : List Position) → WereTold (within p source) old qs new
+      → WereTold source old qs new
   plain-told p old new [] h = h
   plain-told p old new (q ∷ qs) (v, mid, a, h) = (v, mid, plain-answer p old q (Ok v) mid a, plain-told p mid new qs h)
 
-  plain-fault : (p : Position) (old new : V) (qs : List Position) (e : ProbeFault) → IsFirstFault (within p gives) may_fail asked_of old qs e new
-      → IsFirstFault gives may_fail asked_of old qs e new
+  plain-fault : (p : Position) (old new : V) (qs : List Position) (e : ProbeFault) → IsFirstFault (within p source) old qs e new
+      → IsFirstFault source old qs e new
   plain-fault p old new [] e h = h
   plain-fault p old new (q ∷ qs) e (inl a) = inl (plain-answer p old q (Err e) new a)
   plain-fault p old new (q ∷ qs) e (inr (v, mid, a, h)) = inr (v, mid, plain-answer p old q (Ok v) mid a, plain-fault p mid new qs e h)
 
-  fault-behind : (old mid new : V) (xs ys : List Position) (f : ProbeFault) → WereTold gives may_fail asked_of old xs mid
-      → IsFirstFault gives may_fail asked_of mid ys f new → IsFirstFault gives may_fail asked_of old (xs ++ ys) f new
-  fault-behind old mid new [] ys f h k = subst (λ (s : V). IsFirstFault gives may_fail asked_of s ys f new) h k
+  fault-behind : (old mid new : V) (xs ys : List Position) (f : ProbeFault) → WereTold source old xs mid
+      → IsFirstFault source mid ys f new → IsFirstFault source old (xs ++ ys) f new
+  fault-behind old mid new [] ys f h k = subst (λ (s : V). IsFirstFault source s ys f new) h k
   fault-behind old mid new (x ∷ xs) ys f h k = inr (h.0, h.1, h.2, fault-behind h.1 mid new xs ys f h.3 k)
 
   -- more probes after these
   pub each-more : (p : Position) (asked : List Position) (old mid new : V)
-      → EachTold held gives may_fail asked_of failed_of is_honest p asked old mid
-      → AllTold held (within p gives) may_fail asked_of failed_of is_honest mid new
-      → EachTold held gives may_fail asked_of failed_of is_honest p asked old new
+      → EachTold source p asked old mid
+      → AllTold (within p source) mid new
+      → EachTold source p asked old new
   each-more p asked old mid new h k =
       let xs = h.each.0 in
       let ys = k.told.0 in
       record {
         each = (
           xs ++ ys,
-          subst (λ (qs : List Position). WereTold gives may_fail asked_of old qs new) (append_assoc asked xs ys)
-              (told-append gives may_fail asked_of old mid new (asked ++ xs) ys h.each.1 (plain-told p mid new ys k.told.1)),
+          subst (λ (qs : List Position). WereTold source old qs new) (append_assoc asked xs ys)
+              (told-append source old mid new (asked ++ xs) ys h.each.1 (plain-told p mid new ys k.told.1)),
         );
-        all = all-then held (within p gives) may_fail asked_of failed_of is_honest old mid new h.all k;
+        all = all-then (within p source) old mid new h.all k;
       }
 
   pub stopped-more : (p : Position) (asked : List Position) (old mid new : V) (f : ProbeFault)
-      → EachTold held gives may_fail asked_of failed_of is_honest p asked old mid
-      → Stopped held (within p gives) may_fail asked_of failed_of is_honest mid f new
-      → StoppedAt held gives may_fail asked_of failed_of is_honest p asked old f new
+      → EachTold source p asked old mid
+      → Stopped (within p source) mid f new
+      → StoppedAt source p asked old f new
   stopped-more p asked old mid new f h k =
       let xs = h.each.0 in
       let ys = k.told.0 in
       record {
         first = (
           xs ++ ys,
-          subst (λ (qs : List Position). IsFirstFault gives may_fail asked_of old qs f new) (append_assoc asked xs ys)
+          subst (λ (qs : List Position). IsFirstFault source old qs f new) (append_assoc asked xs ys)
               (fault-behind old mid new (asked ++ xs) ys f h.each.1 (plain-fault p mid new ys f k.told.1)),
         );
-        stopped = stops-then held (within p gives) may_fail asked_of failed_of is_honest old mid new f h.all k;
+        stopped = stops-then (within p source) old mid new f h.all k;
       }
 
   pub walked-more : (T U : Type 0) (p : Position) (asked : List Position) (old mid new : V) (e : ViewFault)
-      → EachTold held gives may_fail asked_of failed_of is_honest p asked old mid
-      → HasWalked held (within p gives) may_fail asked_of failed_of is_honest {T = T} mid (Err e) new
-      → HasViewed held gives may_fail asked_of failed_of is_honest {T = U} p asked old (Err e) new
+      → EachTold source p asked old mid
+      → HasWalked (within p source) {T = T} mid (Err e) new
+      → HasViewed source {T = U} p asked old (Err e) new
   walked-more T U p asked old mid new NoSuchNode h k = absurd k
   walked-more T U p asked old mid new OutOfMemory h k = each-more p asked old mid new h k
   walked-more T U p asked old mid new Device h k = absurd k
@@ -151,24 +150,24 @@ module _ {V : Type 0} (held : V → Class → Bool) (gives : V → Position → 
 
   -- ---- walks
 
-  pub walks-then : {T : Type 0} (old mid new : V) (r : Result T ViewFault) → AllTold held gives may_fail asked_of failed_of is_honest old mid
-      → HasWalked held gives may_fail asked_of failed_of is_honest {T = T} mid r new
-      → HasWalked held gives may_fail asked_of failed_of is_honest {T = T} old r new
-  walks-then old mid new (Ok x) h k = all-then held gives may_fail asked_of failed_of is_honest old mid new h k
+  pub walks-then : {T : Type 0} (old mid new : V) (r : Result T ViewFault) → AllTold source old mid
+      → HasWalked source {T = T} mid r new
+      → HasWalked source {T = T} old r new
+  walks-then old mid new (Ok x) h k = all-then source old mid new h k
   walks-then old mid new (Err NoSuchNode) h k = absurd k
-  walks-then old mid new (Err OutOfMemory) h k = all-then held gives may_fail asked_of failed_of is_honest old mid new h k
+  walks-then old mid new (Err OutOfMemory) h k = all-then source old mid new h k
   walks-then old mid new (Err Device) h k = absurd k
-  walks-then old mid new (Err (Values f)) h k = stops-then held gives may_fail asked_of failed_of is_honest old mid new f h k
+  walks-then old mid new (Err (Values f)) h k = stops-then source old mid new f h k
 
   pub walks-so : (T : Type 0) {U : Type 0} (old new : V) (r : Result U ViewFault) (e : ViewFault) → IsErrAnd r (λ x. x ≡ e)
-      → HasWalked held gives may_fail asked_of failed_of is_honest {T = T} old (Err e) new
-      → HasWalked held gives may_fail asked_of failed_of is_honest {T = U} old r new
+      → HasWalked source {T = T} old (Err e) new
+      → HasWalked source {T = U} old r new
   walks-so T old new (Ok x) e is h = absurd is
   walks-so T {U = U} old new (Err x) e is h =
-      subst (λ (y : ViewFault). HasWalked held gives may_fail asked_of failed_of is_honest {T = U} old (Err y) new) (sym is) (walks-as T U old new e h)
+      subst (λ (y : ViewFault). HasWalked source {T = U} old (Err y) new) (sym is) (walks-as T U old new e h)
     where
-      walks-as : (A B : Type 0) (old new : V) (e : ViewFault) → HasWalked held gives may_fail asked_of failed_of is_honest {T = A} old (Err e) new
-          → HasWalked held gives may_fail asked_of failed_of is_honest {T = B} old (Err e) new
+      walks-as : (A B : Type 0) (old new : V) (e : ViewFault) → HasWalked source {T = A} old (Err e) new
+          → HasWalked source {T = B} old (Err e) new
       walks-as A B old new NoSuchNode h = h
       walks-as A B old new OutOfMemory h = h
       walks-as A B old new Device h = h
@@ -176,48 +175,47 @@ module _ {V : Type 0} (held : V → Class → Bool) (gives : V → Position → 
 
   -- a view that is refused after each value was read
   pub refused-after : {T : Type 0} (p : Position) (asked : List Position) (old new : V) (r : Result T ViewFault) (e : ViewFault) → IsErrAnd r (λ x. x ≡ e)
-      → HasViewed held gives may_fail asked_of failed_of is_honest {T = T} p asked old (Err e) new
-      → HasViewed held gives may_fail asked_of failed_of is_honest {T = T} p asked old r new
+      → HasViewed source {T = T} p asked old (Err e) new
+      → HasViewed source {T = T} p asked old r new
   refused-after p asked old new (Ok x) e is h = absurd is
   refused-after {T = T} p asked old new (Err x) e is h =
-      subst (λ (y : ViewFault). HasViewed held gives may_fail asked_of failed_of is_honest {T = T} p asked old (Err y) new) (sym is) h
+      subst (λ (y : ViewFault). HasViewed source {T = T} p asked old (Err y) new) (sym is) h
 
   -- the same, even if the positions are not all evaluated
   pub some-told : {T : Type 0} (p : Position) (asked : List Position) (old new : V) (r : Result T ProbeFault)
-      → HasToldEach held gives may_fail asked_of failed_of is_honest {T = T} p asked old r new
-      → HasToldSome held (within p gives) may_fail asked_of failed_of is_honest {T = T} old r new
+      → HasToldEach source {T = T} p asked old r new
+      → HasToldSome (within p source) {T = T} old r new
   some-told p asked old new (Ok x) h = h.all
   some-told p asked old new (Err e) h = h.stopped
 
   -- probes after other probes
-  pub some-then : {T : Type 0} (old mid new : V) (r : Result T ProbeFault) → AllTold held gives may_fail asked_of failed_of is_honest old mid
-      → HasToldSome held gives may_fail asked_of failed_of is_honest {T = T} mid r new
-      → HasToldSome held gives may_fail asked_of failed_of is_honest {T = T} old r new
-  some-then old mid new (Ok x) h j = all-then held gives may_fail asked_of failed_of is_honest old mid new h j
-  some-then old mid new (Err f) h j = stops-then held gives may_fail asked_of failed_of is_honest old mid new f h j
+  pub some-then : {T : Type 0} (old mid new : V) (r : Result T ProbeFault) → AllTold source old mid
+      → HasToldSome source {T = T} mid r new
+      → HasToldSome source {T = T} old r new
+  some-then old mid new (Ok x) h j = all-then source old mid new h j
+  some-then old mid new (Err f) h j = stops-then source old mid new f h j
 
   -- one position was probed
-  pub value-told : (old new : V) (p : Position) (r : ProbeAnswer) → IsValid p → gives old p r → asked_of new ≡ counted (asked_of old)
-      → ((c : Class) (f : SourceFault) → IsOf c p → IsErrOf r (probe.TableRead f) → may_fail old c f)
-      → ((c : Class) (f : SourceFault) → may_fail new c f → may_fail old c f)
-      → ((c : Class) → IsErrOf r (probe.NoTable c) → held old c ≡ false) → (is_honest old → IfErr r IsNotDamage)
-      → failed_of new ≡ faults_after (failed_of old) r → (is_honest old → is_honest new) → ((c : Class) → held new c ≡ held old c)
-      → HasToldSome held gives may_fail asked_of failed_of is_honest {T = Value} old r new
+  pub value-told : (old new : V) (p : Position) (r : ProbeAnswer) → IsValid p → source.gives old p r → source.asked_of new ≡ counted (source.asked_of old)
+      → ((c : Class) (f : SourceFault) → IsOf c p → IsErrOf r (probe.TableRead f) → source.may_fail old c f)
+      → ((c : Class) (f : SourceFault) → source.may_fail new c f → source.may_fail old c f)
+      → ((c : Class) → IsErrOf r (probe.NoTable c) → source.held old c ≡ false) → (source.is_honest old → IfErr r IsNotDamage)
+      → source.failed_of new ≡ faults_after (source.failed_of old) r → (source.is_honest old → source.is_honest new) → ((c : Class) → source.held new c ≡ source.held old c)
+      → HasToldSome source {T = Value} old r new
   value-told old new p (Ok v) valid g n so before u d f i s =
-      of-told held gives may_fail asked_of failed_of is_honest old new (asked-one gives may_fail asked_of old new p (Ok v) valid g n so before) f i s
+      of-told source old new (asked-one source old new p (Ok v) valid g n so before) f i s
   value-told old new p (Err e) valid g n so before u d f i s =
-      of-fault held gives may_fail asked_of failed_of is_honest Value old new e (asked-one gives may_fail asked_of old new p (Err e) valid g n so before)
-      (λ c q. u c (ap Err q)) d (f ∙ same-faults (failed_of old) (Err e)) i s
+      of-fault source Value old new e (asked-one source old new p (Err e) valid g n so before)
+      (λ c q. u c (ap Err q)) d (f ∙ same-faults (source.failed_of old) (Err e)) i s
 
 -- walks from a position that leads to this one
-module _ {V : Type 0} (held : V → Class → Bool) (gives : V → Position → ProbeAnswer → Type 0)
-    (may_fail : V → Class → SourceFault → Type 0) (asked_of failed_of : V → ℕ) (is_honest : V → Type 0)
+module _ {V : Type 0} (source : ValueSource V)
     (p q : Position) (lead : LeadsTo p q) where
   pub walks-wider : {T : Type 0} (old new : V) (r : Result T ViewFault)
-      → HasWalked held (within q gives) may_fail asked_of failed_of is_honest {T = T} old r new
-      → HasWalked held (within p gives) may_fail asked_of failed_of is_honest {T = T} old r new
-  walks-wider old new (Ok x) h = all-wider held gives may_fail asked_of failed_of is_honest p q lead old new h
+      → HasWalked (within q source) {T = T} old r new
+      → HasWalked (within p source) {T = T} old r new
+  walks-wider old new (Ok x) h = all-wider source p q lead old new h
   walks-wider old new (Err NoSuchNode) h = h
-  walks-wider old new (Err OutOfMemory) h = all-wider held gives may_fail asked_of failed_of is_honest p q lead old new h
+  walks-wider old new (Err OutOfMemory) h = all-wider source p q lead old new h
   walks-wider old new (Err Device) h = h
-  walks-wider old new (Err (Values f)) h = stops-wider held gives may_fail asked_of failed_of is_honest p q lead old new f h
+  walks-wider old new (Err (Values f)) h = stops-wider source p q lead old new f h

@@ -1,9 +1,7 @@
 -- The probed positions, and their values.
-use Rattle.std.specs.Prelude.{◌≡◌, ℕ, Bool, List, ◌++◌, Result, Ok, Err}
+use Rattle.std.specs.Prelude.{◌≡◌, ℕ, List, ◌++◌, Result, Ok, Err}
 use Rattle.study_board.specs.Position.{Position}
-use Rattle.study_material.specs.declared.class.Class.{Class}
-use Rattle.study_values.specs.declared.fault.SourceFault.{SourceFault}
-use Rattle.study_values.specs.Values.{ProbeAnswer}
+use Rattle.study_values.specs.Values.{ValueSource}
 use Rattle.study_values.specs.declared.values.ProbeFault.{ProbeFault}
 use Rattle.study_marks.specs.Answers.{WereTold, IsFirstFault}
 use Rattle.study_facts.specs.Asked.{AllTold, Stopped, within}
@@ -12,17 +10,16 @@ use Rattle.study_view.specs.declared.fault.ViewFault.TheVariants.{NoSuchNode, Ou
 use Rattle.study_view.specs.declared.fault.SurveyFault.{SurveyFault}
 use Rattle.study_view.specs.declared.fault.SurveyFault.TheVariants as survey
 
-module _ {V : Type 0} (held : V → Class → Bool) (gives : V → Position → ProbeAnswer → Type 0)
-    (may_fail : V → Class → SourceFault → Type 0) (asked_of failed_of : V → ℕ) (is_honest : V → Type 0) where
+module _ {V : Type 0} (source : ValueSource V) where
   -- these positions were probed in order, and then perhaps more, to each of which p leads, and each value was read
   pub record EachTold (p : Position) (asked : List Position) (old new : V) : Type 0 where
-    pub each : (more : List Position) × WereTold gives may_fail asked_of old (asked ++ more) new
-    pub all : AllTold held (within p gives) may_fail asked_of failed_of is_honest old new
+    pub each : (more : List Position) × WereTold source old (asked ++ more) new
+    pub all : AllTold (within p source) old new
 
   -- these positions were probed in order, and then perhaps more, up to the first whose value could not be read, for this fault
   pub record StoppedAt (p : Position) (asked : List Position) (old : V) (f : ProbeFault) (new : V) : Type 0 where
-    pub first : (more : List Position) × IsFirstFault gives may_fail asked_of old (asked ++ more) f new
-    pub stopped : Stopped held (within p gives) may_fail asked_of failed_of is_honest old f new
+    pub first : (more : List Position) × IsFirstFault source old (asked ++ more) f new
+    pub stopped : Stopped (within p source) old f new
 
   abbrev pub HasToldEach : {T : Type 0} → Position → List Position → V → Result T ProbeFault → V → Type 0
   HasToldEach p asked old (Ok x) new = EachTold p asked old new
@@ -30,11 +27,11 @@ module _ {V : Type 0} (held : V → Class → Bool) (gives : V → Position → 
 
   -- some positions were probed, and each value was read, unless the call stopped for the first that was not
   abbrev pub HasWalked : {T : Type 0} → V → Result T ViewFault → V → Type 0
-  HasWalked old (Ok x) new = AllTold held gives may_fail asked_of failed_of is_honest old new
+  HasWalked old (Ok x) new = AllTold source old new
   HasWalked old (Err NoSuchNode) new = ⊥
-  HasWalked old (Err OutOfMemory) new = AllTold held gives may_fail asked_of failed_of is_honest old new
+  HasWalked old (Err OutOfMemory) new = AllTold source old new
   HasWalked old (Err Device) new = ⊥
-  HasWalked old (Err (Values f)) new = Stopped held gives may_fail asked_of failed_of is_honest old f new
+  HasWalked old (Err (Values f)) new = Stopped source old f new
 
   -- each value was read, unless the call was refused for the first that could not be read, or before the first probe
   abbrev pub HasViewed : {T : Type 0} → Position → List Position → V → Result T ViewFault → V → Type 0
@@ -46,13 +43,13 @@ module _ {V : Type 0} (held : V → Class → Bool) (gives : V → Position → 
 
   -- some positions were probed, and each value was read, or this fault is not that of the first that could not be read
   abbrev pub HasToldSome : {T : Type 0} → V → Result T ProbeFault → V → Type 0
-  HasToldSome old (Ok x) new = AllTold held gives may_fail asked_of failed_of is_honest old new
-  HasToldSome old (Err f) new = Stopped held gives may_fail asked_of failed_of is_honest old f new
+  HasToldSome old (Ok x) new = AllTold source old new
+  HasToldSome old (Err f) new = Stopped source old f new
 
   -- the same for a survey, which probes nothing if the square is empty
   abbrev pub HasSurveyed : {T : Type 0} → V → Result T SurveyFault → V → Type 0
-  HasSurveyed old (Ok x) new = AllTold held gives may_fail asked_of failed_of is_honest old new
+  HasSurveyed old (Ok x) new = AllTold source old new
   HasSurveyed old (Err survey.NoMan) new = new ≡ old
-  HasSurveyed old (Err survey.OutOfMemory) new = AllTold held gives may_fail asked_of failed_of is_honest old new
-  HasSurveyed old (Err survey.Device) new = AllTold held gives may_fail asked_of failed_of is_honest old new
-  HasSurveyed old (Err (survey.Values f)) new = Stopped held gives may_fail asked_of failed_of is_honest old f new
+  HasSurveyed old (Err survey.OutOfMemory) new = AllTold source old new
+  HasSurveyed old (Err survey.Device) new = AllTold source old new
+  HasSurveyed old (Err (survey.Values f)) new = Stopped source old f new

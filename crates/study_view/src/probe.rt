@@ -21,10 +21,10 @@ pub fn evaluate_legal_moves<V: Values>(
     values: &mut V,
 ) -> Result<ArrayVec<EvaluatedMove, MAX_MOVES>, ProbeFault>
     requires depth { node.now.depth + 1 < 2 ^ 64 }
-    ensures game { V.is_honest values.old → IfOk result (λ list.
+    ensures game { V.source.is_honest values.old → IfOk result (λ list.
         AreChosen (λ v. true) node.now.position.now (legal_list node.now.position.now) list.items) }
     ensures legal { IfOk result (λ list. All (λ x. is_legal node.now.position.now x.played ≡ true) list.items) }
-    ensures asked { HasToldEach V.held V.gives V.may_fail V.asked_of V.failed_of V.is_honest
+    ensures asked { HasToldEach V.source
         node.now.position.now (positions_after node.now.position.now (legal_list node.now.position.now)) values.old result values.new }
 {
     missing_moves(node, &[], values)
@@ -32,8 +32,8 @@ pub fn evaluate_legal_moves<V: Values>(
 
 /// The value of a position.
 pub fn ask_value<V: Values>(q: &Position, values: &mut V) -> Result<Value, ProbeFault>
-    ensures game { V.is_honest values.old → IfOk result (IsValueOf q.now) }
-    ensures asked { HasToldSome V.held (within q.now V.gives) V.may_fail V.asked_of V.failed_of V.is_honest values.old result values.new }
+    ensures game { V.source.is_honest values.old → IfOk result (IsValueOf q.now) }
+    ensures asked { HasToldSome (within q.now V.source) values.old result values.new }
 {
     // (the position is valid, as the clauses on its answer say)
     let _men = q.men();
@@ -46,9 +46,9 @@ pub fn ask_first_moves<V: Values>(
     q: &Position,
     values: &mut V,
 ) -> Result<ArrayVec<EvaluatedMove, MAX_MOVES>, ProbeFault>
-    ensures game { V.is_honest values.old → IfOk result (λ list. AreHoldingMoves aim.now 0 q.now list.items) }
+    ensures game { V.source.is_honest values.old → IfOk result (λ list. AreHoldingMoves aim.now 0 q.now list.items) }
     ensures legal { IfOk result (λ list. All (λ x. is_legal q.now x.played ≡ true) list.items) }
-    ensures asked { HasToldSome V.held (within q.now V.gives) V.may_fail V.asked_of V.failed_of V.is_honest values.old result values.new }
+    ensures asked { HasToldSome (within q.now V.source) values.old result values.new }
 {
     let node = NodeContext {
         aim,

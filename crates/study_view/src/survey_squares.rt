@@ -112,10 +112,10 @@ fn result_by_value<V: Values>(
     value: Value,
     values: &mut V,
 ) -> Result<SquareResult, ProbeFault>
-    ensures game { V.is_honest values.old → IfOk result
+    ensures game { V.source.is_honest values.old → IfOk result
         (IsToldBy (holds aim.now 0 value) aim.now.hero_first aim.now q.now value) }
     ensures legal { IfOk result (IsPlayedIn q.now) }
-    ensures asked { HasToldSome V.held (within q.now V.gives) V.may_fail V.asked_of V.failed_of V.is_honest values.old result values.new }
+    ensures asked { HasToldSome (within q.now V.source) values.old result values.new }
 {
     if !holds(aim, 0, value) {
         return Ok(SquareResult::Fails(value));
@@ -135,9 +135,9 @@ fn result_of<V: Values>(
     stipulation: &Stipulation,
     values: &mut V,
 ) -> Result<SquareResult, ProbeFault>
-    ensures game { V.is_honest values.old → IfOk result (IsTold stipulation.now q.now) }
+    ensures game { V.source.is_honest values.old → IfOk result (IsTold stipulation.now q.now) }
     ensures legal { IfOk result (IsPlayedIn q.now) }
-    ensures asked { HasToldSome V.held (within q.now V.gives) V.may_fail V.asked_of V.failed_of V.is_honest values.old result values.new }
+    ensures asked { HasToldSome (within q.now V.source) values.old result values.new }
 {
     let aim = aim_of(stipulation, q.to_move());
     match ask_value(q, values) {
@@ -152,10 +152,10 @@ fn result_on<V: Values>(
     x: Square,
     values: &mut V,
 ) -> Result<SquareResult, ProbeFault>
-    ensures game { V.is_honest values.old → IfOk result
+    ensures game { V.source.is_honest values.old → IfOk result
         (IsStanding question.now.position.now question.now.square question.now.stipulation.now x) }
     ensures legal { IfOk result (λ s. IsShown question.now.position.now question.now.square (record { at = x; standing = s })) }
-    ensures asked { HasToldSome V.held (within question.now.position.now V.gives) V.may_fail V.asked_of V.failed_of V.is_honest values.old result values.new }
+    ensures asked { HasToldSome (within question.now.position.now V.source) values.old result values.new }
 {
     match with_man_at(question.position, question.square, x) {
         None => Ok(SquareResult::Impossible),
@@ -191,10 +191,10 @@ fn push_results_from<V: Values>(
     requires room { array_vec_len list.old ≤ number }
     requires listed { All (IsShown question.now.position.now question.now.square) list.old.items }
     ensures listed { All (IsShown question.now.position.now question.now.square) list.new.items }
-    ensures game { V.is_honest values.old → OnOk result ((more : List AStood) × AreStandings question.now.position.now
+    ensures game { V.source.is_honest values.old → OnOk result ((more : List AStood) × AreStandings question.now.position.now
         question.now.square question.now.stipulation.now (squares_but question.now.square number (64 - number)) more
         × (list.new.items ≡ list.old.items ++ more)) }
-    ensures asked { HasToldSome V.held (within question.now.position.now V.gives) V.may_fail V.asked_of V.failed_of V.is_honest values.old result values.new }
+    ensures asked { HasToldSome (within question.now.position.now V.source) values.old result values.new }
 {
     if number >= 64 {
         return Ok(());
@@ -217,10 +217,10 @@ pub fn push_results<V: Values>(
     question: &SurveyQuestion<'_>,
     values: &mut V,
 ) -> Result<ArrayVec<SurveyedSquare, 64>, ProbeFault>
-    ensures game { V.is_honest values.old → IfOk result (λ list. AreStandings question.now.position.now
+    ensures game { V.source.is_honest values.old → IfOk result (λ list. AreStandings question.now.position.now
         question.now.square question.now.stipulation.now (other_squares question.now.square) list.items) }
     ensures listed { IfOk result (λ list. All (IsShown question.now.position.now question.now.square) list.items) }
-    ensures asked { HasToldSome V.held (within question.now.position.now V.gives) V.may_fail V.asked_of V.failed_of V.is_honest values.old result values.new }
+    ensures asked { HasToldSome (within question.now.position.now V.source) values.old result values.new }
 {
     let mut list = ArrayVec::new();
     match push_results_from(question, 0, values, &mut list) {
@@ -234,11 +234,11 @@ pub fn survey<V: Values>(
     question: &SurveyQuestion<'_>,
     values: &mut V,
 ) -> Result<ArrayVec<SurveyedSquare, 64>, SurveyFault>
-    ensures game { V.is_honest values.old → IfOk result (λ list. AreStandings question.now.position.now
+    ensures game { V.source.is_honest values.old → IfOk result (λ list. AreStandings question.now.position.now
         question.now.square question.now.stipulation.now (other_squares question.now.square) list.items) }
     ensures no_man { (result ≡ Err SurveyFault.NoMan) ↔ (man_at question.now.position.now.men question.now.square ≡ None) }
     ensures only { IfErr result (λ f. (f ≡ SurveyFault.NoMan) ⊎ ((fault : AProbeFault) × (f ≡ SurveyFault.Values fault))) }
-    ensures asked { HasSurveyed V.held (within question.now.position.now V.gives) V.may_fail V.asked_of V.failed_of V.is_honest values.old result values.new }
+    ensures asked { HasSurveyed (within question.now.position.now V.source) values.old result values.new }
 {
     match question.position.man_at(question.square) {
         None => Err(SurveyFault::NoMan),

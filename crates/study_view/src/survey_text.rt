@@ -164,11 +164,11 @@ fn survey_text<'a, A: Allocator, V: Values>(
     question: &SurveyQuestion<'_>,
     values: &mut V,
 ) -> Result<Text<'a, A>, SurveyFault>
-    ensures text { V.is_honest values.old → IfOk result
+    ensures text { V.source.is_honest values.old → IfOk result
         (IsSurvey question.now.position.now question.now.square question.now.stipulation.now) }
     ensures no_man { (result ≡ Err SurveyFault.NoMan) ↔ (man_at question.now.position.now.men question.now.square ≡ None) }
     ensures device { ¬ (result ≡ Err SurveyFault.Device) }
-    ensures asked { HasSurveyed V.held (within question.now.position.now V.gives) V.may_fail V.asked_of V.failed_of V.is_honest values.old result values.new }
+    ensures asked { HasSurveyed (within question.now.position.now V.source) values.old result values.new }
 {
     match question.position.man_at(question.square) {
         None => Err(SurveyFault::NoMan),
@@ -190,17 +190,17 @@ pub fn write_survey<'a, A: Allocator, V: Values, W: Write>(
     values: &mut V,
     out: &mut W,
 ) -> Result<(), SurveyFault>
-    ensures ok { V.is_honest values.old → OnOk result ((text : List ℕ)
+    ensures ok { V.source.is_honest values.old → OnOk result ((text : List ℕ)
         × IsSurvey question.now.position.now question.now.square question.now.stipulation.now text
         × Appends (W.contents out.old) (W.contents out.new) text) }
     ensures no_man { (result ≡ Err SurveyFault.NoMan) ↔ (man_at question.now.position.now.men question.now.square ≡ None) }
-    ensures device { V.is_honest values.old → result ≡ Err SurveyFault.Device → (text : List ℕ)
+    ensures device { V.source.is_honest values.old → result ≡ Err SurveyFault.Device → (text : List ℕ)
         × IsSurvey question.now.position.now question.now.square question.now.stipulation.now text
         × TakesPrefix (W.contents out.old) (W.contents out.new) text }
     ensures gone { result ≡ Err SurveyFault.NoMan → out.new ≡ out.old }
     ensures memory { result ≡ Err SurveyFault.OutOfMemory → out.new ≡ out.old }
     ensures untold { (fault : AProbeFault) → result ≡ Err (SurveyFault.Values fault) → out.new ≡ out.old }
-    ensures asked { HasSurveyed V.held (within question.now.position.now V.gives) V.may_fail V.asked_of V.failed_of V.is_honest values.old result values.new }
+    ensures asked { HasSurveyed (within question.now.position.now V.source) values.old result values.new }
 {
     let text = survey_text(alloc, question, values)?;
     write_text(out, text.as_slice())?;

@@ -22,7 +22,7 @@ use Rattle.study_script.specs.declared.tables.Tables.{Tables}
 use Rattle.study_script.specs.declared.tables.Tables.TheVariants.{Whole, Paged}
 use Rattle.study_script.specs.State.{State, is_among}
 use Rattle.study_web.specs.Views.{IsViewUntold, StudyStopped}
-use Rattle.study_script.specs.SessionHolds.{Holds, document_seen, are_paged, tables_asked, tables_failed, tables_give, tables_held, tables_honest, tables_may_fail}
+use Rattle.study_script.specs.SessionHolds.{Holds, document_seen, are_paged, tables_may_fail}
 use Rattle.study_report.specs.Told.{IsUntoldIn}
 use Rattle.study_web.specs.declared.request_fault.RequestFault.{RequestFault}
 use Rattle.study_web.specs.declared.request_fault.RequestFault.TheVariants as denial
@@ -31,7 +31,7 @@ use Rattle.study_web.specs.declared.reply.AnswerFault.TheVariants as no_text
 use Rattle.study_web.specs.declared.reply.Ending.{Ending}
 use Rattle.study_web.specs.declared.reply.Ending.TheVariants.{Answered, Refused, Ran}
 use Rattle.study_web.specs.declared.reply.Ending.TheVariants as ending
-use Rattle.study_values.specs.Values.{ProbeAnswer}
+use Rattle.study_values.specs.Values.{ValueSource}
 use Rattle.study_values.specs.declared.values.ProbeFault.{ProbeFault}
 use Rattle.study_values.specs.declared.values.ProbeFault.TheVariants as probe
 use Rattle.study_reply.specs.declared.refusal.Refusal.TheVariants.{NoSuchNode, OutOfMemory}
@@ -103,54 +103,53 @@ search_stopped h m Right stops.TooManyStudies lacks fails right = inl refl
 search_stopped h m Right stops.WriteDevice lacks fails right = inl refl
 
 -- a value that was not read, as honest values may report
-pub search_reported : {V : Type 0} (held : V → Class → Bool) (may_fail : V → Class → SourceFault → Type 0) (is_honest : V → Type 0)
-    → (h : Known) (m : Faults) (Right : Type 0) (v : V) (fault : ProbeFault) → CanReport held may_fail is_honest v fault
-    → ((c : Class) → IsHeldAs (h c) (held v c)) → ((c : Class) (f : SourceFault) → may_fail v c f → m c f ≡ true) → (Right → is_honest v)
+pub search_reported : {V : Type 0} (source : ValueSource V)
+    → (h : Known) (m : Faults) (Right : Type 0) (v : V) (fault : ProbeFault) → CanReport source v fault
+    → ((c : Class) → IsHeldAs (h c) (source.held v c)) → ((c : Class) (f : SourceFault) → source.may_fail v c f → m c f ≡ true) → (Right → source.is_honest v)
     → IsOfSearch h m Right (denial.Refused (of_probe fault))
-search_reported held may_fail is_honest h m Right v fault can known fails right = inr (fault, untold-in fault can, refl)
+search_reported source h m Right v fault can known fails right = inr (fault, untold-in fault can, refl)
   where
-    untold-in : (fault : ProbeFault) → CanReport held may_fail is_honest v fault → IsSearchUntold h m Right fault
+    untold-in : (fault : ProbeFault) → CanReport source v fault → IsSearchUntold h m Right fault
     untold-in (probe.NoTable c) none = subst (IsHeldAs (h c)) none (known c)
     untold-in (probe.TableRead f) r = (r.0, fails r.0 f r.1)
     untold-in (probe.PageDamaged c n) damaged = λ k. damaged (right k)
 
-module _ {V : Type 0} (held : V → Class → Bool) (gives : V → Position → ProbeAnswer → Type 0) (may_fail : V → Class → SourceFault → Type 0)
-    (asked_of failed_of : V → ℕ) (is_honest : V → Type 0) where
+module _ {V : Type 0} (source : ValueSource V) where
   untold : (h : Known) (m : Faults) (Right : Type 0) (p : Position) → IsValid p → (old new : V) (fault : ProbeFault)
-      → Stopped held (within p gives) may_fail asked_of failed_of is_honest old fault new → ((c : Class) → IsHeldAs (h c) (held old c))
-      → ((c : Class) (f : SourceFault) → may_fail old c f → m c f ≡ true) → (Right → is_honest old) → IsValueUntold h m Right p fault
+      → Stopped (within p source) old fault new → ((c : Class) → IsHeldAs (h c) (source.held old c))
+      → ((c : Class) (f : SourceFault) → source.may_fail old c f → m c f ≡ true) → (Right → source.is_honest old) → IsValueUntold h m Right p fault
   untold h m Right p valid old new (probe.NoTable c) is known fails right =
-      (subst (IsHeldAs (h c)) (is.untold c refl) (known c), missed-needed gives may_fail asked_of p valid old new (probe.NoTable c) c is.told refl)
+      (subst (IsHeldAs (h c)) (is.untold c refl) (known c), missed-needed source p valid old new (probe.NoTable c) c is.told refl)
   untold h m Right p valid old new (probe.TableRead f) is known fails right =
-      let r = unread-needed gives may_fail asked_of p valid old new (probe.TableRead f) f is.told refl in (r.0, r.1, fails r.0 f r.2)
+      let r = unread-needed source p valid old new (probe.TableRead f) f is.told refl in (r.0, r.1, fails r.0 f r.2)
   untold h m Right p valid old new (probe.PageDamaged c n) is known fails right = λ k. is.no_damage (right k)
 
   -- a survey is refused for the value that cannot be read
   pub survey_denied : (h : Known) (m : Faults) (Right : Type 0) (old new : V) (fault : ProbeFault) (start : Start) (square : ℕ)
       (r : Result (Unit {0}) SurveyFault) → IsValid start.position → r ≡ Err (survey.Values fault)
-      → HasSurveyed held (within start.position gives) may_fail asked_of failed_of is_honest old r new → ((c : Class) → IsHeldAs (h c) (held old c))
-      → ((c : Class) (f : SourceFault) → may_fail old c f → m c f ≡ true) → (Right → is_honest old)
+      → HasSurveyed (within start.position source) old r new → ((c : Class) → IsHeldAs (h c) (source.held old c))
+      → ((c : Class) (f : SourceFault) → source.may_fail old c f → m c f ≡ true) → (Right → source.is_honest old)
       → IsSurveyDenial (IsOfValues h m Right start.position) start square (denial.Refused (of_probe fault))
   survey_denied h m Right old new fault start square r valid e is known fails right =
-      let stopped = subst (λ (x : Result (Unit {0}) SurveyFault). HasSurveyed held (within start.position gives) may_fail asked_of failed_of is_honest old x new) e is in
+      let stopped = subst (λ (x : Result (Unit {0}) SurveyFault). HasSurveyed (within start.position source) old x new) e is in
       inr (fault, untold h m Right start.position valid old new fault stopped known fails right, refl)
 
   -- a view is refused for the value that cannot be read
   pub view_stopped : (p : Position) (asked : List Position) (old new : V) (fault : ProbeFault) (r : Result (Unit {0}) ViewFault) → r ≡ Err (view.Values fault)
-      → HasViewed held gives may_fail asked_of failed_of is_honest p asked old r new → Stopped held (within p gives) may_fail asked_of failed_of is_honest old fault new
+      → HasViewed source p asked old r new → Stopped (within p source) old fault new
   view_stopped p asked old new fault r e is =
-      let there = subst (λ (x : Result (Unit {0}) ViewFault). HasViewed held gives may_fail asked_of failed_of is_honest p asked old x new) e is in
+      let there = subst (λ (x : Result (Unit {0}) ViewFault). HasViewed source p asked old x new) e is in
       there.stopped
 
   -- if a state has the same tables, the value cannot be read for this fault
   pub untold_in : (s : State) (p : Position) → IsValid p → (old new : V) (fault : ProbeFault)
-      → Stopped held (within p gives) may_fail asked_of failed_of is_honest old fault new
-      → is_honest old → ((c : Class) → held old c ≡ is_among s.classes c)
-      → ((c : Class) (f : SourceFault) → may_fail old c f → (s.paged ≡ true) × (s.shelf.faults c f ≡ true)) → IsUntoldIn s p fault
+      → Stopped (within p source) old fault new
+      → source.is_honest old → ((c : Class) → source.held old c ≡ is_among s.classes c)
+      → ((c : Class) (f : SourceFault) → source.may_fail old c f → (s.paged ≡ true) × (s.shelf.faults c f ≡ true)) → IsUntoldIn s p fault
   untold_in s p valid old new (probe.NoTable c) is honest known fails =
-      (sym (known c) ∙ is.untold c refl, missed-needed gives may_fail asked_of p valid old new (probe.NoTable c) c is.told refl)
+      (sym (known c) ∙ is.untold c refl, missed-needed source p valid old new (probe.NoTable c) c is.told refl)
   untold_in s p valid old new (probe.TableRead f) is honest known fails =
-      let r = unread-needed gives may_fail asked_of p valid old new (probe.TableRead f) f is.told refl in
+      let r = unread-needed source p valid old new (probe.TableRead f) f is.told refl in
       let k = fails r.0 f r.2 in (k.0, r.0, r.1, k.1)
   untold_in s p valid old new (probe.PageDamaged c n) is honest known fails = absurd (is.no_damage honest)
 
@@ -161,13 +160,13 @@ paged_where gives (Paged w) c f h = refl
 
 -- the same for the tables of a session
 pub untold_left : {P A : Type 0} (honest : P → Table → ℕ → Type 0) (gives : GivesOf P) (b : HeldDocument A) (old new : Tables P A) (fault : ProbeFault)
-    → StudyStopped tables_held (tables_give gives) (tables_may_fail gives) tables_asked tables_failed (tables_honest honest) (document_seen b) old fault new
+    → StudyStopped (tables_source honest gives) (document_seen b) old fault new
     → (s : State) → Holds honest gives b old s → IsViewUntold s fault
 untold_left honest gives b old new fault (plain, seen, valid, is) s holds = (
   plain,
   sym holds.document ∙ seen,
-  untold_in tables_held (tables_give gives) (tables_may_fail gives) tables_asked tables_failed (tables_honest honest) s plain.start.position valid old new
-      fault is holds.values holds.classes (λ c f h. (sym holds.paged ∙ paged_where gives old c f h, holds.faults c f h)),
+  untold_in (tables_source honest gives) s plain.start.position valid old new
+      fault is holds.values holds.classes (λ c f h. (sym holds.paged ∙ paged_where source.gives old c f h, holds.faults c f h)),
 )
 
 -- the result of each request under a premise

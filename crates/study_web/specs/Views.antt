@@ -1,12 +1,12 @@
 -- The view of what a script leaves in the document.
 use Rattle.std.specs.Prelude.{◌≡◌, ◌≢◌, ℕ, Bool, true, false, List, [], ◌++◌, Option, Result}
-use Rattle.study_board.specs.Position.{Position, IsValid}
+use Rattle.study_board.specs.Position.{IsValid}
 use Rattle.study_material.specs.declared.class.Class.{Class}
 use Rattle.study_tree.specs.Tree.{has_spot}
 use Rattle.study_marks.specs.Edits.{PlainStudy}
 use Rattle.study_command.specs.Lines.{script_lines}
 use Rattle.study_values.specs.declared.fault.SourceFault.{SourceFault}
-use Rattle.study_values.specs.Values.{ProbeAnswer}
+use Rattle.study_values.specs.Values.{ValueSource}
 use Rattle.study_values.specs.declared.values.ProbeFault.{ProbeFault}
 use Rattle.study_facts.specs.Asked.{Stopped, within}
 use Rattle.study_script.specs.declared.store.StoreFault.{StoreFault}
@@ -85,9 +85,8 @@ OverFiles spans bytes IsSo =
     × (shelf : StoreKnowledge) × ((c : Class) (f : SourceFault) → shelf.faults c f ≡ file_faults (file_in spans bytes c) c f) × IsSo classes shelf
 
 -- values were probed from a study's start, and all were read but the last, which failed with this fault
-module _ {V : Type 0} (held : V → Class → Bool) (gives : V → Position → ProbeAnswer → Type 0)
-    (may_fail : V → Class → SourceFault → Type 0) (asked_of failed_of : V → ℕ) (is_honest : V → Type 0) where
+module _ {V : Type 0} (source : ValueSource V) where
   abbrev pub StudyStopped : Document → V → ProbeFault → V → Type 0
   StudyStopped document old fault new =
       (plain : PlainStudy) × (document ≡ study plain) × IsValid plain.start.position
-      × Stopped held (within plain.start.position gives) may_fail asked_of failed_of is_honest old fault new
+      × Stopped (within plain.start.position source) old fault new

@@ -1,8 +1,10 @@
 //! Answers to requests.
 ghost use Rattle.std.specs.Prelude.{◌≡◌, ◌≤◌, true, is_some, IfSome, IfOk, IfErr};
 ghost use Rattle.study_command.specs.Paths.{steps_of, is_path_word};
-ghost use Rattle.study_web.specs.Answers.{IsAnswer, IsMakeAnswer, IsMadeFile, IsMakeDenial, IsNoMemory, IsPassedList, IsPrinted, IsReviewed, IsRun, answer_make};
-ghost use Rattle.study_web.specs.Answers.{IsFoundTo, IsImported, AreNeeded, IsOutOfMemory, IsRowTo, IsSurveyedTo, IsTableList, IsUnread, IsViewed, MayEnd, OverNeeded};
+ghost use Rattle.study_web.specs.Answers.{IsAnswer, IsMakeAnswer, IsMadeFile, IsMakeDenial, IsNoMemory, IsPassedList, IsPrinted, IsReviewed, IsRun};
+ghost use Rattle.study_web.specs.Answers.{answer_make};
+ghost use Rattle.study_web.specs.Answers.{IsFoundTo, IsImported, AreNeeded, IsOutOfMemory, IsRowTo, IsSurveyedTo, IsTableList, IsUnread, IsViewed};
+ghost use Rattle.study_web.specs.Answers.{MayEnd, OverNeeded};
 ghost use Rattle.study_web.specs.Request.{request_of};
 
 use crate::chosen::spans_for;

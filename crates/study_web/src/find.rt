@@ -35,10 +35,10 @@ fn piece_text<'a, V: CellPages, A: Allocator>(
     piece: &Piece,
     values: &mut V,
 ) -> Result<Vec<u8, &'a A>, Stop>
-    ensures text { V.is_honest values.old → IfOk result (λ text. IsPiece piece.now text.items) }
-    ensures no_table { (c : AClass) → IsErrOf result (Stop.Values (ProbeFault.NoTable c)) → V.held values.old c ≡ false }
-    ensures failed_so { (f : ASourceFault) → IsErrOf result (Stop.Values (ProbeFault.TableRead f)) → (c : AClass) × V.may_fail values.old c f }
-    ensures no_damage { V.is_honest values.old → IfErr result StopsUndamaged }
+    ensures text { V.source.is_honest values.old → IfOk result (λ text. IsPiece piece.now text.items) }
+    ensures no_table { (c : AClass) → IsErrOf result (Stop.Values (ProbeFault.NoTable c)) → V.source.held values.old c ≡ false }
+    ensures failed_so { (f : ASourceFault) → IsErrOf result (Stop.Values (ProbeFault.TableRead f)) → (c : AClass) × V.source.may_fail values.old c f }
+    ensures no_damage { V.source.is_honest values.old → IfErr result StopsUndamaged }
 {
     let mut text = Vec::new(alloc);
     match write_piece(piece, values, &mut text) {

@@ -57,8 +57,8 @@ fn told_row<'a, A: Allocator>(alloc: &'a A, most: Option<u8>) -> Result<Vec<u8, 
 
 /// The number, or why a value cannot be read.
 fn most_of<V: Values>(asked: &Rowed, values: &mut V) -> Result<Option<u8>, ProbeFault>
-    ensures game { V.is_honest values.old → IfOk result (IsMost asked.now.outcome asked.now.start.position 12) }
-    ensures faults { IfErr result (CanReport V.held V.may_fail V.is_honest values.old) }
+    ensures game { V.source.is_honest values.old → IfOk result (IsMost asked.now.outcome asked.now.start.position 12) }
+    ensures faults { IfErr result (CanReport V.source values.old) }
 {
     most_only_moves(&asked.start.position, asked.outcome, LIMIT, values)
 }

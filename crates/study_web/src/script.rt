@@ -74,10 +74,10 @@ fn bench_view<'a, A: Allocator, V: Values>(
 ) -> Result<Vec<u8, &'a A>, AnswerFault>
     requires { is_path_word path.now ≡ true }
     ensures none { IfErr result (MayEnd (IsViewDenial
-        (λ fault. StudyStopped V.held V.gives V.may_fail V.asked_of V.failed_of V.is_honest (study (plain_study (marked bench.now)))
+        (λ fault. StudyStopped V.source (study (plain_study (marked bench.now)))
         values.old fault values.new)
         (has_spot (plain_study (marked bench.now)).tree (steps_of path.now) ≡ false)) IsNever) }
-    ensures text { V.is_honest values.old → IsKeptRight bench.now
+    ensures text { V.source.is_honest values.old → IsKeptRight bench.now
         → IfOk result (λ text. IsViewOf (plain_study (marked bench.now)) (steps_of path.now) text.items) }
 {
     let first = bench.start();
@@ -143,9 +143,9 @@ fn document_view<'a, A: Allocator, V: Values>(
 ) -> Result<Vec<u8, &'a A>, AnswerFault>
     requires { is_path_word path.now ≡ true }
     ensures none { IfErr result (MayEnd (IsViewDenial
-        (λ fault. StudyStopped V.held V.gives V.may_fail V.asked_of V.failed_of V.is_honest (document_seen document.now) values.old fault values.new)
+        (λ fault. StudyStopped V.source (document_seen document.now) values.old fault values.new)
         (LacksNode (document_seen document.now) (steps_of path.now))) IsNever) }
-    ensures text { V.is_honest values.old → IsMarked document.now
+    ensures text { V.source.is_honest values.old → IsMarked document.now
         → IfOk result (λ text. IsDocumentView (document_seen document.now) (steps_of path.now) text.items) }
 {
     match document {

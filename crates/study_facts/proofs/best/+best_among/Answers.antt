@@ -10,7 +10,7 @@ use Rattle.study_facts.proofs.best.+best_among.Goals as goal
 
 pub returns-in-Err-clause-untold : goal.returns-in-Err-clause-untold
 returns-in-Err-clause-untold g t c =
-    let held = g.V.Values.held c.args.values.now in
+    let held = g.V.Values.source.held c.args.values.now in
     let p = c.args.p.now in
     let rest = map (after p) c.in-Some.rest.now in
     subst (λ (ms : List Move). IsProbeFaultOf held (map (after p) ms) c.in-Err.fault)
@@ -21,22 +21,22 @@ returns-in-Err-clause-untold g t c =
 
 pub returns-in-Err-best_among-clause-untold : goal.returns-in-Err-best_among-clause-untold
 returns-in-Err-best_among-clause-untold g t c =
-    let held = g.V.Values.held c.args.values.now in
+    let held = g.V.Values.source.held c.args.values.now in
     let p = c.args.p.now in
     let rest = map (after p) c.in-Some.rest.now in
     subst (λ (ms : List Move). IsProbeFaultOf held (map (after p) ms) c.in-Err-best_among.fault)
     (sym c.in-Some.ensures.cases.0)
     (subst (λ (q : Position). IsProbeFaultOf held (q ∷ rest) c.in-Err-best_among.fault) c.played-next.ensures.value
-    (untold-later held (g.V.Values.held c.value.new.self) c.played-next.result rest c.in-Err-best_among.fault
+    (untold-later held (g.V.Values.source.held c.value.new.self) c.played-next.result rest c.in-Err-best_among.fault
     (held-told held c.played-next.result c.value.result c.in-Ok.value c.in-Ok.is c.value.ensures.no_table) c.value.ensures.same_tables
     c.in-Err-best_among.ensures.untold))
 
 pub returns-in-Err-best_among-clause-asked : goal.returns-in-Err-best_among-clause-asked
 returns-in-Err-best_among-clause-asked g t c =
     let long : suc (length c.in-Some.rest.now) ≡ length c.args.moves.now = sym (ap length c.in-Some.ensures.cases.0) in
-    subst (λ n. ProbeCount n false (g.V.Values.asked_of c.args.values.now) (g.V.Values.asked_of c.best_among.new.values)) long
-    (asked-more (length c.in-Some.rest.now) false (g.V.Values.asked_of c.args.values.now)
-    (g.V.Values.asked_of c.value.new.self) (g.V.Values.asked_of c.best_among.new.values) c.value.ensures.asked
+    subst (λ n. ProbeCount n false (g.V.Values.source.asked_of c.args.values.now) (g.V.Values.source.asked_of c.best_among.new.values)) long
+    (asked-more (length c.in-Some.rest.now) false (g.V.Values.source.asked_of c.args.values.now)
+    (g.V.Values.source.asked_of c.value.new.self) (g.V.Values.source.asked_of c.best_among.new.values) c.value.ensures.asked
     c.in-Err-best_among.ensures.asked)
 
 pub returns-in-Ok-best_among-clause-game : goal.returns-in-Ok-best_among-clause-game

@@ -24,16 +24,16 @@ returns-in-Ok-Some-clause-game g t c h =
 
 pub returns-in-Err-clause-untold : goal.returns-in-Err-clause-untold
 returns-in-Err-clause-untold g t c k e =
-    untold-not-held (g.V.Values.held c.args.values.now) (map (after c.args.p.now) (legal_list c.args.p.now)) c.in-Err.fault k
+    untold-not-held (g.V.Values.source.held c.args.values.now) (map (after c.args.p.now) (legal_list c.args.p.now)) c.in-Err.fault k
     c.in-Err.ensures.untold e
 
 pub returns-in-Ok-Some-clause-told : goal.returns-in-Ok-Some-clause-told
 returns-in-Ok-Some-clause-told g t c =
-    asked-then (within c.args.p.now g.V.Values.gives) g.V.Values.may_fail g.V.Values.asked_of c.args.values.now c.best_move.new.values c.play_on.new.values
+    asked-then (within c.args.p.now g.V.Values.source) c.args.values.now c.best_move.new.values c.play_on.new.values
     c.play_on.result
-    (some-told g.V.Values.may_fail g.V.Values.asked_of g.V.Values.gives c.args.p.now c.args.values.now c.best_move.new.values (map (after c.args.p.now) (legal_list c.args.p.now))
+    (some-told g.V.Values.source c.args.p.now c.args.values.now c.best_move.new.values (map (after c.args.p.now) (legal_list c.args.p.now))
     (each-legal c.args.p.now) c.in-Ok-Some.ensures.told)
-    (has-wider g.V.Values.may_fail g.V.Values.asked_of g.V.Values.gives c.args.p.now c.played-next.result
+    (has-wider g.V.Values.source c.args.p.now c.played-next.result
     (leads-to c.args.p.now c.played-next.result c.in-Ok-Some.best.played
     (subst (λ (o : Option EvaluatedMove). IfSome o (λ x. is_legal c.args.p.now x.played ≡ true)) c.in-Ok-Some.field-0-is c.in-Ok-Some.ensures.legal) c.played-next.ensures.value)
     c.best_move.new.values c.play_on.new.values c.play_on.result c.play_on.ensures.told)
@@ -47,10 +47,10 @@ returns-in-Ok-Some-clause-legal g t c =
 
 pub returns-in-Err-clause-told : goal.returns-in-Err-clause-told
 returns-in-Err-clause-told g t c =
-    some-fault g.V.Values.may_fail g.V.Values.asked_of g.V.Values.gives c.args.p.now (g.V.Values.held c.args.values.now) c.args.values.now c.best_move.new.values
+    some-fault g.V.Values.source c.args.p.now (g.V.Values.source.held c.args.values.now) c.args.values.now c.best_move.new.values
     (map (after c.args.p.now) (legal_list c.args.p.now)) c.in-Err.fault (each-legal c.args.p.now) c.in-Err.ensures.untold c.in-Err.ensures.first
 
 pub returns-in-Ok-None-clause-told : goal.returns-in-Ok-None-clause-told
 returns-in-Ok-None-clause-told g t c =
-    some-told g.V.Values.may_fail g.V.Values.asked_of g.V.Values.gives c.args.p.now c.args.values.now c.best_move.new.values
+    some-told g.V.Values.source c.args.p.now c.args.values.now c.best_move.new.values
     (map (after c.args.p.now) (legal_list c.args.p.now)) (each-legal c.args.p.now) c.in-Ok-None.ensures.told

@@ -14,18 +14,18 @@ use Rattle.study_facts.proofs.missing_defences.+push_defences.Goals as goal
 
 pub returns-in-Err-clause-untold : goal.returns-in-Err-clause-untold
 returns-in-Err-clause-untold g t c k e =
-    untold-not-held (g.V.Values.held c.args.values.now) (map (after c.played-next.result) (legal_list c.played-next.result)) c.in-Err.fault k
+    untold-not-held (g.V.Values.source.held c.args.values.now) (map (after c.played-next.result) (legal_list c.played-next.result)) c.in-Err.fault k
     c.in-Err.ensures.untold e
 
 pub returns-in-Ok-clause-told : goal.returns-in-Ok-clause-told
 returns-in-Ok-clause-told g t c =
-    asked-then (within c.args.node.now.position.now g.V.Values.gives) g.V.Values.may_fail g.V.Values.asked_of c.args.values.now c.holding_moves.new.values c.push_defences.new.values
+    asked-then (within c.args.node.now.position.now g.V.Values.source) c.args.values.now c.holding_moves.new.values c.push_defences.new.values
     c.push_defences.result
-    (told-wider g.V.Values.may_fail g.V.Values.asked_of g.V.Values.gives c.args.node.now.position.now c.played-next.result
+    (told-wider g.V.Values.source c.args.node.now.position.now c.played-next.result
     (leads-to c.args.node.now.position.now c.played-next.result c.in-Some.x.now.played
     (all-first (λ x. is_legal c.args.node.now.position.now x.played ≡ true) c.in-Some.x.now c.args.moves.now c.in-Some.rest.now c.in-Some.ensures.cases.0 c.requires.legal) c.played-next.ensures.value)
     c.args.values.now c.holding_moves.new.values
-    (some-told g.V.Values.may_fail g.V.Values.asked_of g.V.Values.gives c.played-next.result c.args.values.now c.holding_moves.new.values
+    (some-told g.V.Values.source c.played-next.result c.args.values.now c.holding_moves.new.values
     (map (after c.played-next.result) (legal_list c.played-next.result)) (each-legal c.played-next.result) c.in-Ok.ensures.told)) c.push_defences.ensures.told
 
 pub push_defences-requires : goal.push_defences-requires
@@ -58,9 +58,9 @@ push_defences-requires g t c κs within =
 
 pub returns-in-Err-clause-told : goal.returns-in-Err-clause-told
 returns-in-Err-clause-told g t c =
-    fault-wider g.V.Values.may_fail g.V.Values.asked_of g.V.Values.gives c.args.node.now.position.now c.played-next.result
+    fault-wider g.V.Values.source c.args.node.now.position.now c.played-next.result
     (leads-to c.args.node.now.position.now c.played-next.result c.in-Some.x.now.played
     (all-first (λ x. is_legal c.args.node.now.position.now x.played ≡ true) c.in-Some.x.now c.args.moves.now c.in-Some.rest.now c.in-Some.ensures.cases.0 c.requires.legal) c.played-next.ensures.value)
     c.args.values.now c.holding_moves.new.values c.in-Err.fault
-    (some-fault g.V.Values.may_fail g.V.Values.asked_of g.V.Values.gives c.played-next.result (g.V.Values.held c.args.values.now) c.args.values.now c.holding_moves.new.values
+    (some-fault g.V.Values.source c.played-next.result (g.V.Values.source.held c.args.values.now) c.args.values.now c.holding_moves.new.values
     (map (after c.played-next.result) (legal_list c.played-next.result)) c.in-Err.fault (each-legal c.played-next.result) c.in-Err.ensures.untold c.in-Err.ensures.first)

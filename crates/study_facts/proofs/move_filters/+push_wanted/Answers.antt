@@ -12,7 +12,7 @@ use Rattle.study_facts.proofs.move_filters.+push_wanted.Goals as goal
 
 pub returns-in-Err-clause-untold : goal.returns-in-Err-clause-untold
 returns-in-Err-clause-untold g t c =
-    let held = g.V.Values.held c.args.values.now in
+    let held = g.V.Values.source.held c.args.values.now in
     let p = c.args.node.now.position.now in
     let rest = map (after p) c.in-Some.rest.now in
     subst (λ (ms : List Move). IsProbeFaultOf held (map (after p) ms) c.in-Err.fault)
@@ -34,19 +34,19 @@ returns-in-Ok-clause-untold g t c =
     let p = c.args.node.now.position.now in
     subst
     (λ (ms : List Move). IfErr c.push_wanted.result
-    (IsProbeFaultOf (g.V.Values.held c.args.values.now) (map (after p) ms)))
+    (IsProbeFaultOf (g.V.Values.source.held c.args.values.now) (map (after p) ms)))
     (sym c.in-Some.ensures.cases.0)
-    (subst (λ (q : Position). IfErr c.push_wanted.result (IsProbeFaultOf (g.V.Values.held c.args.values.now) (q ∷ map (after p) c.in-Some.rest.now))) c.played-next.ensures.value
-    (untold-more (g.V.Values.held c.args.values.now) (g.V.Values.held c.value.new.self) c.played-next.result
+    (subst (λ (q : Position). IfErr c.push_wanted.result (IsProbeFaultOf (g.V.Values.source.held c.args.values.now) (q ∷ map (after p) c.in-Some.rest.now))) c.played-next.ensures.value
+    (untold-more (g.V.Values.source.held c.args.values.now) (g.V.Values.source.held c.value.new.self) c.played-next.result
     (map (after p) c.in-Some.rest.now) c.value.result c.in-Ok.value c.push_wanted.result c.in-Ok.is
     c.value.ensures.no_table c.value.ensures.same_tables c.push_wanted.ensures.untold))
 
 pub returns-in-Ok-clause-asked : goal.returns-in-Ok-clause-asked
 returns-in-Ok-clause-asked g t c =
     let long : suc (length c.in-Some.rest.now) ≡ length c.args.moves.now = sym (ap length c.in-Some.ensures.cases.0) in
-    subst (λ n. ProbeCount n (is_ok c.push_wanted.result) (g.V.Values.asked_of c.args.values.now) (g.V.Values.asked_of c.push_wanted.new.values)) long
-    (asked-more (length c.in-Some.rest.now) (is_ok c.push_wanted.result) (g.V.Values.asked_of c.args.values.now)
-    (g.V.Values.asked_of c.value.new.self) (g.V.Values.asked_of c.push_wanted.new.values) c.value.ensures.asked
+    subst (λ n. ProbeCount n (is_ok c.push_wanted.result) (g.V.Values.source.asked_of c.args.values.now) (g.V.Values.source.asked_of c.push_wanted.new.values)) long
+    (asked-more (length c.in-Some.rest.now) (is_ok c.push_wanted.result) (g.V.Values.source.asked_of c.args.values.now)
+    (g.V.Values.source.asked_of c.value.new.self) (g.V.Values.source.asked_of c.push_wanted.new.values) c.value.ensures.asked
     c.push_wanted.ensures.asked)
 
 pub push_wanted-requires : goal.push_wanted-requires

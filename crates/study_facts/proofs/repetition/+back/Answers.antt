@@ -37,56 +37,56 @@ can_force_repetition-returns-in-Ok-false-clause-game g t c h =
 
 pub all_wins_repeat-returns-in-Err-is_repeatable_within-clause-told : goal.all_wins_repeat-returns-in-Err-is_repeatable_within-clause-told
 all_wins_repeat-returns-in-Err-is_repeatable_within-clause-told g t c =
-    fault-then (within c.args.r.now g.V.Values.gives) g.V.Values.may_fail g.V.Values.asked_of c.args.values.now c.is_lost.new.values c.is_repeatable_within.new.values
+    fault-then (within c.args.r.now g.V.Values.source) c.args.values.now c.is_lost.new.values c.is_repeatable_within.new.values
     c.in-Err-is_repeatable_within.fault
-    (told-wider g.V.Values.may_fail g.V.Values.asked_of g.V.Values.gives c.args.r.now c.played-next.result (leads-first c.args.r.now c.played-next.result c.in-Some.h.now c.args.moves.now c.in-Some.rest.now c.in-Some.ensures.cases.0 c.requires.legal c.played-next.ensures.value)
+    (told-wider g.V.Values.source c.args.r.now c.played-next.result (leads-first c.args.r.now c.played-next.result c.in-Some.h.now c.args.moves.now c.in-Some.rest.now c.in-Some.ensures.cases.0 c.requires.legal c.played-next.ensures.value)
     c.args.values.now c.is_lost.new.values c.in-Ok-true.ensures.told)
-    (fault-wider g.V.Values.may_fail g.V.Values.asked_of g.V.Values.gives c.args.r.now c.played-next.result (leads-first c.args.r.now c.played-next.result c.in-Some.h.now c.args.moves.now c.in-Some.rest.now c.in-Some.ensures.cases.0 c.requires.legal c.played-next.ensures.value)
+    (fault-wider g.V.Values.source c.args.r.now c.played-next.result (leads-first c.args.r.now c.played-next.result c.in-Some.h.now c.args.moves.now c.in-Some.rest.now c.in-Some.ensures.cases.0 c.requires.legal c.played-next.ensures.value)
     c.is_lost.new.values c.is_repeatable_within.new.values c.in-Err-is_repeatable_within.fault c.in-Err-is_repeatable_within.ensures.told)
 
 pub all_wins_repeat-returns-in-Ok-true-is_repeatable_within-clause-told : goal.all_wins_repeat-returns-in-Ok-true-is_repeatable_within-clause-told
 all_wins_repeat-returns-in-Ok-true-is_repeatable_within-clause-told g t c =
-    asked-then (within c.args.r.now g.V.Values.gives) g.V.Values.may_fail g.V.Values.asked_of c.args.values.now c.is_repeatable_within.new.values c.all_wins_repeat.new.values c.all_wins_repeat.result
-    (told-then (within c.args.r.now g.V.Values.gives) g.V.Values.may_fail g.V.Values.asked_of c.args.values.now c.is_lost.new.values c.is_repeatable_within.new.values
-    (told-wider g.V.Values.may_fail g.V.Values.asked_of g.V.Values.gives c.args.r.now c.played-next.result (leads-first c.args.r.now c.played-next.result c.in-Some.h.now c.args.moves.now c.in-Some.rest.now c.in-Some.ensures.cases.0 c.requires.legal c.played-next.ensures.value)
+    asked-then (within c.args.r.now g.V.Values.source) c.args.values.now c.is_repeatable_within.new.values c.all_wins_repeat.new.values c.all_wins_repeat.result
+    (told-then (within c.args.r.now g.V.Values.source) c.args.values.now c.is_lost.new.values c.is_repeatable_within.new.values
+    (told-wider g.V.Values.source c.args.r.now c.played-next.result (leads-first c.args.r.now c.played-next.result c.in-Some.h.now c.args.moves.now c.in-Some.rest.now c.in-Some.ensures.cases.0 c.requires.legal c.played-next.ensures.value)
     c.args.values.now c.is_lost.new.values c.in-Ok-true.ensures.told)
-    (told-wider g.V.Values.may_fail g.V.Values.asked_of g.V.Values.gives c.args.r.now c.played-next.result (leads-first c.args.r.now c.played-next.result c.in-Some.h.now c.args.moves.now c.in-Some.rest.now c.in-Some.ensures.cases.0 c.requires.legal c.played-next.ensures.value)
+    (told-wider g.V.Values.source c.args.r.now c.played-next.result (leads-first c.args.r.now c.played-next.result c.in-Some.h.now c.args.moves.now c.in-Some.rest.now c.in-Some.ensures.cases.0 c.requires.legal c.played-next.ensures.value)
     c.is_lost.new.values c.is_repeatable_within.new.values c.in-Ok-true-is_repeatable_within.ensures.told)) c.all_wins_repeat.ensures.told
 
 pub all_wins_repeat-returns-in-Ok-false-is_repeatable_within-clause-told : goal.all_wins_repeat-returns-in-Ok-false-is_repeatable_within-clause-told
 all_wins_repeat-returns-in-Ok-false-is_repeatable_within-clause-told g t c =
-    told-then (within c.args.r.now g.V.Values.gives) g.V.Values.may_fail g.V.Values.asked_of c.args.values.now
+    told-then (within c.args.r.now g.V.Values.source) c.args.values.now
     c.is_lost.new.values c.is_repeatable_within.new.values
-    (told-wider g.V.Values.may_fail g.V.Values.asked_of g.V.Values.gives c.args.r.now c.played-next.result (leads-first c.args.r.now c.played-next.result c.in-Some.h.now c.args.moves.now c.in-Some.rest.now c.in-Some.ensures.cases.0 c.requires.legal c.played-next.ensures.value)
+    (told-wider g.V.Values.source c.args.r.now c.played-next.result (leads-first c.args.r.now c.played-next.result c.in-Some.h.now c.args.moves.now c.in-Some.rest.now c.in-Some.ensures.cases.0 c.requires.legal c.played-next.ensures.value)
     c.args.values.now c.is_lost.new.values c.in-Ok-true.ensures.told)
-    (told-wider g.V.Values.may_fail g.V.Values.asked_of g.V.Values.gives c.args.r.now c.played-next.result (leads-first c.args.r.now c.played-next.result c.in-Some.h.now c.args.moves.now c.in-Some.rest.now c.in-Some.ensures.cases.0 c.requires.legal c.played-next.ensures.value)
+    (told-wider g.V.Values.source c.args.r.now c.played-next.result (leads-first c.args.r.now c.played-next.result c.in-Some.h.now c.args.moves.now c.in-Some.rest.now c.in-Some.ensures.cases.0 c.requires.legal c.played-next.ensures.value)
     c.is_lost.new.values c.is_repeatable_within.new.values c.in-Ok-false-is_repeatable_within.ensures.told)
 
 pub all_wins_repeat-returns-in-Ok-false-clause-told : goal.all_wins_repeat-returns-in-Ok-false-clause-told
 all_wins_repeat-returns-in-Ok-false-clause-told g t c =
-    asked-then (within c.args.r.now g.V.Values.gives) g.V.Values.may_fail g.V.Values.asked_of c.args.values.now c.is_lost.new.values c.all_wins_repeat-in-Ok-false.new.values
+    asked-then (within c.args.r.now g.V.Values.source) c.args.values.now c.is_lost.new.values c.all_wins_repeat-in-Ok-false.new.values
     c.all_wins_repeat-in-Ok-false.result
-    (told-wider g.V.Values.may_fail g.V.Values.asked_of g.V.Values.gives c.args.r.now c.played-next.result (leads-first c.args.r.now c.played-next.result c.in-Some.h.now c.args.moves.now c.in-Some.rest.now c.in-Some.ensures.cases.0 c.requires.legal c.played-next.ensures.value)
+    (told-wider g.V.Values.source c.args.r.now c.played-next.result (leads-first c.args.r.now c.played-next.result c.in-Some.h.now c.args.moves.now c.in-Some.rest.now c.in-Some.ensures.cases.0 c.requires.legal c.played-next.ensures.value)
     c.args.values.now c.is_lost.new.values c.in-Ok-false.ensures.told) c.all_wins_repeat-in-Ok-false.ensures.told
 
 pub can_force_repetition-returns-in-Ok-false-clause-told : goal.can_force_repetition-returns-in-Ok-false-clause-told
 can_force_repetition-returns-in-Ok-false-clause-told g t c =
-    asked-then (within c.args.q.now g.V.Values.gives) g.V.Values.may_fail g.V.Values.asked_of c.args.values.now c.must_repeat.new.values c.can_force_repetition.new.values
+    asked-then (within c.args.q.now g.V.Values.source) c.args.values.now c.must_repeat.new.values c.can_force_repetition.new.values
     c.can_force_repetition.result
-    (told-wider g.V.Values.may_fail g.V.Values.asked_of g.V.Values.gives c.args.q.now c.played-next.result (leads-first c.args.q.now c.played-next.result c.in-Some.n.now c.args.moves.now c.in-Some.rest.now c.in-Some.ensures.cases.0 c.requires.legal c.played-next.ensures.value)
+    (told-wider g.V.Values.source c.args.q.now c.played-next.result (leads-first c.args.q.now c.played-next.result c.in-Some.n.now c.args.moves.now c.in-Some.rest.now c.in-Some.ensures.cases.0 c.requires.legal c.played-next.ensures.value)
     c.args.values.now c.must_repeat.new.values c.in-Ok-false.ensures.told) c.can_force_repetition.ensures.told
 
 pub all_wins_repeat-returns-in-Err-clause-told : goal.all_wins_repeat-returns-in-Err-clause-told
 all_wins_repeat-returns-in-Err-clause-told g t c =
-    fault-wider g.V.Values.may_fail g.V.Values.asked_of g.V.Values.gives c.args.r.now c.played-next.result (leads-first c.args.r.now c.played-next.result c.in-Some.h.now c.args.moves.now c.in-Some.rest.now c.in-Some.ensures.cases.0 c.requires.legal c.played-next.ensures.value)
+    fault-wider g.V.Values.source c.args.r.now c.played-next.result (leads-first c.args.r.now c.played-next.result c.in-Some.h.now c.args.moves.now c.in-Some.rest.now c.in-Some.ensures.cases.0 c.requires.legal c.played-next.ensures.value)
     c.args.values.now c.is_lost.new.values c.in-Err.fault c.in-Err.ensures.told
 
 pub can_force_repetition-returns-in-Err-clause-told : goal.can_force_repetition-returns-in-Err-clause-told
 can_force_repetition-returns-in-Err-clause-told g t c =
-    fault-wider g.V.Values.may_fail g.V.Values.asked_of g.V.Values.gives c.args.q.now c.played-next.result (leads-first c.args.q.now c.played-next.result c.in-Some.n.now c.args.moves.now c.in-Some.rest.now c.in-Some.ensures.cases.0 c.requires.legal c.played-next.ensures.value)
+    fault-wider g.V.Values.source c.args.q.now c.played-next.result (leads-first c.args.q.now c.played-next.result c.in-Some.n.now c.args.moves.now c.in-Some.rest.now c.in-Some.ensures.cases.0 c.requires.legal c.played-next.ensures.value)
     c.args.values.now c.must_repeat.new.values c.in-Err.fault c.in-Err.ensures.told
 
 pub can_force_repetition-returns-in-Ok-true-clause-told : goal.can_force_repetition-returns-in-Ok-true-clause-told
 can_force_repetition-returns-in-Ok-true-clause-told g t c =
-    told-wider g.V.Values.may_fail g.V.Values.asked_of g.V.Values.gives c.args.q.now c.played-next.result (leads-first c.args.q.now c.played-next.result c.in-Some.n.now c.args.moves.now c.in-Some.rest.now c.in-Some.ensures.cases.0 c.requires.legal c.played-next.ensures.value)
+    told-wider g.V.Values.source c.args.q.now c.played-next.result (leads-first c.args.q.now c.played-next.result c.in-Some.n.now c.args.moves.now c.in-Some.rest.now c.in-Some.ensures.cases.0 c.requires.legal c.played-next.ensures.value)
     c.args.values.now c.must_repeat.new.values c.in-Ok-true.ensures.told

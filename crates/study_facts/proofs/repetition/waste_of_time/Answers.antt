@@ -6,12 +6,12 @@ use Rattle.study_facts.proofs.repetition.waste_of_time.Goals as goal
 
 pub returns-in-Err-clause-told : goal.returns-in-Err-clause-told
 returns-in-Err-clause-told g c =
-    fault-then (within c.args.q.now g.V.Values.gives) g.V.Values.may_fail g.V.Values.asked_of c.args.values.now c.loop-m.values c.is_repeatable_within.new.values c.in-Err.fault
+    fault-then (within c.args.q.now g.V.Values.source) c.args.values.now c.loop-m.values c.is_repeatable_within.new.values c.in-Err.fault
     c.loop-m.invariant.told c.in-Err.ensures.told
 
 pub returns-in-Ok-true-clause-told : goal.returns-in-Ok-true-clause-told
 returns-in-Ok-true-clause-told g c =
-    told-then (within c.args.q.now g.V.Values.gives) g.V.Values.may_fail g.V.Values.asked_of c.args.values.now c.loop-m.values c.is_repeatable_within.new.values
+    told-then (within c.args.q.now g.V.Values.source) c.args.values.now c.loop-m.values c.is_repeatable_within.new.values
     c.loop-m.invariant.told c.in-Ok-true.ensures.told
 
 pub loop-m-preserved : goal.loop-m-preserved
@@ -21,7 +21,7 @@ loop-m-preserved g c = record {
       (c.in-Ok-false.ensures.game (c.loop-m.invariant.honest h));
   honest = λ h. c.is_repeatable_within.ensures.honest (c.loop-m.invariant.honest h);
   failures = c.in-Ok-false.ensures.failures ∙ c.loop-m.invariant.failures;
-  told = told-then (within c.args.q.now g.V.Values.gives) g.V.Values.may_fail g.V.Values.asked_of c.args.values.now c.loop-m.values c.is_repeatable_within.new.values
+  told = told-then (within c.args.q.now g.V.Values.source) c.args.values.now c.loop-m.values c.is_repeatable_within.new.values
       c.loop-m.invariant.told c.in-Ok-false.ensures.told;
   tables = λ k. c.is_repeatable_within.ensures.tables k ∙ c.loop-m.invariant.tables k;
 }

@@ -7,9 +7,9 @@ use Rattle.study_facts.proofs.repetition.waste_of_time.Given as goal
 
 abbrev pub invariant-loop-m : goal.invariant-loop-m
 invariant-loop-m g l = record {
-  none : g.V.Values.is_honest l.fn.values → (k : ℕ) → k < l.m → ¬ (IsRepeatableWithin l.line k l.q);
-  honest : g.V.Values.is_honest l.fn.values → g.V.Values.is_honest l.values;
-  failures : g.V.Values.failed_of l.values ≡ g.V.Values.failed_of l.fn.values;
-  told : SomeTold (within l.q g.V.Values.gives) g.V.Values.may_fail g.V.Values.asked_of l.fn.values l.values;
-  tables : (c : Class) → g.V.Values.held l.values c ≡ g.V.Values.held l.fn.values c;
+  none : g.V.Values.source.is_honest l.fn.values → (k : ℕ) → k < l.m → ¬ (IsRepeatableWithin l.line k l.q);
+  honest : g.V.Values.source.is_honest l.fn.values → g.V.Values.source.is_honest l.values;
+  failures : g.V.Values.source.failed_of l.values ≡ g.V.Values.source.failed_of l.fn.values;
+  told : SomeTold (within l.q g.V.Values.source) l.fn.values l.values;
+  tables : (c : Class) → g.V.Values.source.held l.values c ≡ g.V.Values.source.held l.fn.values c;
 }

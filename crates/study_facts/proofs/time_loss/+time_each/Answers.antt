@@ -9,9 +9,9 @@ use Rattle.study_facts.proofs.time_loss.+time_each.Goals as goal
 
 pub returns-in-Ok-clause-told : goal.returns-in-Ok-clause-told
 returns-in-Ok-clause-told g t c =
-    asked-then (within c.args.place.now.position g.V.Values.gives) g.V.Values.may_fail g.V.Values.asked_of c.args.values.now c.waste_of_time_for_goal.new.values c.time_each.new.values
+    asked-then (within c.args.place.now.position g.V.Values.source) c.args.values.now c.waste_of_time_for_goal.new.values c.time_each.new.values
     c.time_each.result
-    (told-wider g.V.Values.may_fail g.V.Values.asked_of g.V.Values.gives c.args.place.now.position c.played-next.result
+    (told-wider g.V.Values.source c.args.place.now.position c.played-next.result
     (leads-to c.args.place.now.position c.played-next.result c.in-Some.x.now.played
     (all-first (λ x. is_legal c.args.place.now.position x.played ≡ true) c.in-Some.x.now c.args.moves.now c.in-Some.rest.now c.in-Some.ensures.cases.0 c.requires.legal) c.played-next.ensures.value)
     c.args.values.now c.waste_of_time_for_goal.new.values c.in-Ok.ensures.told) c.time_each.ensures.told
@@ -40,7 +40,7 @@ time_each-requires g t c κs within =
 
 pub returns-in-Err-clause-told : goal.returns-in-Err-clause-told
 returns-in-Err-clause-told g t c =
-    fault-wider g.V.Values.may_fail g.V.Values.asked_of g.V.Values.gives c.args.place.now.position c.played-next.result
+    fault-wider g.V.Values.source c.args.place.now.position c.played-next.result
     (leads-to c.args.place.now.position c.played-next.result c.in-Some.x.now.played
     (all-first (λ x. is_legal c.args.place.now.position x.played ≡ true) c.in-Some.x.now c.args.moves.now c.in-Some.rest.now c.in-Some.ensures.cases.0 c.requires.legal) c.played-next.ensures.value)
     c.args.values.now c.waste_of_time_for_goal.new.values c.in-Err.fault c.in-Err.ensures.told

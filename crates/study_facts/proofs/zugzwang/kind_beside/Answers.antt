@@ -16,11 +16,11 @@ returns-in-Ok-clause-game g c scores h =
 pub returns-in-Err-clause-told : goal.returns-in-Err-clause-told
 returns-in-Err-clause-told g c =
     let valid : IsValid c.args.q.now = search rules in
-    fault-wider g.V.Values.may_fail g.V.Values.asked_of g.V.Values.gives c.args.p.now c.args.q.now (leads-across c.args.p.now c.args.q.now c.requires.other valid)
+    fault-wider g.V.Values.source c.args.p.now c.args.q.now (leads-across c.args.p.now c.args.q.now c.requires.other valid)
     c.args.values.now c.score.new.values c.in-Err.fault c.in-Err.ensures.told
 
 pub returns-in-Ok-clause-told : goal.returns-in-Ok-clause-told
 returns-in-Ok-clause-told g c =
     let valid : IsValid c.args.q.now = search rules in
-    told-wider g.V.Values.may_fail g.V.Values.asked_of g.V.Values.gives c.args.p.now c.args.q.now (leads-across c.args.p.now c.args.q.now c.requires.other valid)
+    told-wider g.V.Values.source c.args.p.now c.args.q.now (leads-across c.args.p.now c.args.q.now c.requires.other valid)
     c.args.values.now c.score.new.values c.in-Ok.ensures.told

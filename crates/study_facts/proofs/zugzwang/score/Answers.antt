@@ -12,17 +12,17 @@ returns-in-Ok-clause-game g c h = (c.in-Ok.value, c.in-Ok.ensures.game h, sym c.
 pub returns-in-Err-clause-told : goal.returns-in-Err-clause-told
 returns-in-Err-clause-told g c =
     let valid : IsValid c.args.q.now = search rules in
-    subst (λ (r : ProbeAnswer). HasProbed (within c.args.q.now g.V.Values.gives) g.V.Values.may_fail g.V.Values.asked_of c.args.values.now r c.value.new.self) c.in-Err.is
-    (asked-one (within c.args.q.now g.V.Values.gives) g.V.Values.may_fail g.V.Values.asked_of c.args.values.now
+    subst (λ (r : ProbeAnswer). HasProbed (within c.args.q.now g.V.Values.source) c.args.values.now r c.value.new.self) c.in-Err.is
+    (asked-one (within c.args.q.now g.V.Values.source) c.args.values.now
     c.value.new.self c.args.q.now c.value.result valid
-    (own-answer g.V.Values.gives c.args.values.now c.args.q.now c.value.result c.value.ensures.given (λ k e. ((c.value.ensures.no_table k).0 e).0)) c.value.ensures.asked
+    (own-answer g.V.Values.source.gives c.args.values.now c.args.q.now c.value.result c.value.ensures.given (λ k e. ((c.value.ensures.no_table k).0 e).0)) c.value.ensures.asked
     c.value.ensures.failed_so c.value.ensures.fails_as_before)
 
 pub returns-in-Ok-clause-told : goal.returns-in-Ok-clause-told
 returns-in-Ok-clause-told g c =
     let valid : IsValid c.args.q.now = search rules in
-    subst (λ (r : ProbeAnswer). HasProbed (within c.args.q.now g.V.Values.gives) g.V.Values.may_fail g.V.Values.asked_of c.args.values.now r c.value.new.self) c.in-Ok.is
-    (asked-one (within c.args.q.now g.V.Values.gives) g.V.Values.may_fail g.V.Values.asked_of c.args.values.now
+    subst (λ (r : ProbeAnswer). HasProbed (within c.args.q.now g.V.Values.source) c.args.values.now r c.value.new.self) c.in-Ok.is
+    (asked-one (within c.args.q.now g.V.Values.source) c.args.values.now
     c.value.new.self c.args.q.now c.value.result valid
-    (own-answer g.V.Values.gives c.args.values.now c.args.q.now c.value.result c.value.ensures.given (λ k e. ((c.value.ensures.no_table k).0 e).0)) c.value.ensures.asked
+    (own-answer g.V.Values.source.gives c.args.values.now c.args.q.now c.value.result c.value.ensures.given (λ k e. ((c.value.ensures.no_table k).0 e).0)) c.value.ensures.asked
     c.value.ensures.failed_so c.value.ensures.fails_as_before)

@@ -7,5 +7,5 @@ returns-in-Ok-clause-game g c h = c.kind_beside.ensures.game (c.in-Ok.ensures.ga
 
 pub returns-in-Ok-clause-told : goal.returns-in-Ok-clause-told
 returns-in-Ok-clause-told g c =
-    asked-then (within c.args.p.now g.V.Values.gives) g.V.Values.may_fail g.V.Values.asked_of c.args.values.now c.score.new.values c.kind_beside.new.values
+    asked-then (within c.args.p.now g.V.Values.source) c.args.values.now c.score.new.values c.kind_beside.new.values
     c.kind_beside.result c.in-Ok.ensures.told c.kind_beside.ensures.told

@@ -8,9 +8,9 @@ invariant-loop-at g l = record {
   within : (l.at ≤ l.numbers.to) ⊎ (l.at ≡ l.numbers.from);
   from : l.numbers.from ≤ l.at;
   few : l.count ≤ l.at;
-  counted : g.V.Values.is_honest l.fn.values → AreSoMany l.selection l.numbers.from l.at l.count;
-  honest : g.V.Values.is_honest l.fn.values → g.V.Values.is_honest l.values;
-  tables : HasSameTables g.V.Values.held g.V.Values.may_fail l.fn.values l.values;
+  counted : g.V.Values.source.is_honest l.fn.values → AreSoMany l.selection l.numbers.from l.at l.count;
+  honest : g.V.Values.source.is_honest l.fn.values → g.V.Values.source.is_honest l.values;
+  tables : HasSameTables g.V.Values.source l.fn.values l.values;
 }
 
 abbrev pub decreases-loop-at : goal.decreases-loop-at

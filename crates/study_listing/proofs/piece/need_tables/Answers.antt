@@ -23,7 +23,7 @@ returns-then-not-holds-clause-missing g c =
 
 pub loop-class-preserved : goal.loop-class-preserved
 loop-class-preserved g c =
-    next-held (λ (x : Class). g.V.Values.held c.args.values.now x ≡ true) c.as_slice-class-items.result.now c.loop-class.class-index KK
+    next-held (λ (x : Class). g.V.Values.source.held c.args.values.now x ≡ true) c.as_slice-class-items.result.now c.loop-class.class-index KK
     c.loop-class-test.true c.loop-class.invariant (sym c.holds.ensures ∙ c.if-not-holds.false)
 
 pub returns-clause-held : goal.returns-clause-held
@@ -31,6 +31,6 @@ returns-clause-held g c =
     let items = c.as_slice-class-items.result.now in (
       c.classes_for-classes.result.items,
       c.classes_for-classes.ensures,
-      subst (AllByRecursion (λ (x : Class). g.V.Values.held c.args.values.now x ≡ true))
+      subst (AllByRecursion (λ (x : Class). g.V.Values.source.held c.args.values.now x ≡ true))
           (take_all c.loop-class.class-index items (omega (arith, c.loop-class-test.false)) ∙ c.as_slice-class-items.ensures.value) c.loop-class.invariant,
     )

@@ -26,7 +26,7 @@ tally_moves-requires g t c κs within =
 
 pub returns-in-Err-clause-untold : goal.returns-in-Err-clause-untold
 returns-in-Err-clause-untold g t c =
-    let held = g.V.Values.held c.args.values.now in
+    let held = g.V.Values.source.held c.args.values.now in
     let rest = map (after c.args.p.now) c.in-Some.rest.now in
     subst (λ (ms : List Move). IsProbeFaultOf held (map (after c.args.p.now) ms) c.in-Err.fault)
     (sym c.in-Some.ensures.cases.0)
@@ -51,17 +51,17 @@ returns-in-Ok-clause-untold g t c =
     let next = c.played-next.ensures.value in
     subst
     (λ (ms : List Move). IfErr c.tally_moves.result
-    (IsProbeFaultOf (g.V.Values.held c.args.values.now) (map (after c.args.p.now) ms)))
+    (IsProbeFaultOf (g.V.Values.source.held c.args.values.now) (map (after c.args.p.now) ms)))
     (sym c.in-Some.ensures.cases.0)
-    (subst (λ (q : Position). IfErr c.tally_moves.result (IsProbeFaultOf (g.V.Values.held c.args.values.now) (q ∷ map (after c.args.p.now) c.in-Some.rest.now))) next
-    (untold-more (g.V.Values.held c.args.values.now) (g.V.Values.held c.value.new.self) c.played-next.result
+    (subst (λ (q : Position). IfErr c.tally_moves.result (IsProbeFaultOf (g.V.Values.source.held c.args.values.now) (q ∷ map (after c.args.p.now) c.in-Some.rest.now))) next
+    (untold-more (g.V.Values.source.held c.args.values.now) (g.V.Values.source.held c.value.new.self) c.played-next.result
     (map (after c.args.p.now) c.in-Some.rest.now) c.value.result c.in-Ok.value c.tally_moves.result c.in-Ok.is
     c.value.ensures.no_table c.value.ensures.same_tables c.tally_moves.ensures.untold))
 
 pub returns-in-Ok-clause-asked : goal.returns-in-Ok-clause-asked
 returns-in-Ok-clause-asked g t c =
     let long : suc (length c.in-Some.rest.now) ≡ length c.args.moves.now = sym (ap length c.in-Some.ensures.cases.0) in
-    subst (λ n. ProbeCount n (is_ok c.tally_moves.result) (g.V.Values.asked_of c.args.values.now) (g.V.Values.asked_of c.tally_moves.new.values)) long
-    (asked-more (length c.in-Some.rest.now) (is_ok c.tally_moves.result) (g.V.Values.asked_of c.args.values.now)
-    (g.V.Values.asked_of c.value.new.self) (g.V.Values.asked_of c.tally_moves.new.values) c.value.ensures.asked
+    subst (λ n. ProbeCount n (is_ok c.tally_moves.result) (g.V.Values.source.asked_of c.args.values.now) (g.V.Values.source.asked_of c.tally_moves.new.values)) long
+    (asked-more (length c.in-Some.rest.now) (is_ok c.tally_moves.result) (g.V.Values.source.asked_of c.args.values.now)
+    (g.V.Values.source.asked_of c.value.new.self) (g.V.Values.source.asked_of c.tally_moves.new.values) c.value.ensures.asked
     c.tally_moves.ensures.asked)

@@ -8,7 +8,7 @@ use Rattle.study_marks.proofs.evaluate.evaluate.Goals as goal
 
 pub returns-in-Err-clause-untold : goal.returns-in-Err-clause-untold
 returns-in-Err-clause-untold g c =
-    untold-here (g.V.Values.held c.args.values.now) c.args.p.now (map (after c.args.p.now) (legal_list c.args.p.now))
+    untold-here (g.V.Values.source.held c.args.values.now) c.args.p.now (map (after c.args.p.now) (legal_list c.args.p.now))
     c.value.result c.in-Err.fault c.in-Err.is c.value.ensures.no_table c.value.ensures.damaged
 
 pub returns-in-Err-clause-asked : goal.returns-in-Err-clause-asked
@@ -19,10 +19,10 @@ returns-in-Err-clause-asked g c =
 pub returns-in-Err-tally_moves-clause-untold : goal.returns-in-Err-tally_moves-clause-untold
 returns-in-Err-tally_moves-clause-untold g c =
     let moves : c.as_slice.result.now ≡ legal_list c.args.p.now = c.as_slice.ensures.value ∙ c.legal_moves-moves.ensures.listed in
-    untold-later (g.V.Values.held c.args.values.now) (g.V.Values.held c.value.new.self) c.args.p.now
+    untold-later (g.V.Values.source.held c.args.values.now) (g.V.Values.source.held c.value.new.self) c.args.p.now
     (map (after c.args.p.now) (legal_list c.args.p.now)) c.in-Err-tally_moves.fault
-    (held-told (g.V.Values.held c.args.values.now) c.args.p.now c.value.result c.in-Ok.value c.in-Ok.is c.value.ensures.no_table) c.value.ensures.same_tables
-    (subst (λ (ms : List Move). IsProbeFaultOf (g.V.Values.held c.value.new.self) (map (after c.args.p.now) ms)
+    (held-told (g.V.Values.source.held c.args.values.now) c.args.p.now c.value.result c.in-Ok.value c.in-Ok.is c.value.ensures.no_table) c.value.ensures.same_tables
+    (subst (λ (ms : List Move). IsProbeFaultOf (g.V.Values.source.held c.value.new.self) (map (after c.args.p.now) ms)
     c.in-Err-tally_moves.fault) moves c.in-Err-tally_moves.ensures.untold)
 
 pub returns-in-Err-tally_moves-clause-asked : goal.returns-in-Err-tally_moves-clause-asked
@@ -31,7 +31,7 @@ returns-in-Err-tally_moves-clause-asked g c =
     let long : length c.as_slice.result.now ≡ length (map (after c.args.p.now) (legal_list c.args.p.now)) =
     ap length moves ∙ sym (length-map (after c.args.p.now) (legal_list c.args.p.now)) in
     asked-more (length (map (after c.args.p.now) (legal_list c.args.p.now))) false
-    (g.V.Values.asked_of c.args.values.now) (g.V.Values.asked_of c.value.new.self)
-    (g.V.Values.asked_of c.tally_moves.new.values) c.value.ensures.asked
-    (subst (λ n. ProbeCount n false (g.V.Values.asked_of c.value.new.self) (g.V.Values.asked_of c.tally_moves.new.values)) long
+    (g.V.Values.source.asked_of c.args.values.now) (g.V.Values.source.asked_of c.value.new.self)
+    (g.V.Values.source.asked_of c.tally_moves.new.values) c.value.ensures.asked
+    (subst (λ n. ProbeCount n false (g.V.Values.source.asked_of c.value.new.self) (g.V.Values.source.asked_of c.tally_moves.new.values)) long
     c.in-Err-tally_moves.ensures.asked)

@@ -14,18 +14,18 @@ pub returns-in_err-evaluate_positions-clause-refusal : goal.returns-in_err-evalu
 returns-in_err-evaluate_positions-clause-refusal g c =
     let same = asked-tree c.args.position.now (plain_tree c.args.tree.now).below c.as_slice.result.now (c.as_slice.ensures.value ∙ c.in-Ok.ensures) in
     let asked = asked_at c.args.position.now ++ asked_below c.args.position.now (plain_tree c.args.tree.now).below in
-    outside-answer (g.V.Values.held c.args.values.now) asked c.in_err-evaluate_positions.field-0.0 c.from_residual.result c.from_residual.ensures.1
-    (subst (λ (ps : List Position). IsProbeFaultOf (g.V.Values.held c.args.values.now) ps c.in_err-evaluate_positions.field-0.0) same
+    outside-answer (g.V.Values.source.held c.args.values.now) asked c.in_err-evaluate_positions.field-0.0 c.from_residual.result c.from_residual.ensures.1
+    (subst (λ (ps : List Position). IsProbeFaultOf (g.V.Values.source.held c.args.values.now) ps c.in_err-evaluate_positions.field-0.0) same
     c.in_err-evaluate_positions.ensures.untold)
 
 pub returns-in_err-evaluate_positions-clause-asked : goal.returns-in_err-evaluate_positions-clause-asked
 returns-in_err-evaluate_positions-clause-asked g c =
     let same = asked-tree c.args.position.now (plain_tree c.args.tree.now).below c.as_slice.result.now (c.as_slice.ensures.value ∙ c.in-Ok.ensures) in
     let asked = asked_at c.args.position.now ++ asked_below c.args.position.now (plain_tree c.args.tree.now).below in
-    asked-answer (length asked) (g.V.Values.asked_of c.args.values.now) (g.V.Values.asked_of c.evaluate_positions.new.values)
+    asked-answer (length asked) (g.V.Values.source.asked_of c.args.values.now) (g.V.Values.source.asked_of c.evaluate_positions.new.values)
     c.in_err-evaluate_positions.field-0.0 c.from_residual.result c.from_residual.ensures.1
-    (subst (λ (ps : List Position). ProbeCount (length ps) false (g.V.Values.asked_of c.args.values.now)
-    (g.V.Values.asked_of c.evaluate_positions.new.values)) same c.in_err-evaluate_positions.ensures.asked)
+    (subst (λ (ps : List Position). ProbeCount (length ps) false (g.V.Values.source.asked_of c.args.values.now)
+    (g.V.Values.source.asked_of c.evaluate_positions.new.values)) same c.in_err-evaluate_positions.ensures.asked)
 
 pub returns-clause-game : goal.returns-clause-game
 returns-clause-game g c =
@@ -37,21 +37,21 @@ pub returns-clause-found : goal.returns-clause-found
 returns-clause-found g c =
     let same = asked-tree c.args.position.now (plain_tree c.args.tree.now).below c.as_slice.result.now (c.as_slice.ensures.value ∙ c.in-Ok.ensures) in
     let asked = asked_at c.args.position.now ++ asked_below c.args.position.now (plain_tree c.args.tree.now).below in
-    subst (λ (ps : List Position). AreTablesHeld (g.V.Values.held c.args.values.now) ps) same c.in_ok-evaluate_positions.ensures.held
+    subst (λ (ps : List Position). AreTablesHeld (g.V.Values.source.held c.args.values.now) ps) same c.in_ok-evaluate_positions.ensures.held
 
 pub returns-clause-asked : goal.returns-clause-asked
 returns-clause-asked g c =
     let same = asked-tree c.args.position.now (plain_tree c.args.tree.now).below c.as_slice.result.now (c.as_slice.ensures.value ∙ c.in-Ok.ensures) in
     let asked = asked_at c.args.position.now ++ asked_below c.args.position.now (plain_tree c.args.tree.now).below in
-    c.in_ok-evaluate_positions.ensures.asked ∙ ap (λ (ps : List Position). counted_up_by (length ps) (g.V.Values.asked_of c.args.values.now)) same
+    c.in_ok-evaluate_positions.ensures.asked ∙ ap (λ (ps : List Position). counted_up_by (length ps) (g.V.Values.source.asked_of c.args.values.now)) same
 
 pub returns-in_err-evaluate_positions-clause-first : goal.returns-in_err-evaluate_positions-clause-first
 returns-in_err-evaluate_positions-clause-first g c =
     let same = asked-tree c.args.position.now (plain_tree c.args.tree.now).below c.as_slice.result.now (c.as_slice.ensures.value ∙ c.in-Ok.ensures) in
     let asked = asked_at c.args.position.now ++ asked_below c.args.position.now (plain_tree c.args.tree.now).below in
-    first-answer g.V.Values.gives g.V.Values.may_fail g.V.Values.asked_of c.args.values.now asked c.evaluate_positions.new.values c.in_err-evaluate_positions.field-0.0
+    first-answer g.V.Values.source c.args.values.now asked c.evaluate_positions.new.values c.in_err-evaluate_positions.field-0.0
     c.from_residual.result c.from_residual.ensures.1
-    (subst (λ (ps : List Position). IsFirstFault g.V.Values.gives g.V.Values.may_fail g.V.Values.asked_of c.args.values.now ps
+    (subst (λ (ps : List Position). IsFirstFault g.V.Values.source c.args.values.now ps
     c.in_err-evaluate_positions.field-0.0 c.evaluate_positions.new.values) same c.in_err-evaluate_positions.ensures.first)
 
 pub returns-in_err-evaluate_positions-clause-no_damage : goal.returns-in_err-evaluate_positions-clause-no_damage

@@ -11,25 +11,25 @@ use Rattle.study_marks.proofs.evaluate_all.evaluate_positions.Goals as goal
 pub returns-in_err-evaluate_one-clause-untold : goal.returns-in_err-evaluate_one-clause-untold
 returns-in_err-evaluate_one-clause-untold g c =
     same-fault c.from_residual.result c.in_err-evaluate_one.field-0.0
-    (IsProbeFaultOf (g.V.Values.held c.args.values.now) (asked_each c.args.positions.now)) c.from_residual.ensures.1
+    (IsProbeFaultOf (g.V.Values.source.held c.args.values.now) (asked_each c.args.positions.now)) c.from_residual.ensures.1
     (untold-at _ _ _ _ _ _ _ _ c.args.positions.now c.loop-p.p-index c.p-item.result _ _ c.loop-p.invariant.asked
     c.loop-p-test.true c.p-item.is c.in_err-evaluate_one.field-0.0 c.in_err-evaluate_one.ensures.untold)
 
 pub returns-in_err-evaluate_one-clause-asked : goal.returns-in_err-evaluate_one-clause-asked
 returns-in_err-evaluate_one-clause-asked g c =
     fault-asked c.from_residual.result c.in_err-evaluate_one.field-0.0 (length (asked_each c.args.positions.now))
-    (g.V.Values.asked_of c.args.values.now) (g.V.Values.asked_of c.evaluate_one.new.values) c.from_residual.ensures.1
+    (g.V.Values.source.asked_of c.args.values.now) (g.V.Values.source.asked_of c.evaluate_one.new.values) c.from_residual.ensures.1
     (asked-at _ _ _ _ _ _ _ _ c.args.positions.now c.loop-p.p-index c.p-item.result _ _ c.loop-p.invariant.asked
-    c.loop-p-test.true c.p-item.is (g.V.Values.asked_of c.evaluate_one.new.values) c.in_err-evaluate_one.ensures.asked)
+    c.loop-p-test.true c.p-item.is (g.V.Values.source.asked_of c.evaluate_one.new.values) c.in_err-evaluate_one.ensures.asked)
 
 pub loop-p-preserved : goal.loop-p-preserved
 loop-p-preserved g c = record {
   asked =
       subst
-      (λ (ps : List Position). IsAsked (g.V.Values.held c.args.values.now) (g.V.Values.held c.evaluate_one.new.values)
-      (g.V.Values.asked_of c.args.values.now) (g.V.Values.asked_of c.evaluate_one.new.values)
-      (g.V.Values.failed_of c.args.values.now) (g.V.Values.failed_of c.evaluate_one.new.values)
-      (g.V.Values.is_honest c.args.values.now) (g.V.Values.is_honest c.evaluate_one.new.values) ps c.args.all.now.items
+      (λ (ps : List Position). IsAsked (g.V.Values.source.held c.args.values.now) (g.V.Values.source.held c.evaluate_one.new.values)
+      (g.V.Values.source.asked_of c.args.values.now) (g.V.Values.source.asked_of c.evaluate_one.new.values)
+      (g.V.Values.source.failed_of c.args.values.now) (g.V.Values.source.failed_of c.evaluate_one.new.values)
+      (g.V.Values.source.is_honest c.args.values.now) (g.V.Values.source.is_honest c.evaluate_one.new.values) ps c.args.all.now.items
       c.evaluate_one.new.all.items)
       (sym (take-one c.args.positions.now c.loop-p.p-index c.p-item.result c.loop-p-test.true c.p-item.is))
       (asked-next _ _ _ _ _ _ _ _ _ _ _ _ _ c.p-item.result _ _ _ c.loop-p.invariant.asked
@@ -37,7 +37,7 @@ loop-p-preserved g c = record {
       c.in_ok-evaluate_one.ensures.failures
       c.in_ok-evaluate_one.ensures.honest c.in_ok-evaluate_one.ensures.game);
   told =
-      told-next g.V.Values.gives g.V.Values.may_fail g.V.Values.asked_of c.args.values.now c.loop-p.values c.evaluate_one.new.values c.args.positions.now
+      told-next g.V.Values.source c.args.values.now c.loop-p.values c.evaluate_one.new.values c.args.positions.now
       c.loop-p.p-index c.p-item.result c.loop-p-test.true c.p-item.is c.loop-p.invariant.told c.in_ok-evaluate_one.ensures.told;
   fails = λ d f m. c.loop-p.invariant.fails d f (c.in_ok-evaluate_one.ensures.fails_as_before d f m);
   room = omega (arith, c.loop-p.invariant.room, c.in_ok-evaluate_one.ensures.len, c.in_ok-evaluate_one.ensures.capacity);
@@ -46,10 +46,10 @@ loop-p-preserved g c = record {
 pub returns-in_err-evaluate_one-clause-first : goal.returns-in_err-evaluate_one-clause-first
 returns-in_err-evaluate_one-clause-first g c =
     same-fault c.from_residual.result c.in_err-evaluate_one.field-0.0
-    (λ f. IsFirstFault g.V.Values.gives g.V.Values.may_fail g.V.Values.asked_of c.args.values.now (asked_each c.args.positions.now) f
+    (λ f. IsFirstFault g.V.Values.source c.args.values.now (asked_each c.args.positions.now) f
     c.evaluate_one.new.values)
     c.from_residual.ensures.1
-    (first-at g.V.Values.gives g.V.Values.may_fail g.V.Values.asked_of c.args.values.now c.loop-p.values c.evaluate_one.new.values c.args.positions.now
+    (first-at g.V.Values.source c.args.values.now c.loop-p.values c.evaluate_one.new.values c.args.positions.now
     c.loop-p.p-index c.p-item.result c.in_err-evaluate_one.field-0.0 c.loop-p-test.true c.p-item.is c.loop-p.invariant.told
     c.in_err-evaluate_one.ensures.first)
 

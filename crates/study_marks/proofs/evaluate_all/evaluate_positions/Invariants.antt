@@ -10,10 +10,10 @@ use Rattle.study_marks.proofs.evaluate_all.evaluate_positions.Given as goal
 -- the first positions are evaluated
 abbrev pub invariant-loop-p : goal.invariant-loop-p
 invariant-loop-p g l = record {
-  asked : IsAsked (g.V.Values.held l.fn.values) (g.V.Values.held l.values) (g.V.Values.asked_of l.fn.values)
-      (g.V.Values.asked_of l.values) (g.V.Values.failed_of l.fn.values) (g.V.Values.failed_of l.values)
-      (g.V.Values.is_honest l.fn.values) (g.V.Values.is_honest l.values) (take l.p-index l.positions) l.fn.all.items l.all.items;
-  told : WereTold g.V.Values.gives g.V.Values.may_fail g.V.Values.asked_of l.fn.values (asked_each (take l.p-index l.positions)) l.values;
-  fails : (c : Class) (f : SourceFault) → g.V.Values.may_fail l.values c f → g.V.Values.may_fail l.fn.values c f;
+  asked : IsAsked (g.V.Values.source.held l.fn.values) (g.V.Values.source.held l.values) (g.V.Values.source.asked_of l.fn.values)
+      (g.V.Values.source.asked_of l.values) (g.V.Values.source.failed_of l.fn.values) (g.V.Values.source.failed_of l.values)
+      (g.V.Values.source.is_honest l.fn.values) (g.V.Values.source.is_honest l.values) (take l.p-index l.positions) l.fn.all.items l.all.items;
+  told : WereTold g.V.Values.source l.fn.values (asked_each (take l.p-index l.positions)) l.values;
+  fails : (c : Class) (f : SourceFault) → g.V.Values.source.may_fail l.values c f → g.V.Values.source.may_fail l.fn.values c f;
   room : vec_len l.all + length l.positions ≤ vec_capacity l.all + l.p-index;
 }

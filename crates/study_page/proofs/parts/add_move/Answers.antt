@@ -49,7 +49,7 @@ returns-in-Some-Dual-clause-duals g c h =
 
 pub returns-in-Some-Dual-clause-asked : goal.returns-in-Some-Dual-clause-asked
 returns-in-Some-Dual-clause-asked g c =
-    asks-wider g.V.Values.held g.V.Values.gives g.V.Values.may_fail g.V.Values.asked_of g.V.Values.failed_of g.V.Values.is_honest (marked c.args.bench.now).start.position c.fill_made.new.made.before.position (leads-at (marked c.args.bench.now) (c.fill_made.ensures.made c.if-not-fill_made.false).front c.fill_made.new.made.before.position c.start-first.ensures.study.playable (c.fill_made.ensures.made c.if-not-fill_made.false).before.position)
+    asks-wider g.V.Values.source (marked c.args.bench.now).start.position c.fill_made.new.made.before.position (leads-at (marked c.args.bench.now) (c.fill_made.ensures.made c.if-not-fill_made.false).front c.fill_made.new.made.before.position c.start-first.ensures.study.playable (c.fill_made.ensures.made c.if-not-fill_made.false).before.position)
     c.args.values.now c.add_dual.new.values c.add_dual.result c.add_dual.ensures.asked
 
 pub returns-in_ok-put_listed_mistake-in-Some-Mistake-clause-faults : goal.returns-in_ok-put_listed_mistake-in-Some-Mistake-clause-faults

@@ -27,27 +27,27 @@ returns-clause-ends g c h =
 
 pub returns-in_err-add_zugzwang-clause-asked : goal.returns-in_err-add_zugzwang-clause-asked
 returns-in_err-add_zugzwang-clause-asked g c =
-    asks-then g.V.Values.held (within c.args.place.now.position g.V.Values.gives) g.V.Values.may_fail g.V.Values.asked_of g.V.Values.failed_of g.V.Values.is_honest
+    asks-then (within c.args.place.now.position g.V.Values.source)
     c.args.values.now c.add_try.new.values c.add_zugzwang.new.values c.from_residual-in_err-add_zugzwang.result c.in_ok-add_try.ensures.asked
-    (same-asks g.V.Values.held (within c.args.place.now.position g.V.Values.gives) g.V.Values.may_fail g.V.Values.asked_of g.V.Values.failed_of g.V.Values.is_honest
+    (same-asks (within c.args.place.now.position g.V.Values.source)
     c.add_try.new.values c.add_zugzwang.new.values c.from_residual-in_err-add_zugzwang.result c.in_err-add_zugzwang.field-0.0
     c.from_residual-in_err-add_zugzwang.ensures.1 c.in_err-add_zugzwang.ensures.asked)
 
 pub returns-in_err-add_defences-clause-asked : goal.returns-in_err-add_defences-clause-asked
 returns-in_err-add_defences-clause-asked g c =
-    let two = all-then g.V.Values.held (within c.args.place.now.position g.V.Values.gives) g.V.Values.may_fail g.V.Values.asked_of g.V.Values.failed_of g.V.Values.is_honest
+    let two = all-then (within c.args.place.now.position g.V.Values.source)
     c.args.values.now c.add_try.new.values c.add_zugzwang.new.values c.in_ok-add_try.ensures.asked c.in_ok-add_zugzwang.ensures.asked in
-    asks-then g.V.Values.held (within c.args.place.now.position g.V.Values.gives) g.V.Values.may_fail g.V.Values.asked_of g.V.Values.failed_of g.V.Values.is_honest
+    asks-then (within c.args.place.now.position g.V.Values.source)
     c.args.values.now c.add_zugzwang.new.values c.add_defences.new.values c.from_residual-in_err-add_defences.result two
-    (same-asks g.V.Values.held (within c.args.place.now.position g.V.Values.gives) g.V.Values.may_fail g.V.Values.asked_of g.V.Values.failed_of g.V.Values.is_honest
+    (same-asks (within c.args.place.now.position g.V.Values.source)
     c.add_zugzwang.new.values c.add_defences.new.values c.from_residual-in_err-add_defences.result c.in_err-add_defences.field-0.0
     c.from_residual-in_err-add_defences.ensures.1 c.in_err-add_defences.ensures.asked)
 
 pub returns-clause-asked : goal.returns-clause-asked
 returns-clause-asked g c =
-    let two = all-then g.V.Values.held (within c.args.place.now.position g.V.Values.gives) g.V.Values.may_fail g.V.Values.asked_of g.V.Values.failed_of g.V.Values.is_honest
+    let two = all-then (within c.args.place.now.position g.V.Values.source)
     c.args.values.now c.add_try.new.values c.add_zugzwang.new.values c.in_ok-add_try.ensures.asked c.in_ok-add_zugzwang.ensures.asked in
-    let three = all-then g.V.Values.held (within c.args.place.now.position g.V.Values.gives) g.V.Values.may_fail g.V.Values.asked_of g.V.Values.failed_of g.V.Values.is_honest
+    let three = all-then (within c.args.place.now.position g.V.Values.source)
     c.args.values.now c.add_zugzwang.new.values c.add_defences.new.values two c.in_ok-add_defences.ensures.asked in
-    asks-then g.V.Values.held (within c.args.place.now.position g.V.Values.gives) g.V.Values.may_fail g.V.Values.asked_of g.V.Values.failed_of g.V.Values.is_honest
+    asks-then (within c.args.place.now.position g.V.Values.source)
     c.args.values.now c.add_defences.new.values c.add_end.new.values c.add_end.result three c.add_end.ensures.asked

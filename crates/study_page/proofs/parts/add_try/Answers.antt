@@ -9,26 +9,26 @@ use Rattle.study_page.proofs.parts.add_try.Goals as goal
 
 pub returns-in-Err-clause-asked : goal.returns-in-Err-clause-asked
 returns-in-Err-clause-asked g c =
-    of-fault g.V.Values.held (within c.args.place.now.position g.V.Values.gives) g.V.Values.may_fail g.V.Values.asked_of g.V.Values.failed_of g.V.Values.is_honest (Unit {0})
+    of-fault (within c.args.place.now.position g.V.Values.source) (Unit {0})
     c.args.values.now c.refutations.new.values c.in-Err.fault
-    (some-fault g.V.Values.may_fail g.V.Values.asked_of g.V.Values.gives c.args.place.now.position (g.V.Values.held c.args.values.now) c.args.values.now c.refutations.new.values
+    (some-fault g.V.Values.source c.args.place.now.position (g.V.Values.source.held c.args.values.now) c.args.values.now c.refutations.new.values
     (map (after c.args.place.now.position) (legal_list c.args.place.now.position)) c.in-Err.fault (each-legal c.args.place.now.position) c.in-Err.ensures.untold c.in-Err.ensures.first)
-    (λ k e. untold-of (g.V.Values.held c.args.values.now) (map (after c.args.place.now.position) (legal_list c.args.place.now.position))
+    (λ k e. untold-of (g.V.Values.source.held c.args.values.now) (map (after c.args.place.now.position) (legal_list c.args.place.now.position))
     c.in-Err.fault k c.in-Err.ensures.untold e)
     c.in-Err.ensures.no_damage c.in-Err.ensures.failures c.refutations.ensures.honest c.refutations.ensures.tables
 
 pub returns-in_err-put_try_at-in-Ok-clause-asked : goal.returns-in_err-put_try_at-in-Ok-clause-asked
 returns-in_err-put_try_at-in-Ok-clause-asked g c =
-    no-memory g.V.Values.held (within c.args.place.now.position g.V.Values.gives) g.V.Values.may_fail g.V.Values.asked_of g.V.Values.failed_of g.V.Values.is_honest
+    no-memory (within c.args.place.now.position g.V.Values.source)
     c.args.values.now c.refutations.new.values c.from_residual.result c.from_residual.ensures.1
-    (of-told g.V.Values.held (within c.args.place.now.position g.V.Values.gives) g.V.Values.may_fail g.V.Values.asked_of g.V.Values.failed_of g.V.Values.is_honest
+    (of-told (within c.args.place.now.position g.V.Values.source)
     c.args.values.now c.refutations.new.values
-    (some-told g.V.Values.may_fail g.V.Values.asked_of g.V.Values.gives c.args.place.now.position c.args.values.now c.refutations.new.values (map (after c.args.place.now.position) (legal_list c.args.place.now.position)) (each-legal c.args.place.now.position) c.in-Ok.ensures.told)
+    (some-told g.V.Values.source c.args.place.now.position c.args.values.now c.refutations.new.values (map (after c.args.place.now.position) (legal_list c.args.place.now.position)) (each-legal c.args.place.now.position) c.in-Ok.ensures.told)
     c.in-Ok.ensures.failures c.refutations.ensures.honest c.refutations.ensures.tables)
 
 pub returns-in_ok-put_try_at-in-Ok-clause-asked : goal.returns-in_ok-put_try_at-in-Ok-clause-asked
 returns-in_ok-put_try_at-in-Ok-clause-asked g c =
-    of-told g.V.Values.held (within c.args.place.now.position g.V.Values.gives) g.V.Values.may_fail g.V.Values.asked_of g.V.Values.failed_of g.V.Values.is_honest
+    of-told (within c.args.place.now.position g.V.Values.source)
     c.args.values.now c.refutations.new.values
-    (some-told g.V.Values.may_fail g.V.Values.asked_of g.V.Values.gives c.args.place.now.position c.args.values.now c.refutations.new.values (map (after c.args.place.now.position) (legal_list c.args.place.now.position)) (each-legal c.args.place.now.position) c.in-Ok.ensures.told)
+    (some-told g.V.Values.source c.args.place.now.position c.args.values.now c.refutations.new.values (map (after c.args.place.now.position) (legal_list c.args.place.now.position)) (each-legal c.args.place.now.position) c.in-Ok.ensures.told)
     c.in-Ok.ensures.failures c.refutations.ensures.honest c.refutations.ensures.tables

@@ -11,12 +11,12 @@ returns-in_ok-put_zugzwang_at-in-Ok-clause-text g c h =
 
 pub returns-in_err-put_zugzwang_at-in-Ok-clause-asked : goal.returns-in_err-put_zugzwang_at-in-Ok-clause-asked
 returns-in_err-put_zugzwang_at-in-Ok-clause-asked g c =
-    no-memory g.V.Values.held (within c.args.place.now.position g.V.Values.gives) g.V.Values.may_fail g.V.Values.asked_of g.V.Values.failed_of g.V.Values.is_honest
+    no-memory (within c.args.place.now.position g.V.Values.source)
     c.args.values.now c.zugzwang_at.new.values c.from_residual.result c.from_residual.ensures.1
-    (of-told g.V.Values.held (within c.args.place.now.position g.V.Values.gives) g.V.Values.may_fail g.V.Values.asked_of g.V.Values.failed_of g.V.Values.is_honest
+    (of-told (within c.args.place.now.position g.V.Values.source)
     c.args.values.now c.zugzwang_at.new.values c.in-Ok.ensures.told c.in-Ok.ensures.failures c.zugzwang_at.ensures.honest c.zugzwang_at.ensures.tables)
 
 pub returns-in_ok-put_zugzwang_at-in-Ok-clause-asked : goal.returns-in_ok-put_zugzwang_at-in-Ok-clause-asked
 returns-in_ok-put_zugzwang_at-in-Ok-clause-asked g c =
-    of-told g.V.Values.held (within c.args.place.now.position g.V.Values.gives) g.V.Values.may_fail g.V.Values.asked_of g.V.Values.failed_of g.V.Values.is_honest
+    of-told (within c.args.place.now.position g.V.Values.source)
     c.args.values.now c.zugzwang_at.new.values c.in-Ok.ensures.told c.in-Ok.ensures.failures c.zugzwang_at.ensures.honest c.zugzwang_at.ensures.tables

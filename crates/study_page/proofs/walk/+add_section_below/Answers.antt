@@ -84,7 +84,7 @@ loop-place-preserved g t c =
           (c.loop-place.invariant.time h);
       back = popped steps c.add_section_below.new.steps.items c.pop.new.self.items k (vec_len c.add_section_below.new.steps)
           (c.in_ok-add_section_below.ensures.path ∙ path) (omega (arith, c.add_section_below.new.steps.ok.0)) c.pop.ensures.rest;
-      told = all-then g.V.Values.held (within (marked c.args.bench.now).start.position g.V.Values.gives) g.V.Values.may_fail g.V.Values.asked_of g.V.Values.failed_of g.V.Values.is_honest
+      told = all-then (within (marked c.args.bench.now).start.position g.V.Values.source)
           c.args.values.now c.loop-place.values c.add_section_below.new.values c.loop-place.invariant.told c.in_ok-add_section_below.ensures.asked;
     }
 
@@ -160,8 +160,8 @@ returns-clause-time g t c h =
 
 pub returns-in_err-add_section_below-clause-asked : goal.returns-in_err-add_section_below-clause-asked
 returns-in_err-add_section_below-clause-asked g t c =
-    asks-then g.V.Values.held (within (marked c.args.bench.now).start.position g.V.Values.gives) g.V.Values.may_fail g.V.Values.asked_of g.V.Values.failed_of g.V.Values.is_honest
+    asks-then (within (marked c.args.bench.now).start.position g.V.Values.source)
     c.args.values.now c.loop-place.values c.add_section_below.new.values c.from_residual-in_err-add_section_below.result c.loop-place.invariant.told
-    (same-asks g.V.Values.held (within (marked c.args.bench.now).start.position g.V.Values.gives) g.V.Values.may_fail g.V.Values.asked_of g.V.Values.failed_of g.V.Values.is_honest
+    (same-asks (within (marked c.args.bench.now).start.position g.V.Values.source)
     c.loop-place.values c.add_section_below.new.values c.from_residual-in_err-add_section_below.result c.in_err-add_section_below.field-0.0
     c.from_residual-in_err-add_section_below.ensures.1 c.in_err-add_section_below.ensures.asked)

@@ -16,21 +16,21 @@ decreases-add_section_below g l = nodes_in (below_at (marked l.bench.now).tree.b
 -- what is written, and any lines of the nodes that are left, are lines of all
 abbrev pub invariant-loop-place : goal.invariant-loop-place
 invariant-loop-place g l = record {
-  faults : g.V.Values.is_honest l.fn.values → GoesOn (FaultItems (marked l.bench)) l.fn.steps.items
+  faults : g.V.Values.source.is_honest l.fn.values → GoesOn (FaultItems (marked l.bench)) l.fn.steps.items
       (below_at (marked l.bench).tree.below l.fn.steps.items) l.place l.initial.parts.faults l.parts.faults;
-  duals : g.V.Values.is_honest l.fn.values → GoesOn (Cards (marked l.bench)) l.fn.steps.items
+  duals : g.V.Values.source.is_honest l.fn.values → GoesOn (Cards (marked l.bench)) l.fn.steps.items
       (below_at (marked l.bench).tree.below l.fn.steps.items) l.place l.initial.parts.duals l.parts.duals;
-  tries : g.V.Values.is_honest l.fn.values → GoesOn (TryRows (marked l.bench)) l.fn.steps.items
+  tries : g.V.Values.source.is_honest l.fn.values → GoesOn (TryRows (marked l.bench)) l.fn.steps.items
       (below_at (marked l.bench).tree.below l.fn.steps.items) l.place l.initial.parts.tries l.parts.tries;
-  zugzwangs : g.V.Values.is_honest l.fn.values → GoesOn (ZugzwangRows (marked l.bench)) l.fn.steps.items
+  zugzwangs : g.V.Values.source.is_honest l.fn.values → GoesOn (ZugzwangRows (marked l.bench)) l.fn.steps.items
       (below_at (marked l.bench).tree.below l.fn.steps.items) l.place l.initial.parts.zugzwangs l.parts.zugzwangs;
-  defences : g.V.Values.is_honest l.fn.values → GoesOn (DefenceRows (marked l.bench)) l.fn.steps.items
+  defences : g.V.Values.source.is_honest l.fn.values → GoesOn (DefenceRows (marked l.bench)) l.fn.steps.items
       (below_at (marked l.bench).tree.below l.fn.steps.items) l.place l.initial.parts.defences l.parts.defences;
-  ends : g.V.Values.is_honest l.fn.values → GoesOn (EndRows (marked l.bench)) l.fn.steps.items
+  ends : g.V.Values.source.is_honest l.fn.values → GoesOn (EndRows (marked l.bench)) l.fn.steps.items
       (below_at (marked l.bench).tree.below l.fn.steps.items) l.place l.initial.parts.ends l.parts.ends;
-  time : g.V.Values.is_honest l.fn.values → SumGoesOn (IsTimeFault (marked l.bench)) l.fn.steps.items
+  time : g.V.Values.source.is_honest l.fn.values → SumGoesOn (IsTimeFault (marked l.bench)) l.fn.steps.items
       (below_at (marked l.bench).tree.below l.fn.steps.items) l.place l.initial.parts.time_faults l.parts.time_faults;
   back : l.steps.items ≡ l.fn.steps.items;
-  told : AllTold g.V.Values.held (within (marked l.bench).start.position g.V.Values.gives) g.V.Values.may_fail g.V.Values.asked_of g.V.Values.failed_of g.V.Values.is_honest
+  told : AllTold (within (marked l.bench).start.position g.V.Values.source)
       l.fn.values l.values;
 }

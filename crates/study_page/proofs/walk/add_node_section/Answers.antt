@@ -59,5 +59,5 @@ returns-clause-ends g c h =
 
 pub returns-clause-asked : goal.returns-clause-asked
 returns-clause-asked g c =
-    asks-then g.V.Values.held (within (marked c.args.bench.now).start.position g.V.Values.gives) g.V.Values.may_fail g.V.Values.asked_of g.V.Values.failed_of g.V.Values.is_honest
+    asks-then (within (marked c.args.bench.now).start.position g.V.Values.source)
     c.args.values.now c.add_move.new.values c.add_there.new.values c.add_there.result c.in_ok-add_move.ensures.asked c.add_there.ensures.asked

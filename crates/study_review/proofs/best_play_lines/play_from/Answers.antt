@@ -10,12 +10,12 @@ returns-in-Ok-clause-game g c all h =
 
 pub returns-in-Err-clause-asked : goal.returns-in-Err-clause-asked
 returns-in-Err-clause-asked g c =
-    stops-wider g.V.Values.held g.V.Values.gives g.V.Values.may_fail g.V.Values.asked_of g.V.Values.failed_of g.V.Values.is_honest
+    stops-wider g.V.Values.source
     c.args.p.now c.played-next.result (leads-to c.args.p.now c.played-next.result c.in-Some.best.played (c.in-Some.ensures.legal) c.played-next.ensures.value)
     c.args.values.now c.play_on.new.values c.in-Err.fault (search rules)
 
 pub returns-in-Ok-clause-asked : goal.returns-in-Ok-clause-asked
 returns-in-Ok-clause-asked g c =
-    all-wider g.V.Values.held g.V.Values.gives g.V.Values.may_fail g.V.Values.asked_of g.V.Values.failed_of g.V.Values.is_honest
+    all-wider g.V.Values.source
     c.args.p.now c.played-next.result (leads-to c.args.p.now c.played-next.result c.in-Some.best.played (c.in-Some.ensures.legal) c.played-next.ensures.value)
     c.args.values.now c.play_on.new.values (search rules)

@@ -22,6 +22,6 @@ returns-in_ok-add_defence-in-Some-clause-text g t c h =
 
 pub returns-in_ok-add_defence-in-Some-clause-asked : goal.returns-in_ok-add_defence-in-Some-clause-asked
 returns-in_ok-add_defence-in-Some-clause-asked g t c =
-    asks-then g.V.Values.held (within c.args.node.now.position.now g.V.Values.gives) g.V.Values.may_fail g.V.Values.asked_of g.V.Values.failed_of g.V.Values.is_honest
+    asks-then (within c.args.node.now.position.now g.V.Values.source)
     c.args.values.now c.add_defence.new.values c.add_defences-in-Some.new.values c.add_defences-in-Some.result
     c.in_ok-add_defence-in-Some.ensures.asked c.add_defences-in-Some.ensures.asked

@@ -9,10 +9,10 @@ use Rattle.study_review.proofs.defence_lines.+answers_among.Goals as goal
 
 pub returns-in_err-later-in-Some-clause-asked : goal.returns-in_err-later-in-Some-clause-asked
 returns-in_err-later-in-Some-clause-asked g t c =
-    asks-then g.V.Values.held (within c.args.node.now.position.now g.V.Values.gives) g.V.Values.may_fail g.V.Values.asked_of g.V.Values.failed_of g.V.Values.is_honest
+    asks-then (within c.args.node.now.position.now g.V.Values.source)
     c.args.values.now c.value_of.new.values c.answers_among.new.values c.from_residual-in_err-later-in-Some.result
-    (all-wider g.V.Values.held g.V.Values.gives g.V.Values.may_fail g.V.Values.asked_of g.V.Values.failed_of g.V.Values.is_honest c.args.node.now.position.now c.played-next.result (leads-first c.args.node.now.position.now c.played-next.result c.in-Some.m.now c.args.moves.now c.in-Some.rest.now c.in-Some.ensures.cases.0 c.requires.legal c.played-next.ensures.value) c.args.values.now c.value_of.new.values c.in_ok-value-in-Some.ensures.asked)
-    (same-asks g.V.Values.held (within c.args.node.now.position.now g.V.Values.gives) g.V.Values.may_fail g.V.Values.asked_of g.V.Values.failed_of g.V.Values.is_honest
+    (all-wider g.V.Values.source c.args.node.now.position.now c.played-next.result (leads-first c.args.node.now.position.now c.played-next.result c.in-Some.m.now c.args.moves.now c.in-Some.rest.now c.in-Some.ensures.cases.0 c.requires.legal c.played-next.ensures.value) c.args.values.now c.value_of.new.values c.in_ok-value-in-Some.ensures.asked)
+    (same-asks (within c.args.node.now.position.now g.V.Values.source)
     c.value_of.new.values c.answers_among.new.values c.from_residual-in_err-later-in-Some.result c.in_err-later-in-Some.field-0.0 c.from_residual-in_err-later-in-Some.ensures.1
     c.in_err-later-in-Some.ensures.asked)
 
@@ -26,9 +26,9 @@ returns-then-holds-clause-game g t c h =
 
 pub returns-then-holds-clause-asked : goal.returns-then-holds-clause-asked
 returns-then-holds-clause-asked g t c =
-    all-then g.V.Values.held (within c.args.node.now.position.now g.V.Values.gives) g.V.Values.may_fail g.V.Values.asked_of g.V.Values.failed_of g.V.Values.is_honest
+    all-then (within c.args.node.now.position.now g.V.Values.source)
     c.args.values.now c.value_of.new.values c.answers_among.new.values
-    (all-wider g.V.Values.held g.V.Values.gives g.V.Values.may_fail g.V.Values.asked_of g.V.Values.failed_of g.V.Values.is_honest c.args.node.now.position.now c.played-next.result (leads-first c.args.node.now.position.now c.played-next.result c.in-Some.m.now c.args.moves.now c.in-Some.rest.now c.in-Some.ensures.cases.0 c.requires.legal c.played-next.ensures.value) c.args.values.now c.value_of.new.values c.in_ok-value-in-Some.ensures.asked) c.in_ok-later-in-Some.ensures.asked
+    (all-wider g.V.Values.source c.args.node.now.position.now c.played-next.result (leads-first c.args.node.now.position.now c.played-next.result c.in-Some.m.now c.args.moves.now c.in-Some.rest.now c.in-Some.ensures.cases.0 c.requires.legal c.played-next.ensures.value) c.args.values.now c.value_of.new.values c.in_ok-value-in-Some.ensures.asked) c.in_ok-later-in-Some.ensures.asked
 
 pub returns-else-holds-clause-game : goal.returns-else-holds-clause-game
 returns-else-holds-clause-game g t c h =
@@ -40,11 +40,11 @@ returns-else-holds-clause-game g t c h =
 
 pub returns-else-holds-clause-asked : goal.returns-else-holds-clause-asked
 returns-else-holds-clause-asked g t c =
-    all-then g.V.Values.held (within c.args.node.now.position.now g.V.Values.gives) g.V.Values.may_fail g.V.Values.asked_of g.V.Values.failed_of g.V.Values.is_honest
+    all-then (within c.args.node.now.position.now g.V.Values.source)
     c.args.values.now c.value_of.new.values c.answers_among.new.values
-    (all-wider g.V.Values.held g.V.Values.gives g.V.Values.may_fail g.V.Values.asked_of g.V.Values.failed_of g.V.Values.is_honest c.args.node.now.position.now c.played-next.result (leads-first c.args.node.now.position.now c.played-next.result c.in-Some.m.now c.args.moves.now c.in-Some.rest.now c.in-Some.ensures.cases.0 c.requires.legal c.played-next.ensures.value) c.args.values.now c.value_of.new.values c.in_ok-value-in-Some.ensures.asked) c.in_ok-later-in-Some.ensures.asked
+    (all-wider g.V.Values.source c.args.node.now.position.now c.played-next.result (leads-first c.args.node.now.position.now c.played-next.result c.in-Some.m.now c.args.moves.now c.in-Some.rest.now c.in-Some.ensures.cases.0 c.requires.legal c.played-next.ensures.value) c.args.values.now c.value_of.new.values c.in_ok-value-in-Some.ensures.asked) c.in_ok-later-in-Some.ensures.asked
 
 pub returns-in_err-value-in-Some-clause-asked : goal.returns-in_err-value-in-Some-clause-asked
 returns-in_err-value-in-Some-clause-asked g t c =
-    asks-wider g.V.Values.held g.V.Values.gives g.V.Values.may_fail g.V.Values.asked_of g.V.Values.failed_of g.V.Values.is_honest c.args.node.now.position.now c.played-next.result (leads-first c.args.node.now.position.now c.played-next.result c.in-Some.m.now c.args.moves.now c.in-Some.rest.now c.in-Some.ensures.cases.0 c.requires.legal c.played-next.ensures.value)
+    asks-wider g.V.Values.source c.args.node.now.position.now c.played-next.result (leads-first c.args.node.now.position.now c.played-next.result c.in-Some.m.now c.args.moves.now c.in-Some.rest.now c.in-Some.ensures.cases.0 c.requires.legal c.played-next.ensures.value)
     c.args.values.now c.value_of.new.values _ (search rules)

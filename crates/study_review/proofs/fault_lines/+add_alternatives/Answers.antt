@@ -5,10 +5,10 @@ use Rattle.study_review.proofs.fault_lines.+add_alternatives.Goals as goal
 
 pub returns-in_err-later-in-Some-clause-asked : goal.returns-in_err-later-in-Some-clause-asked
 returns-in_err-later-in-Some-clause-asked g t c =
-    asks-then g.V.Values.held (within c.args.step.now.before.position.now g.V.Values.gives) g.V.Values.may_fail g.V.Values.asked_of g.V.Values.failed_of g.V.Values.is_honest
+    asks-then (within c.args.step.now.before.position.now g.V.Values.source)
     c.args.values.now c.add_alternative.new.values c.add_alternatives.new.values c.from_residual-in_err-later-in-Some.result
     c.in_ok-here-in-Some.ensures.asked
-    (same-asks g.V.Values.held (within c.args.step.now.before.position.now g.V.Values.gives) g.V.Values.may_fail g.V.Values.asked_of g.V.Values.failed_of g.V.Values.is_honest
+    (same-asks (within c.args.step.now.before.position.now g.V.Values.source)
     c.add_alternative.new.values c.add_alternatives.new.values c.from_residual-in_err-later-in-Some.result c.in_err-later-in-Some.field-0.0 c.from_residual-in_err-later-in-Some.ensures.1
     c.in_err-later-in-Some.ensures.asked)
 
@@ -25,6 +25,6 @@ returns-in_ok-later-in-Some-clause-text g t c h =
 
 pub returns-in_ok-later-in-Some-clause-asked : goal.returns-in_ok-later-in-Some-clause-asked
 returns-in_ok-later-in-Some-clause-asked g t c =
-    all-then g.V.Values.held (within c.args.step.now.before.position.now g.V.Values.gives) g.V.Values.may_fail g.V.Values.asked_of g.V.Values.failed_of g.V.Values.is_honest
+    all-then (within c.args.step.now.before.position.now g.V.Values.source)
     c.args.values.now c.add_alternative.new.values c.add_alternatives.new.values c.in_ok-here-in-Some.ensures.asked
     c.in_ok-later-in-Some.ensures.asked

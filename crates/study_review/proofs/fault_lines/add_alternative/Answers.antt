@@ -24,24 +24,24 @@ returns-else-is_some-clause-text g c h =
 
 pub returns-in_err-add_also_line-in-Ok-clause-asked : goal.returns-in_err-add_also_line-in-Ok-clause-asked
 returns-in_err-add_also_line-in-Ok-clause-asked g c =
-    asks-wider g.V.Values.held g.V.Values.gives g.V.Values.may_fail g.V.Values.asked_of g.V.Values.failed_of g.V.Values.is_honest
+    asks-wider g.V.Values.source
     c.args.step.now.before.position.now c.played-next.result (leads-to c.args.step.now.before.position.now c.played-next.result c.args.x.now.played c.requires.legal c.played-next.ensures.value)
     c.args.values.now c.waste_of_time_for_goal.new.values _ (search rules)
 
 pub returns-in-Err-clause-asked : goal.returns-in-Err-clause-asked
 returns-in-Err-clause-asked g c =
-    stops-wider g.V.Values.held g.V.Values.gives g.V.Values.may_fail g.V.Values.asked_of g.V.Values.failed_of g.V.Values.is_honest
+    stops-wider g.V.Values.source
     c.args.step.now.before.position.now c.played-next.result (leads-to c.args.step.now.before.position.now c.played-next.result c.args.x.now.played c.requires.legal c.played-next.ensures.value)
     c.args.values.now c.waste_of_time_for_goal.new.values c.in-Err.fault (search rules)
 
 pub returns-then-is_some-clause-asked : goal.returns-then-is_some-clause-asked
 returns-then-is_some-clause-asked g c =
-    all-wider g.V.Values.held g.V.Values.gives g.V.Values.may_fail g.V.Values.asked_of g.V.Values.failed_of g.V.Values.is_honest
+    all-wider g.V.Values.source
     c.args.step.now.before.position.now c.played-next.result (leads-to c.args.step.now.before.position.now c.played-next.result c.args.x.now.played c.requires.legal c.played-next.ensures.value)
     c.args.values.now c.waste_of_time_for_goal.new.values (search rules)
 
 pub returns-else-is_some-clause-asked : goal.returns-else-is_some-clause-asked
 returns-else-is_some-clause-asked g c =
-    all-wider g.V.Values.held g.V.Values.gives g.V.Values.may_fail g.V.Values.asked_of g.V.Values.failed_of g.V.Values.is_honest
+    all-wider g.V.Values.source
     c.args.step.now.before.position.now c.played-next.result (leads-to c.args.step.now.before.position.now c.played-next.result c.args.x.now.played c.requires.legal c.played-next.ensures.value)
     c.args.values.now c.waste_of_time_for_goal.new.values (search rules)

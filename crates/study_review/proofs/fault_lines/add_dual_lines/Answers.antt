@@ -14,18 +14,18 @@ add_alternatives-requires-clause-few g c = omega (arith, c.in_ok-evaluate_legal_
 
 pub returns-in_err-time-clause-asked : goal.returns-in_err-time-clause-asked
 returns-in_err-time-clause-asked g c =
-    asks-then g.V.Values.held (within c.args.step.now.before.position.now g.V.Values.gives) g.V.Values.may_fail g.V.Values.asked_of g.V.Values.failed_of g.V.Values.is_honest
+    asks-then (within c.args.step.now.before.position.now g.V.Values.source)
     c.args.values.now c.evaluate_legal_moves.new.values c.add_alternatives.new.values c.from_residual-in_err-time.result
     c.in_ok-evaluate_legal_moves.ensures.asked
-    (same-asks g.V.Values.held (within c.args.step.now.before.position.now g.V.Values.gives) g.V.Values.may_fail g.V.Values.asked_of g.V.Values.failed_of g.V.Values.is_honest
+    (same-asks (within c.args.step.now.before.position.now g.V.Values.source)
     c.evaluate_legal_moves.new.values c.add_alternatives.new.values c.from_residual-in_err-time.result c.in_err-time.field-0.0 c.from_residual-in_err-time.ensures.1
     c.in_err-time.ensures.asked)
 
 pub returns-in_err-add_listed_dual-clause-asked : goal.returns-in_err-add_listed_dual-clause-asked
 returns-in_err-add_listed_dual-clause-asked g c =
-    no-memory g.V.Values.held (within c.args.step.now.before.position.now g.V.Values.gives) g.V.Values.may_fail g.V.Values.asked_of g.V.Values.failed_of g.V.Values.is_honest
+    no-memory (within c.args.step.now.before.position.now g.V.Values.source)
     c.args.values.now c.add_alternatives.new.values c.from_residual-in_err-add_listed_dual.result c.from_residual-in_err-add_listed_dual.ensures.1
-    (all-then g.V.Values.held (within c.args.step.now.before.position.now g.V.Values.gives) g.V.Values.may_fail g.V.Values.asked_of g.V.Values.failed_of g.V.Values.is_honest
+    (all-then (within c.args.step.now.before.position.now g.V.Values.source)
     c.args.values.now c.evaluate_legal_moves.new.values c.add_alternatives.new.values c.in_ok-evaluate_legal_moves.ensures.asked c.in_ok-time.ensures.asked)
 
 pub returns-clause-also : goal.returns-clause-also
@@ -46,7 +46,7 @@ returns-clause-fault g c h =
 
 pub returns-clause-asked : goal.returns-clause-asked
 returns-clause-asked g c =
-    all-then g.V.Values.held (within c.args.step.now.before.position.now g.V.Values.gives) g.V.Values.may_fail g.V.Values.asked_of g.V.Values.failed_of g.V.Values.is_honest
+    all-then (within c.args.step.now.before.position.now g.V.Values.source)
     c.args.values.now c.evaluate_legal_moves.new.values c.add_alternatives.new.values c.in_ok-evaluate_legal_moves.ensures.asked c.in_ok-time.ensures.asked
 
 pub count_alternatives-requires-clause-few : goal.count_alternatives-requires-clause-few

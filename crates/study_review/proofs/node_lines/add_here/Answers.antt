@@ -13,5 +13,5 @@ returns-clause-text g c h =
 
 pub returns-clause-asked : goal.returns-clause-asked
 returns-clause-asked g c =
-    asks-then g.V.Values.held (within c.args.here.now.node.position.now g.V.Values.gives) g.V.Values.may_fail g.V.Values.asked_of g.V.Values.failed_of g.V.Values.is_honest
+    asks-then (within c.args.here.now.node.position.now g.V.Values.source)
     c.args.values.now c.add_node_lines.new.values c.add_zugzwang.new.values c.add_zugzwang.result c.in_ok-add_node_lines.ensures.asked c.add_zugzwang.ensures.asked

@@ -17,5 +17,5 @@ add_told-requires-clause-few g c = omega (arith, c.in_ok-evaluate_legal_moves.en
 
 pub returns-clause-asked : goal.returns-clause-asked
 returns-clause-asked g c =
-    asks-then g.V.Values.held (within c.args.here.now.node.position.now g.V.Values.gives) g.V.Values.may_fail g.V.Values.asked_of g.V.Values.failed_of g.V.Values.is_honest
+    asks-then (within c.args.here.now.node.position.now g.V.Values.source)
     c.args.values.now c.evaluate_legal_moves.new.values c.add_told.new.values c.add_told.result c.in_ok-evaluate_legal_moves.ensures.asked c.add_told.ensures.asked

@@ -31,5 +31,5 @@ returns-in_ok-push_evaluated-in-Some-clause-game g t c h =
 
 pub returns-in_ok-push_evaluated-in-Some-clause-asked : goal.returns-in_ok-push_evaluated-in-Some-clause-asked
 returns-in_ok-push_evaluated-in-Some-clause-asked g t c =
-    asks-then g.V.Values.held (within c.args.p.now g.V.Values.gives) g.V.Values.may_fail g.V.Values.asked_of g.V.Values.failed_of g.V.Values.is_honest
+    asks-then (within c.args.p.now g.V.Values.source)
     c.args.values.now c.push_evaluated.new.values c.evaluate_moves.new.values c.evaluate_moves.result c.in_ok-push_evaluated-in-Some.ensures.asked c.evaluate_moves.ensures.asked

@@ -29,9 +29,9 @@ descend-requires-clause-there g t c =
 
 pub returns-in_err-descend-clause-asked : goal.returns-in_err-descend-clause-asked
 returns-in_err-descend-clause-asked g t c =
-    asks-then g.V.Values.held (within (marked c.args.bench.now).start.position g.V.Values.gives) g.V.Values.may_fail g.V.Values.asked_of g.V.Values.failed_of g.V.Values.is_honest
+    asks-then (within (marked c.args.bench.now).start.position g.V.Values.source)
     c.args.values.now c.loop-place.values c.descend.new.values c.from_residual.result c.loop-place.invariant.told
-    (same-asks g.V.Values.held (within (marked c.args.bench.now).start.position g.V.Values.gives) g.V.Values.may_fail g.V.Values.asked_of g.V.Values.failed_of g.V.Values.is_honest
+    (same-asks (within (marked c.args.bench.now).start.position g.V.Values.source)
     c.loop-place.values c.descend.new.values c.from_residual.result c.in_err-descend.field-0.0 c.from_residual.ensures.1 c.in_err-descend.ensures.asked)
 
 pub add_below-requires : goal.add_below-requires
@@ -48,11 +48,11 @@ add_below-requires g t c κs within =
 
 pub returns-in_err-add_below-clause-asked : goal.returns-in_err-add_below-clause-asked
 returns-in_err-add_below-clause-asked g t c =
-    asks-then g.V.Values.held (within (marked c.args.bench.now).start.position g.V.Values.gives) g.V.Values.may_fail g.V.Values.asked_of g.V.Values.failed_of g.V.Values.is_honest
+    asks-then (within (marked c.args.bench.now).start.position g.V.Values.source)
     c.args.values.now c.descend.new.values c.add_below.new.values c.from_residual-in_err-add_below.result
-    (all-then g.V.Values.held (within (marked c.args.bench.now).start.position g.V.Values.gives) g.V.Values.may_fail g.V.Values.asked_of g.V.Values.failed_of g.V.Values.is_honest
+    (all-then (within (marked c.args.bench.now).start.position g.V.Values.source)
     c.args.values.now c.loop-place.values c.descend.new.values c.loop-place.invariant.told c.in_ok-descend.ensures.asked)
-    (same-asks g.V.Values.held (within (marked c.args.bench.now).start.position g.V.Values.gives) g.V.Values.may_fail g.V.Values.asked_of g.V.Values.failed_of g.V.Values.is_honest
+    (same-asks (within (marked c.args.bench.now).start.position g.V.Values.source)
     c.descend.new.values c.add_below.new.values c.from_residual-in_err-add_below.result c.in_err-add_below.field-0.0
     c.from_residual-in_err-add_below.ensures.1 c.in_err-add_below.ensures.asked)
 
@@ -91,9 +91,9 @@ loop-place-preserved g t c =
       stands = taken-off c.args.trail.now.stands.items c.add_below.new.trail.stands.items c.leave.new.trail.stands.items c.in_ok-descend.ensures.stands.0 (vec_len c.add_below.new.trail.stands)
           (c.in_ok-add_below.ensures.stands ∙ c.in_ok-descend.ensures.stands.2 ∙ ap (λ (l : List WalkState). l ++ c.in_ok-descend.ensures.stands.0 ∷ []) c.loop-place.invariant.stands)
           (omega (arith, c.add_below.new.trail.stands.ok.0)) c.leave.ensures.stands;
-      told = all-then g.V.Values.held (within (marked c.args.bench.now).start.position g.V.Values.gives) g.V.Values.may_fail g.V.Values.asked_of g.V.Values.failed_of g.V.Values.is_honest
+      told = all-then (within (marked c.args.bench.now).start.position g.V.Values.source)
           c.args.values.now c.descend.new.values c.add_below.new.values
-          (all-then g.V.Values.held (within (marked c.args.bench.now).start.position g.V.Values.gives) g.V.Values.may_fail g.V.Values.asked_of g.V.Values.failed_of g.V.Values.is_honest
+          (all-then (within (marked c.args.bench.now).start.position g.V.Values.source)
           c.args.values.now c.loop-place.values c.descend.new.values c.loop-place.invariant.told c.in_ok-descend.ensures.asked) c.in_ok-add_below.ensures.asked;
     }
 

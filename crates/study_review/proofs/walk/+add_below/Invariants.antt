@@ -16,15 +16,15 @@ decreases-add_below g l = nodes_in (below_at (marked l.bench.now).tree.below l.t
 -- the text so far, and any lines of the remaining nodes, are lines of all
 abbrev pub invariant-loop-place : goal.invariant-loop-place
 invariant-loop-place g l = record {
-  faults : g.V.Values.is_honest l.fn.values → GoesOn (FaultLines (marked l.bench)) l.fn.trail.steps.items
+  faults : g.V.Values.source.is_honest l.fn.values → GoesOn (FaultLines (marked l.bench)) l.fn.trail.steps.items
       (below_at (marked l.bench).tree.below l.fn.trail.steps.items) l.place l.fn.draft.faults l.draft.faults;
-  nodes : g.V.Values.is_honest l.fn.values → GoesOn (NodeLines (marked l.bench)) l.fn.trail.steps.items
+  nodes : g.V.Values.source.is_honest l.fn.values → GoesOn (NodeLines (marked l.bench)) l.fn.trail.steps.items
       (below_at (marked l.bench).tree.below l.fn.trail.steps.items) l.place l.fn.draft.nodes l.draft.nodes;
-  time : g.V.Values.is_honest l.fn.values → SumGoesOn (IsTimeFault (marked l.bench)) l.fn.trail.steps.items
+  time : g.V.Values.source.is_honest l.fn.values → SumGoesOn (IsTimeFault (marked l.bench)) l.fn.trail.steps.items
       (below_at (marked l.bench).tree.below l.fn.trail.steps.items) l.place l.fn.draft.time_faults l.draft.time_faults;
   steps : l.trail.steps.items ≡ l.fn.trail.steps.items;
   line : l.trail.line.items ≡ l.fn.trail.line.items;
   stands : l.trail.stands.items ≡ l.fn.trail.stands.items;
-  told : AllTold g.V.Values.held (within (marked l.bench).start.position g.V.Values.gives) g.V.Values.may_fail g.V.Values.asked_of g.V.Values.failed_of g.V.Values.is_honest
+  told : AllTold (within (marked l.bench).start.position g.V.Values.source)
       l.fn.values l.values;
 }

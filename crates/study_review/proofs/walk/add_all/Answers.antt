@@ -13,15 +13,15 @@ add_below-requires-clause-stands g c =
 
 pub returns-in_err-add_below-clause-asked : goal.returns-in_err-add_below-clause-asked
 returns-in_err-add_below-clause-asked g c =
-    asks-then g.V.Values.held (within (marked c.args.bench.now).start.position g.V.Values.gives) g.V.Values.may_fail g.V.Values.asked_of g.V.Values.failed_of g.V.Values.is_honest
+    asks-then (within (marked c.args.bench.now).start.position g.V.Values.source)
     c.args.values.now c.add_root.new.values c.add_below.new.values c.from_residual-in_err-add_below.result c.in_ok-add_root.ensures.asked
-    (same-asks g.V.Values.held (within (marked c.args.bench.now).start.position g.V.Values.gives) g.V.Values.may_fail g.V.Values.asked_of g.V.Values.failed_of g.V.Values.is_honest
+    (same-asks (within (marked c.args.bench.now).start.position g.V.Values.source)
     c.add_root.new.values c.add_below.new.values c.from_residual-in_err-add_below.result c.in_err-add_below.field-0.0
     c.from_residual-in_err-add_below.ensures.1 c.in_err-add_below.ensures.asked)
 
 pub returns-clause-asked : goal.returns-clause-asked
 returns-clause-asked g c =
-    all-then g.V.Values.held (within (marked c.args.bench.now).start.position g.V.Values.gives) g.V.Values.may_fail g.V.Values.asked_of g.V.Values.failed_of g.V.Values.is_honest
+    all-then (within (marked c.args.bench.now).start.position g.V.Values.source)
     c.args.values.now c.add_root.new.values c.add_below.new.values c.in_ok-add_root.ensures.asked c.in_ok-add_below.ensures.asked
 
 pub returns-clause-faults : goal.returns-clause-faults

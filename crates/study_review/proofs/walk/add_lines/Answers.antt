@@ -39,17 +39,17 @@ add_here-requires-clause-tried g c =
 
 pub returns-clause-asked : goal.returns-clause-asked
 returns-clause-asked g c =
-    asks-then g.V.Values.held (within (marked c.args.bench.now).start.position g.V.Values.gives) g.V.Values.may_fail g.V.Values.asked_of g.V.Values.failed_of g.V.Values.is_honest
+    asks-then (within (marked c.args.bench.now).start.position g.V.Values.source)
     c.args.values.now c.add_move.new.values c.add_here.new.values c.add_here.result
-    (all-wider g.V.Values.held g.V.Values.gives g.V.Values.may_fail g.V.Values.asked_of g.V.Values.failed_of g.V.Values.is_honest (marked c.args.bench.now).start.position c.args.stands.0.now.position
+    (all-wider g.V.Values.source (marked c.args.bench.now).start.position c.args.stands.0.now.position
     (leads-at (marked c.args.bench.now) (parent_path c.args.steps.now) c.args.stands.0.now.position c.start-first.ensures.study.playable c.requires.before.position)
     c.args.values.now c.add_move.new.values c.in_ok-add_move.ensures.asked)
-    (asks-wider g.V.Values.held g.V.Values.gives g.V.Values.may_fail g.V.Values.asked_of g.V.Values.failed_of g.V.Values.is_honest (marked c.args.bench.now).start.position c.args.stands.1.now.position
+    (asks-wider g.V.Values.source (marked c.args.bench.now).start.position c.args.stands.1.now.position
     (leads-at (marked c.args.bench.now) c.args.steps.now c.args.stands.1.now.position c.start-first.ensures.study.playable c.requires.here.position)
     c.add_move.new.values c.add_here.new.values c.add_here.result c.add_here.ensures.asked)
 
 pub returns-in_err-add_move-clause-asked : goal.returns-in_err-add_move-clause-asked
 returns-in_err-add_move-clause-asked g c =
-    asks-wider g.V.Values.held g.V.Values.gives g.V.Values.may_fail g.V.Values.asked_of g.V.Values.failed_of g.V.Values.is_honest (marked c.args.bench.now).start.position c.args.stands.0.now.position
+    asks-wider g.V.Values.source (marked c.args.bench.now).start.position c.args.stands.0.now.position
     (leads-at (marked c.args.bench.now) (parent_path c.args.steps.now) c.args.stands.0.now.position c.start-first.ensures.study.playable c.requires.before.position)
     c.args.values.now c.add_move.new.values _ (search rules)

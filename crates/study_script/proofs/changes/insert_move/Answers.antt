@@ -1,4 +1,4 @@
-use Rattle.std.proofs.Common.{◌≡◌, true, Ok, Err, refl, sym, subst}
+use Rattle.std.proofs.Common.{◌≡◌, true, Err, refl, sym, subst}
 use Rattle.std.specs.Prelude.{MatchOption, IfErr}
 use Rattle.study_board.specs.Position.{Position}
 use Rattle.study_moves.specs.Rules.{after}
@@ -8,7 +8,7 @@ use Rattle.study_marks.specs.Queries.{asked_at, AllHeld, IsOutside}
 use Rattle.study_marks.specs.Answers.{TellsFirstFault}
 use Rattle.study_marks.specs.Edits.{with_insertion, insert_refusal}
 use Rattle.study_script.specs.State.{quiet}
-use Rattle.study_script.specs.SessionHolds.{tables_held, tables_give, tables_may_fail, tables_asked, are_paged}
+use Rattle.study_script.specs.SessionHolds.{tables_held, tables_source, are_paged}
 use Rattle.study_script.specs.Replies.{accepted, holding, inserted_text, IsInserted}
 use Rattle.study_script.proofs.AskingEdits.{accepted_outside}
 use Rattle.study_script.proofs.HeldBehindReplies.{study_edited, study_same}
@@ -55,9 +55,9 @@ returns g c = λ s h.
     (IfErr c.insert_move.result (IsOutside (tables_held tables) (asked_at (after p m))))
     (λ fault. c.insert_move.result ≡ Err fault)) (sym (position_at-plain shown steps))
     c.insert_move.ensures.refusal) c.in-Err.is c.in-Err.ensures.device (c.in-Err.ensures.no_damage h.values)
-    (failing_known (tables_give g.P.PageSource.gives) (tables_may_fail g.P.PageSource.gives) tables_asked
+    (failing_known (tables_source g.P.PageSource.honest g.P.PageSource.gives)
     (λ d f. s.shelf.faults d f ≡ true) tables others (asked_at (after (position_at old steps) m)) c.in-Err.refusal h.faults
-    (subst (λ (p : Position). TellsFirstFault (tables_give g.P.PageSource.gives) (tables_may_fail g.P.PageSource.gives) tables_asked
+    (subst (λ (p : Position). TellsFirstFault (tables_source g.P.PageSource.honest g.P.PageSource.gives)
     tables (asked_at (after p m)) others c.in-Err.refusal) (sym (position_at-plain shown steps)) c.in-Err.ensures.first)) in (
       told.0,
       s,

@@ -2,7 +2,7 @@ use Rattle.std.proofs.Common.{◌≡◌, true}
 use Rattle.study_marks.specs.Queries.{asked_at}
 use Rattle.study_reply.specs.Words.{stipulation_words}
 use Rattle.study_script.specs.State.{quiet}
-use Rattle.study_script.specs.SessionHolds.{tables_held, tables_give, tables_may_fail, tables_asked, are_paged}
+use Rattle.study_script.specs.SessionHolds.{tables_held, tables_source, are_paged}
 use Rattle.study_script.specs.Replies.{holding, new_study}
 use Rattle.study_script.proofs.AskingEdits.{refused_asking, accepted_outside}
 use Rattle.study_script.proofs.Documents.{study_made, document_same}
@@ -30,7 +30,7 @@ returns-in-Err g c = λ s h.
     let told = refused_asking g.row.A.Denot s (tables_held tables) (are_paged tables) asked new (stipulation_words c.args.stipulation.now)
     c.in-Err.refusal h.classes h.paged c.in-Err.ensures.refusal c.in-Err.ensures.device
     (c.in-Err.ensures.no_damage h.values) c.in-Err.ensures.takes_no_memory
-    (failing_known (tables_give g.P.PageSource.gives) (tables_may_fail g.P.PageSource.gives) tables_asked
+    (failing_known (tables_source g.P.PageSource.honest g.P.PageSource.gives)
     (λ d f. s.shelf.faults d f ≡ true) tables c.new_bench.new.tables asked c.in-Err.refusal h.faults c.in-Err.ensures.first) in (
       told.0,
       s,

@@ -7,7 +7,7 @@ use Rattle.study_marks.specs.Queries.{asked_at}
 use Rattle.study_marks.specs.Edits.{with_position}
 use Rattle.study_reply.specs.Words.{reply_line}
 use Rattle.study_script.specs.State.{quiet}
-use Rattle.study_script.specs.SessionHolds.{tables_held, tables_give, tables_may_fail, tables_asked, are_paged}
+use Rattle.study_script.specs.SessionHolds.{tables_held, tables_source, are_paged}
 use Rattle.study_script.specs.Replies.{holding}
 use Rattle.study_script.proofs.AskingEdits.{refused_asking, accepted_outside}
 use Rattle.study_script.proofs.HeldBehindReplies.{study_edited, study_same}
@@ -37,7 +37,7 @@ returns-in-Err g c = λ s h.
     let out = refused_asking g.row.A.Denot s (tables_held tables) (are_paged tables) asked new (reply_line (codes "position ") (fen_text start))
     c.in-Err.refusal h.classes h.paged c.in-Err.ensures.refusal c.in-Err.ensures.device
     (c.in-Err.ensures.no_damage h.values) c.in-Err.ensures.takes_no_memory
-    (failing_known (tables_give g.P.PageSource.gives) (tables_may_fail g.P.PageSource.gives) tables_asked
+    (failing_known (tables_source g.P.PageSource.honest g.P.PageSource.gives)
     (λ d f. s.shelf.faults d f ≡ true) tables c.set_position.new.tables asked c.in-Err.refusal h.faults c.in-Err.ensures.first) in rw (← c.copied.ensures) (
       out.0,
       s,

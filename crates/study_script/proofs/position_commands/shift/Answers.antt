@@ -7,7 +7,7 @@ use Rattle.study_marks.specs.Queries.{positions_asked}
 use Rattle.study_marks.specs.Edits.{with_start}
 use Rattle.study_reply.specs.Words.{reply_line}
 use Rattle.study_script.specs.State.{quiet}
-use Rattle.study_script.specs.SessionHolds.{tables_held, tables_give, tables_may_fail, tables_asked, are_paged}
+use Rattle.study_script.specs.SessionHolds.{tables_held, tables_source, are_paged}
 use Rattle.study_script.specs.Replies.{accepted, holding, IsShiftReply}
 use Rattle.study_script.proofs.AskingEdits.{accepted_outside}
 use Rattle.study_script.proofs.ShiftReplies.{unbroken, shift_refused}
@@ -40,7 +40,7 @@ returns-in-Err g c = λ s h.
     let tables = c.args.tables.now in
     let out = shift_refused g.row.A.Denot s (tables_held tables) (are_paged tables) old start c.in-Err.refusal
     h.classes h.paged c.in-Err.ensures.refusal c.in-Err.ensures.device (c.in-Err.ensures.no_damage h.values)
-    (failing_known (tables_give g.P.PageSource.gives) (tables_may_fail g.P.PageSource.gives) tables_asked
+    (failing_known (tables_source g.P.PageSource.honest g.P.PageSource.gives)
     (λ d f. s.shelf.faults d f ≡ true) tables c.shift_position.new.tables asked c.in-Err.refusal h.faults c.in-Err.ensures.first) in rw (← c.copied.ensures) (
       out.0,
       s,

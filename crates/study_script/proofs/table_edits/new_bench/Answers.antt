@@ -21,11 +21,11 @@ returns-in-Paged-clause-found g c =
     (sym c.in-Paged.is) c.new-in-Paged.ensures.found
 
 pub returns-in-Whole-clause-first : goal.returns-in-Whole-clause-first
-returns-in-Whole-clause-first g c = whole_told g.P.PageSource.gives c.args.tables.now c.in-Whole.tables c.new.new.values
+returns-in-Whole-clause-first g c = whole_told g.P.PageSource.honest g.P.PageSource.gives c.args.tables.now c.in-Whole.tables c.new.new.values
     (asked_at c.args.start.position) c.new.result c.in-Whole.is c.new.ensures.first
 
 pub returns-in-Paged-clause-first : goal.returns-in-Paged-clause-first
-returns-in-Paged-clause-first g c = paged_told g.P.PageSource.gives c.args.tables.now c.in-Paged.tables c.new-in-Paged.new.values
+returns-in-Paged-clause-first g c = paged_told g.P.PageSource.honest g.P.PageSource.gives c.args.tables.now c.in-Paged.tables c.new-in-Paged.new.values
     (asked_at c.args.start.position) c.new-in-Paged.result c.in-Paged.is c.new-in-Paged.ensures.first
 
 pub returns-in-Whole-clause-fails_as_before : goal.returns-in-Whole-clause-fails_as_before

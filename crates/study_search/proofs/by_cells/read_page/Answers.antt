@@ -7,5 +7,5 @@ read_cells-requires g c = page-there c.args.class c.args.page c.requires
 
 pub returns-clause-faults : goal.returns-clause-faults
 returns-clause-faults g c =
-    read g.V.Values.held g.V.Values.may_fail g.V.Values.is_honest c.args.class c.args.values.now c.read_cells.result
+    read g.V.Values.source c.args.class c.args.values.now c.read_cells.result
     c.read_cells.ensures.no_table c.read_cells.ensures.failed_so c.read_cells.ensures.no_damage

@@ -4,7 +4,7 @@ use Rattle.study_search.proofs.finding.most_only_moves.Given as goal
 
 abbrev pub invariant-loop-n : goal.invariant-loop-n
 invariant-loop-n g l = record {
-  line : g.V.Values.is_honest l.fn.values → HasOnlyMoves l.outcome l.n l.p;
-  honest : g.V.Values.is_honest l.fn.values → g.V.Values.is_honest l.values;
-  tables : HasSameTables g.V.Values.held g.V.Values.may_fail l.fn.values l.values;
+  line : g.V.Values.source.is_honest l.fn.values → HasOnlyMoves l.outcome l.n l.p;
+  honest : g.V.Values.source.is_honest l.fn.values → g.V.Values.source.is_honest l.values;
+  tables : HasSameTables g.V.Values.source l.fn.values l.values;
 }

@@ -1,4 +1,4 @@
-use Rattle.std.proofs.Common.{◌≡◌, ◌≤◌, ◌<◌, ◌++◌, ◌∷◌, [], List, ℕ, refl, sym, ◌∙◌, ap, subst, arith}
+use Rattle.std.proofs.Common.{◌≡◌, ◌≤◌, ◌<◌, ◌++◌, ◌∷◌, [], List, ℕ, refl, ◌∙◌, ap, subst, arith}
 use Rattle.std.specs.Prelude.{vec_len}
 use Rattle.study_tree.specs.Edits.{width}
 use Rattle.study_marks.specs.FaultSums.{below_at}
@@ -92,7 +92,7 @@ loop-place-preserved g t c =
           (c.in_ok-add_nodes.ensures.zugzwangs (c.loop-place.invariant.told.honest h)) (c.loop-place.invariant.zugzwangs h);
       back = popped steps c.add_nodes.new.steps.items c.pop.new.self.items k (vec_len c.add_nodes.new.steps)
           (c.in_ok-add_nodes.ensures.path ∙ path) (omega (arith, c.add_nodes.new.steps.ok.0)) c.pop.ensures.rest;
-      told = all-then g.V.Values.held (within (marked c.args.bench.now).start.position g.V.Values.gives) g.V.Values.may_fail g.V.Values.asked_of g.V.Values.failed_of g.V.Values.is_honest
+      told = all-then (within (marked c.args.bench.now).start.position g.V.Values.source)
           c.args.values.now c.loop-place.values c.add_nodes.new.values c.loop-place.invariant.told c.in_ok-add_nodes.ensures.asked;
     }
 
@@ -118,8 +118,8 @@ returns-clause-zugzwangs g t c h =
 
 pub returns-in_err-add_nodes-clause-asked : goal.returns-in_err-add_nodes-clause-asked
 returns-in_err-add_nodes-clause-asked g t c =
-    walks-then g.V.Values.held (within (marked c.args.bench.now).start.position g.V.Values.gives) g.V.Values.may_fail g.V.Values.asked_of g.V.Values.failed_of g.V.Values.is_honest
+    walks-then (within (marked c.args.bench.now).start.position g.V.Values.source)
     c.args.values.now c.loop-place.values c.add_nodes.new.values c.from_residual-in_err-add_nodes.result c.loop-place.invariant.told
-    (walks-so g.V.Values.held (within (marked c.args.bench.now).start.position g.V.Values.gives) g.V.Values.may_fail g.V.Values.asked_of g.V.Values.failed_of g.V.Values.is_honest (Unit {0})
+    (walks-so (within (marked c.args.bench.now).start.position g.V.Values.source) (Unit {0})
     c.loop-place.values c.add_nodes.new.values c.from_residual-in_err-add_nodes.result c.in_err-add_nodes.field-0.0
     c.from_residual-in_err-add_nodes.ensures.1 c.in_err-add_nodes.ensures.asked)

@@ -17,9 +17,9 @@ abbrev pub invariant-loop-place : goal.invariant-loop-place
 invariant-loop-place g l = record {
   nodes : GoesOn (IsNodeLine (marked l.bench)) l.fn.steps.items
       (below_at (marked l.bench).tree.below l.fn.steps.items) l.place l.initial.lines.nodes l.lines.nodes;
-  zugzwangs : g.V.Values.is_honest l.fn.values → GoesOn (ZugzwangLines (marked l.bench)) l.fn.steps.items
+  zugzwangs : g.V.Values.source.is_honest l.fn.values → GoesOn (ZugzwangLines (marked l.bench)) l.fn.steps.items
       (below_at (marked l.bench).tree.below l.fn.steps.items) l.place l.initial.lines.zugzwangs l.lines.zugzwangs;
   back : l.steps.items ≡ l.fn.steps.items;
-  told : AllTold g.V.Values.held (within (marked l.bench).start.position g.V.Values.gives) g.V.Values.may_fail g.V.Values.asked_of g.V.Values.failed_of g.V.Values.is_honest
+  told : AllTold (within (marked l.bench).start.position g.V.Values.source)
       l.fn.values l.values;
 }

@@ -16,6 +16,6 @@ returns-clause-zugzwangs g c h =
 pub returns-clause-asked : goal.returns-clause-asked
 returns-clause-asked g c =
     let s = marked c.args.bench.now in
-    walks-wider g.V.Values.held g.V.Values.gives g.V.Values.may_fail g.V.Values.asked_of g.V.Values.failed_of g.V.Values.is_honest s.start.position c.args.here.now.position
+    walks-wider g.V.Values.source s.start.position c.args.here.now.position
     (leads-at s c.args.steps.now c.args.here.now.position c.start-first.ensures.study.playable (position-of s c.args.steps.now c.args.here.now c.requires.here))
     c.args.values.now c.add_zugzwang.new.values c.add_zugzwang.result c.add_zugzwang.ensures.asked

@@ -10,12 +10,12 @@ returns-in_ok-add_zugzwang_line-in-Ok-clause-text g c h =
 
 pub returns-in_err-add_zugzwang_line-in-Ok-clause-asked : goal.returns-in_err-add_zugzwang_line-in-Ok-clause-asked
 returns-in_err-add_zugzwang_line-in-Ok-clause-asked g c =
-    walks-so g.V.Values.held (within c.args.p.now g.V.Values.gives) g.V.Values.may_fail g.V.Values.asked_of g.V.Values.failed_of g.V.Values.is_honest (Unit {0})
+    walks-so (within c.args.p.now g.V.Values.source) (Unit {0})
     c.args.values.now c.zugzwang_at.new.values c.from_residual.result OutOfMemory c.from_residual.ensures.1
-    (of-told g.V.Values.held (within c.args.p.now g.V.Values.gives) g.V.Values.may_fail g.V.Values.asked_of g.V.Values.failed_of g.V.Values.is_honest
+    (of-told (within c.args.p.now g.V.Values.source)
     c.args.values.now c.zugzwang_at.new.values c.in-Ok.ensures.told c.in-Ok.ensures.failures c.zugzwang_at.ensures.honest c.zugzwang_at.ensures.tables)
 
 pub returns-in_ok-add_zugzwang_line-in-Ok-clause-asked : goal.returns-in_ok-add_zugzwang_line-in-Ok-clause-asked
 returns-in_ok-add_zugzwang_line-in-Ok-clause-asked g c =
-    of-told g.V.Values.held (within c.args.p.now g.V.Values.gives) g.V.Values.may_fail g.V.Values.asked_of g.V.Values.failed_of g.V.Values.is_honest
+    of-told (within c.args.p.now g.V.Values.source)
     c.args.values.now c.zugzwang_at.new.values c.in-Ok.ensures.told c.in-Ok.ensures.failures c.zugzwang_at.ensures.honest c.zugzwang_at.ensures.tables

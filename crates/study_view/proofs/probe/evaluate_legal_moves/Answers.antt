@@ -1,4 +1,4 @@
-use Rattle.std.proofs.Common.{List, true, subst, [], Result}
+use Rattle.std.proofs.Common.{List, true, subst, []}
 use Rattle.std.specs.Prelude.{IfOk}
 use Rattle.study_moves.specs.declared.moves.Move.{Move}
 use Rattle.study_facts.specs.Continuations.{AreChosen, positions_after, moves_except}
@@ -17,9 +17,9 @@ pub returns-clause-asked : goal.returns-clause-asked
 returns-clause-asked g c =
     let p = c.args.node.now.position.now in
     subst
-    (λ (ms : List Move). HasToldEach g.V.Values.held g.V.Values.gives g.V.Values.may_fail g.V.Values.asked_of g.V.Values.failed_of g.V.Values.is_honest
+    (λ (ms : List Move). HasToldEach g.V.Values.source
     p (positions_after p ms) c.args.values.now c.missing_moves.result c.missing_moves.new.values) (others-of-none p)
-    (told-each g.V.Values.held g.V.Values.gives g.V.Values.may_fail g.V.Values.asked_of g.V.Values.failed_of g.V.Values.is_honest
+    (told-each g.V.Values.source
     p (positions_after p (moves_except [] p)) (each-other p []) c.args.values.now c.missing_moves.new.values c.missing_moves.result c.missing_moves.ensures.told
     c.missing_moves.ensures.first c.missing_moves.ensures.untold c.missing_moves.ensures.no_damage c.missing_moves.ensures.failures
     c.missing_moves.ensures.honest c.missing_moves.ensures.tables)

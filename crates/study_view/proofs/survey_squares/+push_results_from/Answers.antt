@@ -1,6 +1,5 @@
-use Rattle.std.proofs.Common.{◌≡◌, ◌<◌, ◌++◌, ◌∷◌, [], List, ℕ, arith, sym, ap, subst, ◌∙◌}
+use Rattle.std.proofs.Common.{◌≡◌, ◌<◌, ◌++◌, ◌∷◌, [], ℕ, arith, sym, ap, subst, ◌∙◌}
 use Rattle.study_view.specs.Survey.{IsStanding}
-use Rattle.study_view.specs.declared.survey_squares.SurveyedSquare.{SurveyedSquare}
 use Rattle.study_facts.specs.Asked.{within}
 use Rattle.study_view.proofs.AllAsked.{some-then}
 use Rattle.study_view.proofs.Standings.{adds-past, adds-one}
@@ -27,6 +26,6 @@ returns-in-Ok-clause-game g t c h =
 
 pub returns-in-Ok-clause-asked : goal.returns-in-Ok-clause-asked
 returns-in-Ok-clause-asked g t c =
-    some-then g.V.Values.held (within c.args.question.now.position.now g.V.Values.gives) g.V.Values.may_fail g.V.Values.asked_of g.V.Values.failed_of g.V.Values.is_honest
+    some-then (within c.args.question.now.position.now g.V.Values.source)
     c.args.values.now c.result_on.new.values c.push_results_from-in-Ok.new.values c.push_results_from-in-Ok.result c.in-Ok.ensures.asked
     c.push_results_from-in-Ok.ensures.asked

@@ -4,5 +4,5 @@ use Rattle.study_view.proofs.survey_squares.result_of.Goals as goal
 
 pub returns-in-Ok-clause-asked : goal.returns-in-Ok-clause-asked
 returns-in-Ok-clause-asked g c =
-    some-then g.V.Values.held (within c.args.q.now g.V.Values.gives) g.V.Values.may_fail g.V.Values.asked_of g.V.Values.failed_of g.V.Values.is_honest
+    some-then (within c.args.q.now g.V.Values.source)
     c.args.values.now c.ask_value.new.values c.result_by_value.new.values c.result_by_value.result c.in-Ok.ensures.asked c.result_by_value.ensures.asked

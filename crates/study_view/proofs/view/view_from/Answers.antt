@@ -20,49 +20,49 @@ pub returns-in_err-moves-clause-asked : goal.returns-in_err-moves-clause-asked
 returns-in_err-moves-clause-asked g c =
     let s = marked c.args.bench.now in
     let f = c.in_err-moves.field-0.0 in
-    refused-after g.V.Values.held g.V.Values.gives g.V.Values.may_fail g.V.Values.asked_of g.V.Values.failed_of g.V.Values.is_honest
+    refused-after g.V.Values.source
     s.start.position (asked_at s c.args.steps.now) c.args.values.now c.evaluate_legal_moves.new.values c.from_residual.result (Values f) c.from_residual.ensures.1
     (subst
-    (λ (asked : List Position). StoppedAt g.V.Values.held g.V.Values.gives g.V.Values.may_fail g.V.Values.asked_of g.V.Values.failed_of g.V.Values.is_honest
+    (λ (asked : List Position). StoppedAt g.V.Values.source
     s.start.position asked c.args.values.now f c.evaluate_legal_moves.new.values) (asked-is s c.args.steps.now c.args.start.now c.requires.start)
-    (stopped-wider g.V.Values.held g.V.Values.gives g.V.Values.may_fail g.V.Values.asked_of g.V.Values.failed_of g.V.Values.is_honest s.start.position c.args.start.now.position
+    (stopped-wider g.V.Values.source s.start.position c.args.start.now.position
     (leads-at s c.args.steps.now c.args.start.now.position c.start.ensures.study.playable (position-of s c.args.steps.now c.args.start.now c.requires.start)) _ c.args.values.now f c.evaluate_legal_moves.new.values c.in_err-moves.ensures.asked))
 
 pub returns-in_err-lines-clause-asked : goal.returns-in_err-lines-clause-asked
 returns-in_err-lines-clause-asked g c =
     let s = marked c.args.bench.now in
-    refused-after g.V.Values.held g.V.Values.gives g.V.Values.may_fail g.V.Values.asked_of g.V.Values.failed_of g.V.Values.is_honest
+    refused-after g.V.Values.source
     s.start.position (asked_at s c.args.steps.now) c.args.values.now c.tree_lines.new.values c.from_residual-in_err-lines.result c.in_err-lines.field-0.0
     c.from_residual-in_err-lines.ensures.1
-    (walked-more g.V.Values.held g.V.Values.gives g.V.Values.may_fail g.V.Values.asked_of g.V.Values.failed_of g.V.Values.is_honest (Unit {0}) (Unit {0}) s.start.position (asked_at s c.args.steps.now) c.args.values.now c.evaluate_legal_moves.new.values c.tree_lines.new.values
+    (walked-more g.V.Values.source (Unit {0}) (Unit {0}) s.start.position (asked_at s c.args.steps.now) c.args.values.now c.evaluate_legal_moves.new.values c.tree_lines.new.values
     c.in_err-lines.field-0.0
     (subst
-    (λ (asked : List Position). EachTold g.V.Values.held g.V.Values.gives g.V.Values.may_fail g.V.Values.asked_of g.V.Values.failed_of g.V.Values.is_honest
+    (λ (asked : List Position). EachTold g.V.Values.source
     s.start.position asked c.args.values.now c.evaluate_legal_moves.new.values) (asked-is s c.args.steps.now c.args.start.now c.requires.start)
-    (each-wider g.V.Values.held g.V.Values.gives g.V.Values.may_fail g.V.Values.asked_of g.V.Values.failed_of g.V.Values.is_honest s.start.position c.args.start.now.position
+    (each-wider g.V.Values.source s.start.position c.args.start.now.position
     (leads-at s c.args.steps.now c.args.start.now.position c.start.ensures.study.playable (position-of s c.args.steps.now c.args.start.now c.requires.start)) _ c.args.values.now c.evaluate_legal_moves.new.values c.in_ok-moves.ensures.asked)) c.in_err-lines.ensures.asked)
 
 pub returns-in_err-text-clause-asked : goal.returns-in_err-text-clause-asked
 returns-in_err-text-clause-asked g c =
     let s = marked c.args.bench.now in
-    refused-after g.V.Values.held g.V.Values.gives g.V.Values.may_fail g.V.Values.asked_of g.V.Values.failed_of g.V.Values.is_honest
+    refused-after g.V.Values.source
     s.start.position (asked_at s c.args.steps.now) c.args.values.now c.tree_lines.new.values c.from_residual-in_err-text.result OutOfMemory
     c.from_residual-in_err-text.ensures.1
-    (each-more g.V.Values.held g.V.Values.gives g.V.Values.may_fail g.V.Values.asked_of g.V.Values.failed_of g.V.Values.is_honest s.start.position (asked_at s c.args.steps.now) c.args.values.now c.evaluate_legal_moves.new.values c.tree_lines.new.values
+    (each-more g.V.Values.source s.start.position (asked_at s c.args.steps.now) c.args.values.now c.evaluate_legal_moves.new.values c.tree_lines.new.values
     (subst
-    (λ (asked : List Position). EachTold g.V.Values.held g.V.Values.gives g.V.Values.may_fail g.V.Values.asked_of g.V.Values.failed_of g.V.Values.is_honest
+    (λ (asked : List Position). EachTold g.V.Values.source
     s.start.position asked c.args.values.now c.evaluate_legal_moves.new.values) (asked-is s c.args.steps.now c.args.start.now c.requires.start)
-    (each-wider g.V.Values.held g.V.Values.gives g.V.Values.may_fail g.V.Values.asked_of g.V.Values.failed_of g.V.Values.is_honest s.start.position c.args.start.now.position
+    (each-wider g.V.Values.source s.start.position c.args.start.now.position
     (leads-at s c.args.steps.now c.args.start.now.position c.start.ensures.study.playable (position-of s c.args.steps.now c.args.start.now c.requires.start)) _ c.args.values.now c.evaluate_legal_moves.new.values c.in_ok-moves.ensures.asked)) c.in_ok-lines.ensures.asked)
 
 pub returns-clause-asked : goal.returns-clause-asked
 returns-clause-asked g c =
     let s = marked c.args.bench.now in
-    each-more g.V.Values.held g.V.Values.gives g.V.Values.may_fail g.V.Values.asked_of g.V.Values.failed_of g.V.Values.is_honest s.start.position (asked_at s c.args.steps.now) c.args.values.now c.evaluate_legal_moves.new.values c.tree_lines.new.values
+    each-more g.V.Values.source s.start.position (asked_at s c.args.steps.now) c.args.values.now c.evaluate_legal_moves.new.values c.tree_lines.new.values
     (subst
-    (λ (asked : List Position). EachTold g.V.Values.held g.V.Values.gives g.V.Values.may_fail g.V.Values.asked_of g.V.Values.failed_of g.V.Values.is_honest
+    (λ (asked : List Position). EachTold g.V.Values.source
     s.start.position asked c.args.values.now c.evaluate_legal_moves.new.values) (asked-is s c.args.steps.now c.args.start.now c.requires.start)
-    (each-wider g.V.Values.held g.V.Values.gives g.V.Values.may_fail g.V.Values.asked_of g.V.Values.failed_of g.V.Values.is_honest s.start.position c.args.start.now.position
+    (each-wider g.V.Values.source s.start.position c.args.start.now.position
     (leads-at s c.args.steps.now c.args.start.now.position c.start.ensures.study.playable (position-of s c.args.steps.now c.args.start.now c.requires.start)) _ c.args.values.now c.evaluate_legal_moves.new.values c.in_ok-moves.ensures.asked)) c.in_ok-lines.ensures.asked
 
 pub returns-clause-text : goal.returns-clause-text

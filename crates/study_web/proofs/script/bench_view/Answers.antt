@@ -29,7 +29,7 @@ returns-in-Err-Values-clause-none g c =
     let old = c.args.values.now in
     let new = c.write_view.new.values in
     let Untold : ProbeFault → Type 0 =
-    λ fault. StudyStopped g.V.Values.held g.V.Values.gives g.V.Values.may_fail g.V.Values.asked_of g.V.Values.failed_of g.V.Values.is_honest
+    λ fault. StudyStopped g.V.Values.source
     (study (plain_study (marked c.args.bench.now))) old fault new in
     subst (λ (r : Refusal). IsViewDenial Untold (has_spot (plain_study (marked c.args.bench.now)).tree (steps_of c.args.path.now) ≡ false) (denial.Refused r))
     (sym c.of_probe.ensures)
@@ -37,7 +37,6 @@ returns-in-Err-Values-clause-none g c =
       plain_study (marked c.args.bench.now),
       refl,
       c.start-first.ensures.study.valid,
-      view_stopped g.V.Values.held g.V.Values.gives g.V.Values.may_fail g.V.Values.asked_of
-          g.V.Values.failed_of g.V.Values.is_honest (marked c.args.bench.now).start.position _ old new c.in-Err-Values.fault c.write_view.result
+      view_stopped g.V.Values.source (marked c.args.bench.now).start.position _ old new c.in-Err-Values.fault c.write_view.result
           (c.in-Err-Values.is ∙ ap Err c.in-Err-Values.field-0-is) c.write_view.ensures.asked,
     ))

@@ -1,5 +1,5 @@
 use Rattle.study_command.specs.Paths.{steps_of}
-use Rattle.study_script.specs.SessionHolds.{document_seen, tables_asked, tables_failed, tables_give, tables_held, tables_honest, tables_may_fail, Holds}
+use Rattle.study_script.specs.SessionHolds.{document_seen, Holds}
 use Rattle.study_script.specs.State.{State}
 use Rattle.study_web.specs.Answers.{IsNever}
 use Rattle.study_web.specs.Views.{LacksNode, IsViewUntold, StudyStopped}
@@ -14,7 +14,7 @@ returns-in_err-text-clause-none g c =
     let new = c.document_view.new.values in
     let lacks = LacksNode (document_seen c.args.left.document) (steps_of c.args.path.now) in
     passed_on
-    (λ fault. StudyStopped tables_held (tables_give gives) (tables_may_fail gives) tables_asked tables_failed (tables_honest honest)
+    (λ fault. StudyStopped (tables_source honest gives)
     (document_seen c.args.left.document) old fault new)
     (λ fault. (s : State) → Holds honest gives c.args.left.document old s → IsViewUntold s fault) lacks lacks
     (λ fault is. untold_left honest gives c.args.left.document old new fault is) (λ h. h) c.from_residual.result IsNever c.in_err-text.field-0.0

@@ -24,9 +24,9 @@ pub returns-in_err-all-clause-refusal : goal.returns-in_err-all-clause-refusal
 returns-in_err-all-clause-refusal g c =
     let b = bench_state_of c.self.inside.start c.self.inside.stipulation c.self.inside.tags c.self.inside.tree in
     let same = asked-shifted b c.args.self.now c.args.start c.self.view_is in
-    same-refusal c.from_residual.result c.in_err-all.field-0.0 (g.V.Values.held c.args.values.now)
+    same-refusal c.from_residual.result c.in_err-all.field-0.0 (g.V.Values.source.held c.args.values.now)
     (positions_asked (with_start (plain_study (marked c.args.self.now)) c.args.start)) c.from_residual.ensures.1
-    (subst (λ (ps : List Position). IsOutside (g.V.Values.held c.args.values.now) ps c.in_err-all.field-0.0) same c.in_err-all.ensures.refusal)
+    (subst (λ (ps : List Position). IsOutside (g.V.Values.source.held c.args.values.now) ps c.in_err-all.field-0.0) same c.in_err-all.ensures.refusal)
 
 pub returns-in_err-all-clause-asked : goal.returns-in_err-all-clause-asked
 returns-in_err-all-clause-asked g c =
@@ -34,9 +34,9 @@ returns-in_err-all-clause-asked g c =
     let same = asked-shifted b c.args.self.now c.args.start c.self.view_is in
     refusal-asked c.from_residual.result c.in_err-all.field-0.0
     (length (positions_asked (with_start (plain_study (marked c.args.self.now)) c.args.start)))
-    (g.V.Values.asked_of c.args.values.now) (g.V.Values.asked_of c.evaluate_all.new.values) c.from_residual.ensures.1
+    (g.V.Values.source.asked_of c.args.values.now) (g.V.Values.source.asked_of c.evaluate_all.new.values) c.from_residual.ensures.1
     (subst (λ (ps : List Position). HasStopped (is_of_tables c.in_err-all.field-0.0) (length ps)
-    (g.V.Values.asked_of c.args.values.now) (g.V.Values.asked_of c.evaluate_all.new.values)) same
+    (g.V.Values.source.asked_of c.args.values.now) (g.V.Values.source.asked_of c.evaluate_all.new.values)) same
     c.in_err-all.ensures.asked)
 
 pub invariant_of-self : goal.invariant_of-self
@@ -63,7 +63,7 @@ pub returns-clause-found : goal.returns-clause-found
 returns-clause-found g c =
     let b = bench_state_of c.self.inside.start c.self.inside.stipulation c.self.inside.tags c.self.inside.tree in
     let same = asked-shifted b c.args.self.now c.args.start c.self.view_is in
-    record { each = subst (λ (ps : List Position). AreTablesHeld (g.V.Values.held c.args.values.now) ps) same c.in_ok-all.ensures.found }
+    record { each = subst (λ (ps : List Position). AreTablesHeld (g.V.Values.source.held c.args.values.now) ps) same c.in_ok-all.ensures.found }
 
 pub returns-clause-edited : goal.returns-clause-edited
 returns-clause-edited g c =
@@ -102,16 +102,16 @@ pub returns-clause-asked : goal.returns-clause-asked
 returns-clause-asked g c =
     let b = bench_state_of c.self.inside.start c.self.inside.stipulation c.self.inside.tags c.self.inside.tree in
     let same = asked-shifted b c.args.self.now c.args.start c.self.view_is in
-    c.in_ok-all.ensures.asked ∙ ap (λ (ps : List Position). counted_up_by (length ps) (g.V.Values.asked_of c.args.values.now)) same
+    c.in_ok-all.ensures.asked ∙ ap (λ (ps : List Position). counted_up_by (length ps) (g.V.Values.source.asked_of c.args.values.now)) same
 
 pub returns-in_err-all-clause-first : goal.returns-in_err-all-clause-first
 returns-in_err-all-clause-first g c =
     let b = bench_state_of c.self.inside.start c.self.inside.stipulation c.self.inside.tags c.self.inside.tree in
     let same = asked-shifted b c.args.self.now c.args.start c.self.view_is in
-    same-first g.V.Values.gives g.V.Values.may_fail g.V.Values.asked_of c.args.values.now
+    same-first g.V.Values.source c.args.values.now
     (positions_asked (with_start (plain_study (marked c.args.self.now)) c.args.start)) c.evaluate_all.new.values c.from_residual.result
     c.in_err-all.field-0.0 c.from_residual.ensures.1
-    (subst (λ (ps : List Position). TellsFirstFault g.V.Values.gives g.V.Values.may_fail g.V.Values.asked_of c.args.values.now ps c.evaluate_all.new.values
+    (subst (λ (ps : List Position). TellsFirstFault g.V.Values.source c.args.values.now ps c.evaluate_all.new.values
     c.in_err-all.field-0.0) same c.in_err-all.ensures.first)
 
 pub returns-in_err-all-clause-no_damage : goal.returns-in_err-all-clause-no_damage

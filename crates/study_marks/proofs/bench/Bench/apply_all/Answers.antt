@@ -8,24 +8,24 @@ use Rattle.study_marks.proofs.bench.Bench.apply_all.Goals as goal
 
 pub returns-in-Err-clause-stopped : goal.returns-in-Err-clause-stopped
 returns-in-Err-clause-stopped g c =
-    subst (λ (n : ℕ). IsStopped (g.V.Values.held c.args.values.now) (plain_study (marked c.args.self.now))
+    subst (λ (n : ℕ). IsStopped (g.V.Values.source.held c.args.values.now) (plain_study (marked c.args.self.now))
     c.args.edits.now n c.in-Err.refusal) (sym c.loop-edit.invariant.done)
-    (run-refusal _ _ _ _ _ _ _ _ _ _ _ _ c.args.self.now c.loop-edit.self c.apply.new.self c.args.edits.now
+    (run-refusal g.V.Values.source c.args.values.now c.loop-edit.values c.apply.new.values c.args.self.now c.loop-edit.self c.apply.new.self c.args.edits.now
     c.loop-edit.edit-index c.edit-item.result c.loop-edit.invariant.run c.loop-edit-test.true c.edit-item.is
     c.in-Err.refusal c.in-Err.ensures.applied)
 
 pub returns-in-Err-clause-asked : goal.returns-in-Err-clause-asked
 returns-in-Err-clause-asked g c =
     subst (λ (n : ℕ). HasAskedUpTo (plain_study (marked c.args.self.now)) c.args.edits.now n c.in-Err.refusal
-    (g.V.Values.asked_of c.args.values.now) (g.V.Values.asked_of c.apply.new.values))
+    (g.V.Values.source.asked_of c.args.values.now) (g.V.Values.source.asked_of c.apply.new.values))
     (sym c.loop-edit.invariant.done)
-    (run-asked _ _ _ _ _ _ _ _ _ _ _ _ c.args.self.now c.loop-edit.self c.apply.new.self c.args.edits.now
+    (run-asked g.V.Values.source c.args.values.now c.loop-edit.values c.apply.new.values c.args.self.now c.loop-edit.self c.apply.new.self c.args.edits.now
     c.loop-edit.edit-index c.edit-item.result c.loop-edit.invariant.run c.loop-edit-test.true c.edit-item.is
     c.in-Err.refusal c.in-Err.ensures.applied)
 
 pub loop-edit-preserved : goal.loop-edit-preserved
 loop-edit-preserved g c = record {
-  run = run-next _ _ _ _ _ _ _ _ _ _ _ _ c.args.self.now c.loop-edit.self c.apply.new.self c.args.edits.now
+  run = run-next g.V.Values.source c.args.values.now c.loop-edit.values c.apply.new.values c.args.self.now c.loop-edit.self c.apply.new.self c.args.edits.now
       c.loop-edit.edit-index c.edit-item.result c.loop-edit.invariant.run c.loop-edit-test.true c.edit-item.is
       c.in_default.ensures.applied;
   fails = λ d f m. c.loop-edit.invariant.fails d f (c.apply.ensures.fails_as_before d f m);
@@ -35,15 +35,15 @@ loop-edit-preserved g c = record {
 pub returns-in-Err-clause-first : goal.returns-in-Err-clause-first
 returns-in-Err-clause-first g c = record {
   mid = c.loop-edit.values;
-  asked = subst (λ (n : ℕ). g.V.Values.asked_of c.loop-edit.values ≡ asked_after_edits (plain_study (marked c.args.self.now)) (take n c.args.edits.now)
-      (g.V.Values.asked_of c.args.values.now)) (sym c.loop-edit.invariant.done) c.loop-edit.invariant.run.counts;
+  asked = subst (λ (n : ℕ). g.V.Values.source.asked_of c.loop-edit.values ≡ asked_after_edits (plain_study (marked c.args.self.now)) (take n c.args.edits.now)
+      (g.V.Values.source.asked_of c.args.values.now)) (sym c.loop-edit.invariant.done) c.loop-edit.invariant.run.counts;
   fails_as_before = c.loop-edit.invariant.fails;
-  first = subst (λ (n : ℕ). StopsAtFault g.V.Values.gives g.V.Values.may_fail g.V.Values.asked_of c.loop-edit.values (plain_study (marked c.args.self.now))
+  first = subst (λ (n : ℕ). StopsAtFault g.V.Values.source c.loop-edit.values (plain_study (marked c.args.self.now))
       c.args.edits.now n c.apply.new.values c.in-Err.refusal) (sym c.loop-edit.invariant.done)
-      (tells-at g.V.Values.gives g.V.Values.may_fail g.V.Values.asked_of c.loop-edit.values c.apply.new.values (plain_study (marked c.args.self.now))
+      (tells-at g.V.Values.source c.loop-edit.values c.apply.new.values (plain_study (marked c.args.self.now))
       c.args.edits.now
       c.loop-edit.edit-index c.edit-item.result c.in-Err.refusal c.loop-edit-test.true c.edit-item.is
-      (subst (λ x. TellsFirstFault g.V.Values.gives g.V.Values.may_fail g.V.Values.asked_of c.loop-edit.values (questions_of x c.edit-item.result)
+      (subst (λ x. TellsFirstFault g.V.Values.source c.loop-edit.values (questions_of x c.edit-item.result)
       c.apply.new.values
       c.in-Err.refusal) c.loop-edit.invariant.run.edit c.in-Err.ensures.first));
 }

@@ -7,9 +7,7 @@ use Rattle.study_marks.proofs.bench.Bench.apply_all.Given as goal
 -- the first edits are applied
 abbrev pub invariant-loop-edit : goal.invariant-loop-edit
 invariant-loop-edit g l = record {
-  run : IsRun (g.V.Values.held l.fn.values) (g.V.Values.held l.values) (g.V.Values.is_honest l.fn.values)
-      (g.V.Values.is_honest l.values) (g.V.Values.asked_of l.fn.values) (g.V.Values.asked_of l.values)
-      (g.V.Values.failed_of l.fn.values) (g.V.Values.failed_of l.values) l.fn.self l.self (take l.edit-index l.edits);
-  fails : (c : Class) (f : SourceFault) → g.V.Values.may_fail l.values c f → g.V.Values.may_fail l.fn.values c f;
+  run : IsRun g.V.Values.source l.fn.values l.values l.fn.self l.self (take l.edit-index l.edits);
+  fails : (c : Class) (f : SourceFault) → g.V.Values.source.may_fail l.values c f → g.V.Values.source.may_fail l.fn.values c f;
   done : l.done ≡ l.edit-index;
 }

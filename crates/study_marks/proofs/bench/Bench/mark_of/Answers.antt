@@ -29,10 +29,10 @@ returns-in_err-value-clause-refusal g c =
     c.args.path.now refl c.steps-steps.ensures) in
     match-ok _ _ _ (not-refused (λ (p : List ℕ). trial_refusal (plain_study (marked c.args.self.now)) p c.args.m) c.steps-steps.result.now
     c.args.path.now c.check_move.result c.in_ok-before.before c.steps-steps.ensures c.in_ok-before.was c.check_move.ensures.refusal)
-    (subst (λ (p : Position). IfErr c.from_residual-in_err-value.result (IsOutside (g.V.Values.held c.args.values.now) (p ∷ []))) here
-    (outside-answer (g.V.Values.held c.args.values.now) (c.played.result ∷ []) c.in_err-value.field-0.0
+    (subst (λ (p : Position). IfErr c.from_residual-in_err-value.result (IsOutside (g.V.Values.source.held c.args.values.now) (p ∷ []))) here
+    (outside-answer (g.V.Values.source.held c.args.values.now) (c.played.result ∷ []) c.in_err-value.field-0.0
     c.from_residual-in_err-value.result c.from_residual-in_err-value.ensures.1
-    (untold-here (g.V.Values.held c.args.values.now) c.played.result [] c.value.result c.in_err-value.field-0.0 c.in_err-value.was
+    (untold-here (g.V.Values.source.held c.args.values.now) c.played.result [] c.value.result c.in_err-value.field-0.0 c.in_err-value.was
     c.value.ensures.no_table c.value.ensures.damaged)))
 
 pub returns-in_err-value-clause-first : goal.returns-in_err-value-clause-first
@@ -41,17 +41,17 @@ returns-in_err-value-clause-first g c =
     c.played.ensures.value ∙ ap (λ p. after p c.args.m)
     (c.in_ok-before.ensures.position ∙ position-marked c.args.self.now c.args.self.now c.steps-steps.result.now
     c.args.path.now refl c.steps-steps.ensures) in
-    let answered : Answers g.V.Values.gives g.V.Values.may_fail g.V.Values.asked_of c.args.values.now c.played.result
+    let answered : Answers g.V.Values.source c.args.values.now c.played.result
     (Err c.in_err-value.field-0.0) c.value.new.self = record {
       valid = search rules;
-      given = subst (λ r. g.V.Values.gives c.args.values.now c.played.result r) c.in_err-value.was c.value.ensures.given;
+      given = subst (λ r. g.V.Values.source.gives c.args.values.now c.played.result r) c.in_err-value.was c.value.ensures.given;
       asked = c.value.ensures.asked;
       failed_so = λ t f o e. c.value.ensures.failed_so t f o (c.in_err-value.was ∙ e);
       fails_as_before = c.value.ensures.fails_as_before;
     } in
     subst (λ (p : Position). IfErr c.from_residual-in_err-value.result
-    (TellsFirstFault g.V.Values.gives g.V.Values.may_fail g.V.Values.asked_of c.args.values.now (p ∷ []) c.value.new.self)) here
-    (first-answer g.V.Values.gives g.V.Values.may_fail g.V.Values.asked_of c.args.values.now (c.played.result ∷ []) c.value.new.self
+    (TellsFirstFault g.V.Values.source c.args.values.now (p ∷ []) c.value.new.self)) here
+    (first-answer g.V.Values.source c.args.values.now (c.played.result ∷ []) c.value.new.self
     c.in_err-value.field-0.0 c.from_residual-in_err-value.result c.from_residual-in_err-value.ensures.1 (inl answered))
 
 pub returns-clause-found : goal.returns-clause-found
@@ -60,10 +60,10 @@ returns-clause-found g c =
     c.played.ensures.value ∙ ap (λ p. after p c.args.m)
     (c.in_ok-before.ensures.position ∙ position-marked c.args.self.now c.args.self.now c.steps-steps.result.now
     c.args.path.now refl c.steps-steps.ensures) in
-    subst (λ (p : Position). AllHeld (g.V.Values.held c.args.values.now) (p ∷ [])) here
+    subst (λ (p : Position). AllHeld (g.V.Values.source.held c.args.values.now) (p ∷ [])) here
     (record {
       each = (
-        held-told (g.V.Values.held c.args.values.now) c.played.result c.value.result c.in_ok-value.value c.in_ok-value.was
+        held-told (g.V.Values.source.held c.args.values.now) c.played.result c.value.result c.in_ok-value.value c.in_ok-value.was
             c.value.ensures.no_table,
         tt,
       );

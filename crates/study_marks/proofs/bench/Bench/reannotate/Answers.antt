@@ -14,27 +14,27 @@ returns-clause-refusal g c =
     let start : c.copied-start.result ≡ c.args.self.now.study.start = c.copied-start.ensures ∙ ap (λ (k : BenchState). k.study.start) c.self.view_is in
     let same : positions_asked (with_start (plain_study (marked c.args.self.now)) c.copied-start.result) ≡ positions_asked (marked c.args.self.now) =
     ap (λ s. positions_asked (with_start (plain_study (marked c.args.self.now)) s)) start ∙ asked-plain (marked c.args.self.now) in
-    subst (λ (ps : List Position). IfErr c.annotate.result (IsOutside (g.V.Values.held c.args.values.now) ps)) same c.annotate.ensures.refusal
+    subst (λ (ps : List Position). IfErr c.annotate.result (IsOutside (g.V.Values.source.held c.args.values.now) ps)) same c.annotate.ensures.refusal
 
 pub returns-clause-found : goal.returns-clause-found
 returns-clause-found g c =
     let start : c.copied-start.result ≡ c.args.self.now.study.start = c.copied-start.ensures ∙ ap (λ (k : BenchState). k.study.start) c.self.view_is in
     let same : positions_asked (with_start (plain_study (marked c.args.self.now)) c.copied-start.result) ≡ positions_asked (marked c.args.self.now) =
     ap (λ s. positions_asked (with_start (plain_study (marked c.args.self.now)) s)) start ∙ asked-plain (marked c.args.self.now) in
-    subst (λ (ps : List Position). OnOk c.annotate.result (AllHeld (g.V.Values.held c.args.values.now) ps)) same c.annotate.ensures.found
+    subst (λ (ps : List Position). OnOk c.annotate.result (AllHeld (g.V.Values.source.held c.args.values.now) ps)) same c.annotate.ensures.found
 
 pub returns-clause-asked : goal.returns-clause-asked
 returns-clause-asked g c =
     let start : c.copied-start.result ≡ c.args.self.now.study.start = c.copied-start.ensures ∙ ap (λ (k : BenchState). k.study.start) c.self.view_is in
     let same : positions_asked (with_start (plain_study (marked c.args.self.now)) c.copied-start.result) ≡ positions_asked (marked c.args.self.now) =
     ap (λ s. positions_asked (with_start (plain_study (marked c.args.self.now)) s)) start ∙ asked-plain (marked c.args.self.now) in
-    subst (λ (ps : List Position). HasAsked (length ps) c.annotate.result (g.V.Values.asked_of c.args.values.now)
-    (g.V.Values.asked_of c.annotate.new.values)) same c.annotate.ensures.asked
+    subst (λ (ps : List Position). HasAsked (length ps) c.annotate.result (g.V.Values.source.asked_of c.args.values.now)
+    (g.V.Values.source.asked_of c.annotate.new.values)) same c.annotate.ensures.asked
 
 pub returns-clause-first : goal.returns-clause-first
 returns-clause-first g c =
     let start : c.copied-start.result ≡ c.args.self.now.study.start = c.copied-start.ensures ∙ ap (λ (k : BenchState). k.study.start) c.self.view_is in
     let same : positions_asked (with_start (plain_study (marked c.args.self.now)) c.copied-start.result) ≡ positions_asked (marked c.args.self.now) =
     ap (λ s. positions_asked (with_start (plain_study (marked c.args.self.now)) s)) start ∙ asked-plain (marked c.args.self.now) in
-    subst (λ (ps : List Position). IfErr c.annotate.result (TellsFirstFault g.V.Values.gives g.V.Values.may_fail g.V.Values.asked_of
+    subst (λ (ps : List Position). IfErr c.annotate.result (TellsFirstFault g.V.Values.source
     c.args.values.now ps c.annotate.new.values)) same c.annotate.ensures.first

@@ -8,7 +8,7 @@ returns-in_err-told-clause-takes_no_memory g c = tables-answer c.in_err-told.fie
 
 pub returns-in_err-told-clause-first : goal.returns-in_err-told-clause-first
 returns-in_err-told-clause-first g c =
-    first-answer g.V.Values.gives g.V.Values.may_fail g.V.Values.asked_of c.args.values.now (asked_at c.args.start.position) c.evaluate.new.values
+    first-answer g.V.Values.source c.args.values.now (asked_at c.args.start.position) c.evaluate.new.values
     c.in_err-told.field-0.0 c.from_residual.result c.from_residual.ensures.1 c.in_err-told.ensures.first
 
 pub returns-in_err-told-clause-no_damage : goal.returns-in_err-told-clause-no_damage

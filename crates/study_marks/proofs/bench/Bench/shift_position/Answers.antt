@@ -15,7 +15,7 @@ pub returns-then-find_illegal_move-clause-refusal : goal.returns-then-find_illeg
 returns-then-find_illegal_move-clause-refusal g c =
     let b = bench_state_of c.self.inside.start c.self.inside.stipulation c.self.inside.tags c.self.inside.tree in
     let x = c.if-find_illegal_move.ensures.broken refl in
-    shift-broken (g.V.Values.held c.args.values.now)
+    shift-broken (g.V.Values.source.held c.args.values.now)
     (positions_asked (with_start (plain_study (marked c.args.self.now)) c.args.start)) b c.args.self.now c.args.start
     c.self.view_is c.new-steps.result.items x.0 c.find_illegal_move.new.steps.items c.as_slice.result.now c.shift_broken_at.result c.new-steps.ensures
     (at-root c.args.start.position c.root.ensures ∙ x.1) x.2 c.as_slice.ensures.value c.shift_broken_at.ensures
@@ -37,6 +37,6 @@ pub returns-clause-refusal : goal.returns-clause-refusal
 returns-clause-refusal g c =
     let b = bench_state_of c.self.inside.start c.self.inside.stipulation c.self.inside.tags c.self.inside.tree in
     let whole = (c.if-find_illegal_move.ensures.whole refl).0 in
-    shift-outside (g.V.Values.held c.args.values.now)
+    shift-outside (g.V.Values.source.held c.args.values.now)
     (positions_asked (with_start (plain_study (marked c.args.self.now)) c.args.start)) b c.args.self.now c.args.start
     c.self.view_is c.annotate.result (at-root c.args.start.position c.root.ensures ∙ whole) c.annotate.ensures.refusal
