@@ -58,7 +58,8 @@ pub fn read_text(rest: &[u8]) -> Option<&str>
 /// The only word, `None` unless there is exactly one.
 pub fn read_one_word(rest: &[u8]) -> Option<&[u8]>
     ensures value { option_map (λ word. word.now) result ≡ one_word (words rest.now) }
-    ensures printable { list_all is_printable rest.now ≡ true → IfSome result (λ word. list_all is_printable word.now ≡ true) }
+    ensures printable { list_all is_printable rest.now ≡ true
+        → IfSome result (λ word. list_all is_printable word.now ≡ true) }
 {
     let (word, rest) = next_word(rest)?;
     if next_word(rest).is_some() {
@@ -69,8 +70,10 @@ pub fn read_one_word(rest: &[u8]) -> Option<&[u8]>
 
 /// The two words, `None` unless there are exactly two.
 pub fn read_two_words(rest: &[u8]) -> Option<(&[u8], &[u8])>
-    ensures value { option_map (λ pair. (pair.0.now, pair.1.now)) result ≡ two_words (words rest.now) }
-    ensures printable { list_all is_printable rest.now ≡ true → IfSome result (λ pair. list_all is_printable pair.1.now ≡ true) }
+    ensures value { option_map (λ pair. (pair.0.now, pair.1.now)) result
+        ≡ two_words (words rest.now) }
+    ensures printable { list_all is_printable rest.now ≡ true
+        → IfSome result (λ pair. list_all is_printable pair.1.now ≡ true) }
 {
     let (first, rest) = next_word(rest)?;
     let (second, rest) = next_word(rest)?;

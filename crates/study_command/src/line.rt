@@ -49,11 +49,14 @@ impl<'a, A: Allocator> Line<'a, A> {
 
     /// Reads the next line of the script, without its end, if one begins.
     pub fn read<R: Read>(&mut self, script: &mut R) -> Result<bool, LineFault>
-        ensures line { IfOk result (λ begins. TakesLine (R.remaining script.old) (R.remaining script.new) begins self.new) }
+        ensures line { IfOk result (λ begins.
+            TakesLine (R.remaining script.old) (R.remaining script.new) begins self.new) }
         ensures short { OnOk result (length self.new ≤ 1024) }
         ensures long { result ≡ Err LineFault.TooLong → BeginsLong (R.remaining script.old) }
-        ensures one_feed { OnOk result (GaveFeeds (R.remaining script.old) (R.remaining script.new) 1) }
-        ensures no_feed { result ≡ Err LineFault.Device → GaveFeeds (R.remaining script.old) (R.remaining script.new) 0 }
+        ensures one_feed { OnOk result
+            (GaveFeeds (R.remaining script.old) (R.remaining script.new) 1) }
+        ensures no_feed { result ≡ Err LineFault.Device
+            → GaveFeeds (R.remaining script.old) (R.remaining script.new) 0 }
     {
         self.bytes.clear();
         loop {
@@ -79,7 +82,8 @@ impl<'a, A: Allocator> Line<'a, A> {
 
     /// The room after 1,024 bytes is only for a carriage return.
     fn has_room_for(&self, byte: u8) -> bool
-        ensures { result ≡ (nat_lt (length self.now) 1024 || (length self.now == 1024 && byte == 13)) }
+        ensures { result
+            ≡ (nat_lt (length self.now) 1024 || (length self.now == 1024 && byte == 13)) }
     {
         let len = self.bytes.len();
         len < 1024 || len == 1024 && byte == b'\r'
@@ -104,8 +108,12 @@ impl<'a, A: Allocator> Line<'a, A> {
 
 /// The next byte, or `None` at the end.
 pub fn read_byte<R: Read>(script: &mut R) -> Result<Option<u8>, DeviceFailed>
-    ensures some { IfOk result (λ next. IfSome next (λ byte. Consumes (R.remaining script.old) (R.remaining script.new) (byte ∷ []))) }
-    ensures end { IfOk result (λ next. IfNone next (Consumes (R.remaining script.old) (R.remaining script.new) [] × IsAtEnd (R.remaining script.new))) }
+    ensures some { IfOk result (λ next.
+        IfSome next (λ byte.
+        Consumes (R.remaining script.old) (R.remaining script.new) (byte ∷ []))) }
+    ensures end { IfOk result (λ next.
+        IfNone next (Consumes (R.remaining script.old) (R.remaining script.new) []
+        × IsAtEnd (R.remaining script.new))) }
     ensures err { OnErr result (Keeps (R.remaining script.old) (R.remaining script.new)) }
 {
     let mut byte = [0u8; 1];

@@ -25,7 +25,8 @@ pub fn read_path<'a, A: Allocator>(alloc: &'a A, path: &[u8]) -> Result<Path<'a,
 fn is_root(path: &[u8]) -> bool
     requires { is_path_word path.now ≡ true }
     ensures root { result ≡ true → steps_of path.now ≡ [] }
-    ensures places { result ≡ false → steps_of path.now ≡ map (digits_value 10) (places_in path.now) }
+    ensures places { result ≡ false
+        → steps_of path.now ≡ map (digits_value 10) (places_in path.now) }
     ensures form { result ≡ false → list_all is_place (places_in path.now) ≡ true }
 {
     path == b"root".as_slice()
@@ -50,7 +51,8 @@ fn read_places<'a, A: Allocator>(alloc: &'a A, path: &[u8]) -> Result<Path<'a, A
 
 /// The part before the first point, and the rest.
 fn split_first_place(word: &[u8]) -> (&[u8], Option<&[u8]>)
-    ensures cut { MatchOption result.1 (places_in word.now ≡ result.0.now ∷ []) (λ more. places_in word.now ≡ result.0.now ∷ places_in more.now) }
+    ensures cut { MatchOption result.1 (places_in word.now ≡ result.0.now ∷ []) (λ more.
+        places_in word.now ≡ result.0.now ∷ places_in more.now) }
     ensures shorter { IfSome result.1 (λ more. length more.now < length word.now) }
 {
     for i in 0..word.len() {

@@ -50,15 +50,21 @@ fn best_among<V: Values>(
     moves: &[Move],
     values: &mut V,
 ) -> Result<Option<EvaluatedMove>, ProbeFault>
+    // Many clauses: callers use each fact of the probes by itself.
     requires { All (λ m. is_legal p.now m ≡ true) moves.now }
     ensures game { V.source.is_honest values.old → IfOk result (λ best. (list : List AContinuation)
         × AreChosen (λ v. true) p.now moves.now list × (best ≡ first_best list)) }
-    ensures untold { IfErr result (IsProbeFaultOf (V.source.held values.old) (map (after p.now) moves.now)) }
-    ensures told { OnOk result (WereTold V.source values.old (map (after p.now) moves.now) values.new) }
-    ensures first { IfErr result (λ f. IsFirstFault V.source values.old (map (after p.now) moves.now) f values.new) }
+    ensures untold { IfErr result
+        (IsProbeFaultOf (V.source.held values.old) (map (after p.now) moves.now)) }
+    ensures told { OnOk result
+        (WereTold V.source values.old (map (after p.now) moves.now) values.new) }
+    ensures first { IfErr result (λ f.
+        IsFirstFault V.source values.old (map (after p.now) moves.now) f values.new) }
     ensures no_damage { V.source.is_honest values.old → IfErr result IsNotDamage }
-    ensures asked { ProbeCount (length moves.now) (is_ok result) (V.source.asked_of values.old) (V.source.asked_of values.new) }
-    ensures failures { V.source.failed_of values.new ≡ failures_of result (V.source.failed_of values.old) }
+    ensures asked { ProbeCount (length moves.now) (is_ok result) (V.source.asked_of values.old)
+        (V.source.asked_of values.new) }
+    ensures failures { V.source.failed_of values.new
+        ≡ failures_of result (V.source.failed_of values.old) }
     ensures honest { V.source.is_honest values.old → V.source.is_honest values.new }
     ensures tables { (c : AClass) → V.source.held values.new c ≡ V.source.held values.old c }
     ensures legal { IfOk result (λ best. IfSome best (λ x. is_legal p.now x.played ≡ true)) }
@@ -86,15 +92,23 @@ pub fn best_move<V: Values>(
     p: &Position,
     values: &mut V,
 ) -> Result<Option<EvaluatedMove>, ProbeFault>
+    // Many clauses: callers use each fact of the probes by itself.
     ensures game { V.source.is_honest values.old → IfOk result (IsBestMove p.now) }
-    ensures best { V.source.is_honest values.old → IfOk result (λ best. IfSome best (IsFirstBestMove p.now)) }
-    ensures none { V.source.is_honest values.old → IfOk result (λ best. IfNone best (HasNoMove p.now)) }
-    ensures untold { IfErr result (IsProbeFaultOf (V.source.held values.old) (map (after p.now) (legal_list p.now))) }
-    ensures told { OnOk result (WereTold V.source values.old (map (after p.now) (legal_list p.now)) values.new) }
-    ensures first { IfErr result (λ f. IsFirstFault V.source values.old (map (after p.now) (legal_list p.now)) f values.new) }
+    ensures best { V.source.is_honest values.old
+        → IfOk result (λ best. IfSome best (IsFirstBestMove p.now)) }
+    ensures none { V.source.is_honest values.old
+        → IfOk result (λ best. IfNone best (HasNoMove p.now)) }
+    ensures untold { IfErr result
+        (IsProbeFaultOf (V.source.held values.old) (map (after p.now) (legal_list p.now))) }
+    ensures told { OnOk result
+        (WereTold V.source values.old (map (after p.now) (legal_list p.now)) values.new) }
+    ensures first { IfErr result (λ f.
+        IsFirstFault V.source values.old (map (after p.now) (legal_list p.now)) f values.new) }
     ensures no_damage { V.source.is_honest values.old → IfErr result IsNotDamage }
-    ensures asked { ProbeCount (length (legal_list p.now)) (is_ok result) (V.source.asked_of values.old) (V.source.asked_of values.new) }
-    ensures failures { V.source.failed_of values.new ≡ failures_of result (V.source.failed_of values.old) }
+    ensures asked { ProbeCount (length (legal_list p.now)) (is_ok result)
+        (V.source.asked_of values.old) (V.source.asked_of values.new) }
+    ensures failures { V.source.failed_of values.new
+        ≡ failures_of result (V.source.failed_of values.old) }
     ensures honest { V.source.is_honest values.old → V.source.is_honest values.new }
     ensures tables { (c : AClass) → V.source.held values.new c ≡ V.source.held values.old c }
     ensures legal { IfOk result (λ best. IfSome best (λ x. is_legal p.now x.played ≡ true)) }
@@ -114,13 +128,16 @@ pub fn play_on<V: Values>(
     requires { array_vec_len list.old + plies ≤ 20 }
     ensures game { V.source.is_honest values.old → OnOk result ((play : List AContinuation)
         × IsBestPlay plies p.now play × (list.new.items ≡ list.old.items ++ play)) }
-    ensures untold { (c : AClass) → IsErrOf result (ProbeFault.NoTable c) → V.source.held values.old c ≡ false }
+    ensures untold { (c : AClass) → IsErrOf result (ProbeFault.NoTable c)
+        → V.source.held values.old c ≡ false }
     ensures told { HasProbed (within p.now V.source) values.old result values.new }
     ensures no_damage { V.source.is_honest values.old → IfErr result IsNotDamage }
-    ensures failures { V.source.failed_of values.new ≡ failures_of result (V.source.failed_of values.old) }
+    ensures failures { V.source.failed_of values.new
+        ≡ failures_of result (V.source.failed_of values.old) }
     ensures honest { V.source.is_honest values.old → V.source.is_honest values.new }
     ensures tables { (c : AClass) → V.source.held values.new c ≡ V.source.held values.old c }
-    ensures legal { OnOk result ((play : List AContinuation) × ArePlayed p.now play × (list.new.items ≡ list.old.items ++ play)) }
+    ensures legal { OnOk result ((play : List AContinuation) × ArePlayed p.now play
+        × (list.new.items ≡ list.old.items ++ play)) }
 {
     if plies == 0 {
         return Ok(());
@@ -142,11 +159,14 @@ pub fn best_play<V: Values>(
     p: &Position,
     values: &mut V,
 ) -> Result<ArrayVec<EvaluatedMove, 20>, ProbeFault>
-    ensures game { V.source.is_honest values.old → IfOk result (λ list. IsBestPlay 20 p.now list.items) }
-    ensures untold { (c : AClass) → IsErrOf result (ProbeFault.NoTable c) → V.source.held values.old c ≡ false }
+    ensures game { V.source.is_honest values.old
+        → IfOk result (λ list. IsBestPlay 20 p.now list.items) }
+    ensures untold { (c : AClass) → IsErrOf result (ProbeFault.NoTable c)
+        → V.source.held values.old c ≡ false }
     ensures told { HasProbed (within p.now V.source) values.old result values.new }
     ensures no_damage { V.source.is_honest values.old → IfErr result IsNotDamage }
-    ensures failures { V.source.failed_of values.new ≡ failures_of result (V.source.failed_of values.old) }
+    ensures failures { V.source.failed_of values.new
+        ≡ failures_of result (V.source.failed_of values.old) }
     ensures honest { V.source.is_honest values.old → V.source.is_honest values.new }
     ensures tables { (c : AClass) → V.source.held values.new c ≡ V.source.held values.old c }
     ensures legal { IfOk result (λ list. ArePlayed p.now list.items) }

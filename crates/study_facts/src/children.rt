@@ -47,7 +47,8 @@ fn add_children<'a, 'b, A: Allocator, B: Allocator>(
     requires short { length steps.now ≤ 256 }
     requires within { place ≤ count }
     requires all { count ≡ children_at (marked bench.now).tree.below steps.now }
-    ensures { OnOk result (moves.new.items ≡ moves.old.items ++ moves_of (skipped place (below_at (marked bench.now).tree.below steps.now))) }
+    ensures { OnOk result (moves.new.items ≡ moves.old.items
+        ++ moves_of (skipped place (below_at (marked bench.now).tree.below steps.now))) }
 {
     if place >= count {
         return Ok(());
@@ -67,7 +68,8 @@ pub fn children_in<'a, 'b, A: Allocator, B: Allocator>(
     bench: &Bench<'b, B>,
     steps: &[u16],
 ) -> Result<Option<Vec<Move, &'a A>>, AllocError>
-    ensures { IfOk result (λ found. MatchOption found (spot_at (marked bench.now).tree steps.now ≡ None)
+    ensures { IfOk result (λ found.
+        MatchOption found (spot_at (marked bench.now).tree steps.now ≡ None)
         (λ moves. moves.items ≡ moves_of (below_at (marked bench.now).tree.below steps.now))) }
 {
     let first = bench.start();

@@ -25,7 +25,8 @@ fn has_no_grandchild<'b, B: Allocator>(bench: &Bench<'b, B>, place: u16, count: 
 
 /// Whether the solution has no move of the hero.
 pub fn is_empty<'b, B: Allocator>(bench: &Bench<'b, B>) -> bool
-    ensures { result ≡ is_empty (aim_of (marked bench.now)).hero_first (marked bench.now).tree.below }
+    ensures { result ≡ is_empty (aim_of (marked bench.now)).hero_first
+        (marked bench.now).tree.below }
 {
     let aim = aim_in(bench);
     let count = child_count(bench, &[]);

@@ -31,7 +31,9 @@ pub fn is_idle(mark: Option<MoveMark>) -> bool
 
 /// Whether a move with this mark is a try: the hero's, and a mistake, or an idle move that the solution leads to, the first on its path.
 pub fn is_try(made: bool, mark: Option<MoveMark>, before: &WalkState) -> bool
-    ensures { result ≡ (made && (is_mistake mark || (is_idle mark && (before.now.solution && before.now.quiet)))) }
+    ensures { result
+        ≡ (made
+        && (is_mistake mark || (is_idle mark && (before.now.solution && before.now.quiet)))) }
 {
     made && (is_mistake(mark) || (is_idle(mark) && before.solution && before.quiet))
 }

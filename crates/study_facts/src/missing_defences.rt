@@ -69,9 +69,15 @@ fn push_defence(
     requires few { length answers.now ≤ MAX_MOVES }
     requires room { array_vec_len list.old < MAX_MOVES }
     ensures items { list.new.items ≡ list.old.items
-        ++ (record { played = x.now.played; value = x.now.value; answers = length answers.now; only = only_move answers.now }) ∷ [] }
+        ++ (record {
+          played = x.now.played;
+          value = x.now.value;
+          answers = length answers.now;
+          only = only_move answers.now;
+        }) ∷ [] }
     ensures len { array_vec_len list.new ≡ array_vec_len list.old + 1 }
-    ensures legal { is_legal p.now x.now.played ≡ true → All (λ y. is_legal (after p.now x.now.played) y.played ≡ true) answers.now
+    ensures legal { is_legal p.now x.now.played ≡ true
+        → All (λ y. is_legal (after p.now x.now.played) y.played ≡ true) answers.now
         → All (IsPlayed p.now) list.old.items → All (IsPlayed p.now) list.new.items }
 {
     list.push(Defence {
@@ -89,17 +95,21 @@ fn push_defences<V: Values>(
     values: &mut V,
     list: &mut ArrayVec<Defence, MAX_MOVES>,
 ) -> Result<(), ProbeFault>
+    // Many clauses: callers use each fact of the probes by itself.
     requires depth { node.now.depth + 2 < 2 ^ 64 }
     requires legal { All (λ x. is_legal node.now.position.now x.played ≡ true) moves.now }
     requires room { array_vec_len list.old + length moves.now ≤ MAX_MOVES }
     requires listed { All (IsPlayed node.now.position.now) list.old.items }
     ensures listed { All (IsPlayed node.now.position.now) list.new.items }
     ensures game { V.source.is_honest values.old → OnOk result ((answered : List ADefence)
-        × AreAnswered node.now.aim.now node.now.depth node.now.position.now moves.now answered × (list.new.items ≡ list.old.items ++ answered)) }
-    ensures untold { (c : AClass) → IsErrOf result (ProbeFault.NoTable c) → V.source.held values.old c ≡ false }
+        × AreAnswered node.now.aim.now node.now.depth node.now.position.now moves.now answered
+        × (list.new.items ≡ list.old.items ++ answered)) }
+    ensures untold { (c : AClass) → IsErrOf result (ProbeFault.NoTable c)
+        → V.source.held values.old c ≡ false }
     ensures told { HasProbed (within node.now.position.now V.source) values.old result values.new }
     ensures no_damage { V.source.is_honest values.old → IfErr result IsNotDamage }
-    ensures failures { V.source.failed_of values.new ≡ failures_of result (V.source.failed_of values.old) }
+    ensures failures { V.source.failed_of values.new
+        ≡ failures_of result (V.source.failed_of values.old) }
     ensures honest { V.source.is_honest values.old → V.source.is_honest values.new }
     ensures tables { (c : AClass) → V.source.held values.new c ≡ V.source.held values.old c }
 {
@@ -133,10 +143,12 @@ pub fn defences<V: Values>(
     requires depth { node.now.depth + 2 < 2 ^ 64 }
     ensures game { V.source.is_honest values.old → IfOk result (λ list. AreDefences
         node.now.aim.now node.now.depth node.now.position.now there.now list.items) }
-    ensures untold { (c : AClass) → IsErrOf result (ProbeFault.NoTable c) → V.source.held values.old c ≡ false }
+    ensures untold { (c : AClass) → IsErrOf result (ProbeFault.NoTable c)
+        → V.source.held values.old c ≡ false }
     ensures told { HasProbed (within node.now.position.now V.source) values.old result values.new }
     ensures no_damage { V.source.is_honest values.old → IfErr result IsNotDamage }
-    ensures failures { V.source.failed_of values.new ≡ failures_of result (V.source.failed_of values.old) }
+    ensures failures { V.source.failed_of values.new
+        ≡ failures_of result (V.source.failed_of values.old) }
     ensures honest { V.source.is_honest values.old → V.source.is_honest values.new }
     ensures tables { (c : AClass) → V.source.held values.new c ≡ V.source.held values.old c }
     ensures legal { IfOk result (λ list. All (IsPlayed node.now.position.now) list.items) }

@@ -29,9 +29,11 @@ fn push_if_wanted(
 )
     requires depth { node.now.depth + 1 < 2 ^ 64 }
     requires room { array_vec_len list.old < MAX_MOVES }
-    ensures items { list.new.items ≡ list.old.items ++ if_wanted (is_wanted wanted node.now.aim.now node.now.depth) m value }
+    ensures items { list.new.items ≡ list.old.items
+        ++ if_wanted (is_wanted wanted node.now.aim.now node.now.depth) m value }
     ensures len { array_vec_len list.new ≤ array_vec_len list.old + 1 }
-    ensures legal { is_legal node.now.position.now m ≡ true → All (λ x. is_legal node.now.position.now x.played ≡ true) list.old.items
+    ensures legal { is_legal node.now.position.now m ≡ true
+        → All (λ x. is_legal node.now.position.now x.played ≡ true) list.old.items
         → All (λ x. is_legal node.now.position.now x.played ≡ true) list.new.items }
 {
     if is_wanted(wanted, node.aim, node.depth, value) {
@@ -47,19 +49,30 @@ fn push_wanted<V: Values>(
     values: &mut V,
     list: &mut ArrayVec<EvaluatedMove, MAX_MOVES>,
 ) -> Result<(), ProbeFault>
+    // Many clauses: callers use each fact of the probes by itself.
     requires depth { node.now.depth + 1 < 2 ^ 64 }
     requires legal { All (λ m. is_legal node.now.position.now m ≡ true) moves.now }
     requires room { array_vec_len list.old + length moves.now ≤ MAX_MOVES }
     requires listed { All (λ x. is_legal node.now.position.now x.played ≡ true) list.old.items }
     ensures listed { All (λ x. is_legal node.now.position.now x.played ≡ true) list.new.items }
-    ensures game { V.source.is_honest values.old → OnOk result ((all : List AValue) × AreValuesAfter node.now.position.now moves.now all
-        × (list.new.items ≡ list.old.items ++ wanted_moves (is_wanted wanted node.now.aim.now node.now.depth) moves.now all)) }
-    ensures untold { IfErr result (IsProbeFaultOf (V.source.held values.old) (positions_after node.now.position.now moves.now)) }
-    ensures told { OnOk result (WereTold V.source values.old (positions_after node.now.position.now moves.now) values.new) }
-    ensures first { IfErr result (λ f. IsFirstFault V.source values.old (positions_after node.now.position.now moves.now) f values.new) }
+    ensures game { V.source.is_honest values.old
+        → OnOk result ((all : List AValue) × AreValuesAfter node.now.position.now moves.now all
+        × (list.new.items ≡ list.old.items
+        ++ wanted_moves (is_wanted wanted node.now.aim.now node.now.depth) moves.now all)) }
+    ensures untold { IfErr result
+        (IsProbeFaultOf (V.source.held values.old)
+        (positions_after node.now.position.now moves.now)) }
+    ensures told { OnOk result
+        (WereTold V.source values.old
+        (positions_after node.now.position.now moves.now) values.new) }
+    ensures first { IfErr result (λ f.
+        IsFirstFault V.source values.old
+        (positions_after node.now.position.now moves.now) f values.new) }
     ensures no_damage { V.source.is_honest values.old → IfErr result IsNotDamage }
-    ensures asked { ProbeCount (length moves.now) (is_ok result) (V.source.asked_of values.old) (V.source.asked_of values.new) }
-    ensures failures { V.source.failed_of values.new ≡ failures_of result (V.source.failed_of values.old) }
+    ensures asked { ProbeCount (length moves.now) (is_ok result) (V.source.asked_of values.old)
+        (V.source.asked_of values.new) }
+    ensures failures { V.source.failed_of values.new
+        ≡ failures_of result (V.source.failed_of values.old) }
     ensures honest { V.source.is_honest values.old → V.source.is_honest values.new }
     ensures tables { (c : AClass) → V.source.held values.new c ≡ V.source.held values.old c }
 {
@@ -85,20 +98,31 @@ fn wanted_moves<V: Values>(
     moves: &[Move],
     values: &mut V,
 ) -> Result<ArrayVec<EvaluatedMove, MAX_MOVES>, ProbeFault>
+    // Many clauses: callers use each fact of the probes by itself.
     requires depth { node.now.depth + 1 < 2 ^ 64 }
     requires legal { All (λ m. is_legal node.now.position.now m ≡ true) moves.now }
     requires room { length moves.now ≤ MAX_MOVES }
     ensures game { V.source.is_honest values.old → IfOk result (λ list. AreChosen
-        (is_wanted wanted node.now.aim.now node.now.depth) node.now.position.now moves.now list.items) }
-    ensures untold { IfErr result (IsProbeFaultOf (V.source.held values.old) (positions_after node.now.position.now moves.now)) }
-    ensures told { OnOk result (WereTold V.source values.old (positions_after node.now.position.now moves.now) values.new) }
-    ensures first { IfErr result (λ f. IsFirstFault V.source values.old (positions_after node.now.position.now moves.now) f values.new) }
+        (is_wanted wanted node.now.aim.now node.now.depth)
+        node.now.position.now moves.now list.items) }
+    ensures untold { IfErr result
+        (IsProbeFaultOf (V.source.held values.old)
+        (positions_after node.now.position.now moves.now)) }
+    ensures told { OnOk result
+        (WereTold V.source values.old
+        (positions_after node.now.position.now moves.now) values.new) }
+    ensures first { IfErr result (λ f.
+        IsFirstFault V.source values.old
+        (positions_after node.now.position.now moves.now) f values.new) }
     ensures no_damage { V.source.is_honest values.old → IfErr result IsNotDamage }
-    ensures asked { ProbeCount (length moves.now) (is_ok result) (V.source.asked_of values.old) (V.source.asked_of values.new) }
-    ensures failures { V.source.failed_of values.new ≡ failures_of result (V.source.failed_of values.old) }
+    ensures asked { ProbeCount (length moves.now) (is_ok result) (V.source.asked_of values.old)
+        (V.source.asked_of values.new) }
+    ensures failures { V.source.failed_of values.new
+        ≡ failures_of result (V.source.failed_of values.old) }
     ensures honest { V.source.is_honest values.old → V.source.is_honest values.new }
     ensures tables { (c : AClass) → V.source.held values.new c ≡ V.source.held values.old c }
-    ensures legal { IfOk result (λ list. All (λ x. is_legal node.now.position.now x.played ≡ true) list.items) }
+    ensures legal { IfOk result (λ list.
+        All (λ x. is_legal node.now.position.now x.played ≡ true) list.items) }
 {
     let mut list = ArrayVec::new();
     match push_wanted(node, wanted, moves, values, &mut list) {
@@ -112,19 +136,27 @@ pub fn holding_moves<V: Values>(
     node: &NodeContext<'_>,
     values: &mut V,
 ) -> Result<ArrayVec<EvaluatedMove, MAX_MOVES>, ProbeFault>
+    // Many clauses: callers use each fact of the probes by itself.
     requires depth { node.now.depth + 1 < 2 ^ 64 }
-    ensures game { V.source.is_honest values.old → IfOk result (λ list. AreHoldingMoves node.now.aim.now node.now.depth node.now.position.now list.items) }
-    ensures untold { IfErr result (IsProbeFaultOf (V.source.held values.old) (positions_after node.now.position.now (legal_list node.now.position.now))) }
+    ensures game { V.source.is_honest values.old
+        → IfOk result (λ list.
+        AreHoldingMoves node.now.aim.now node.now.depth node.now.position.now list.items) }
+    ensures untold { IfErr result
+        (IsProbeFaultOf (V.source.held values.old)
+        (positions_after node.now.position.now (legal_list node.now.position.now))) }
     ensures told { OnOk result (WereTold V.source values.old
         (positions_after node.now.position.now (legal_list node.now.position.now)) values.new) }
     ensures first { IfErr result (λ f. IsFirstFault V.source values.old
         (positions_after node.now.position.now (legal_list node.now.position.now)) f values.new) }
     ensures no_damage { V.source.is_honest values.old → IfErr result IsNotDamage }
-    ensures asked { ProbeCount (length (legal_list node.now.position.now)) (is_ok result) (V.source.asked_of values.old) (V.source.asked_of values.new) }
-    ensures failures { V.source.failed_of values.new ≡ failures_of result (V.source.failed_of values.old) }
+    ensures asked { ProbeCount (length (legal_list node.now.position.now)) (is_ok result)
+        (V.source.asked_of values.old) (V.source.asked_of values.new) }
+    ensures failures { V.source.failed_of values.new
+        ≡ failures_of result (V.source.failed_of values.old) }
     ensures honest { V.source.is_honest values.old → V.source.is_honest values.new }
     ensures tables { (c : AClass) → V.source.held values.new c ≡ V.source.held values.old c }
-    ensures legal { IfOk result (λ list. All (λ x. is_legal node.now.position.now x.played ≡ true) list.items) }
+    ensures legal { IfOk result (λ list.
+        All (λ x. is_legal node.now.position.now x.played ≡ true) list.items) }
 {
     let moves = legal_moves(node.position);
     wanted_moves(node, MoveFilter::Holding, moves.as_slice(), values)
@@ -136,19 +168,27 @@ pub fn refutations<V: Values>(
     node: &NodeContext<'_>,
     values: &mut V,
 ) -> Result<ArrayVec<EvaluatedMove, MAX_MOVES>, ProbeFault>
+    // Many clauses: callers use each fact of the probes by itself.
     requires depth { node.now.depth + 1 < 2 ^ 64 }
-    ensures game { V.source.is_honest values.old → IfOk result (λ list. AreRefutations node.now.aim.now node.now.depth node.now.position.now list.items) }
-    ensures untold { IfErr result (IsProbeFaultOf (V.source.held values.old) (positions_after node.now.position.now (legal_list node.now.position.now))) }
+    ensures game { V.source.is_honest values.old
+        → IfOk result (λ list.
+        AreRefutations node.now.aim.now node.now.depth node.now.position.now list.items) }
+    ensures untold { IfErr result
+        (IsProbeFaultOf (V.source.held values.old)
+        (positions_after node.now.position.now (legal_list node.now.position.now))) }
     ensures told { OnOk result (WereTold V.source values.old
         (positions_after node.now.position.now (legal_list node.now.position.now)) values.new) }
     ensures first { IfErr result (λ f. IsFirstFault V.source values.old
         (positions_after node.now.position.now (legal_list node.now.position.now)) f values.new) }
     ensures no_damage { V.source.is_honest values.old → IfErr result IsNotDamage }
-    ensures asked { ProbeCount (length (legal_list node.now.position.now)) (is_ok result) (V.source.asked_of values.old) (V.source.asked_of values.new) }
-    ensures failures { V.source.failed_of values.new ≡ failures_of result (V.source.failed_of values.old) }
+    ensures asked { ProbeCount (length (legal_list node.now.position.now)) (is_ok result)
+        (V.source.asked_of values.old) (V.source.asked_of values.new) }
+    ensures failures { V.source.failed_of values.new
+        ≡ failures_of result (V.source.failed_of values.old) }
     ensures honest { V.source.is_honest values.old → V.source.is_honest values.new }
     ensures tables { (c : AClass) → V.source.held values.new c ≡ V.source.held values.old c }
-    ensures legal { IfOk result (λ list. All (λ x. is_legal node.now.position.now x.played ≡ true) list.items) }
+    ensures legal { IfOk result (λ list.
+        All (λ x. is_legal node.now.position.now x.played ≡ true) list.items) }
 {
     let moves = legal_moves(node.position);
     wanted_moves(node, MoveFilter::Failing, moves.as_slice(), values)
@@ -160,19 +200,26 @@ pub fn drawing_moves<V: Values>(
     node: &NodeContext<'_>,
     values: &mut V,
 ) -> Result<ArrayVec<EvaluatedMove, MAX_MOVES>, ProbeFault>
+    // Many clauses: callers use each fact of the probes by itself.
     requires depth { node.now.depth + 1 < 2 ^ 64 }
-    ensures game { V.source.is_honest values.old → IfOk result (λ list. AreDrawingMoves node.now.position.now list.items) }
-    ensures untold { IfErr result (IsProbeFaultOf (V.source.held values.old) (positions_after node.now.position.now (legal_list node.now.position.now))) }
+    ensures game { V.source.is_honest values.old
+        → IfOk result (λ list. AreDrawingMoves node.now.position.now list.items) }
+    ensures untold { IfErr result
+        (IsProbeFaultOf (V.source.held values.old)
+        (positions_after node.now.position.now (legal_list node.now.position.now))) }
     ensures told { OnOk result (WereTold V.source values.old
         (positions_after node.now.position.now (legal_list node.now.position.now)) values.new) }
     ensures first { IfErr result (λ f. IsFirstFault V.source values.old
         (positions_after node.now.position.now (legal_list node.now.position.now)) f values.new) }
     ensures no_damage { V.source.is_honest values.old → IfErr result IsNotDamage }
-    ensures asked { ProbeCount (length (legal_list node.now.position.now)) (is_ok result) (V.source.asked_of values.old) (V.source.asked_of values.new) }
-    ensures failures { V.source.failed_of values.new ≡ failures_of result (V.source.failed_of values.old) }
+    ensures asked { ProbeCount (length (legal_list node.now.position.now)) (is_ok result)
+        (V.source.asked_of values.old) (V.source.asked_of values.new) }
+    ensures failures { V.source.failed_of values.new
+        ≡ failures_of result (V.source.failed_of values.old) }
     ensures honest { V.source.is_honest values.old → V.source.is_honest values.new }
     ensures tables { (c : AClass) → V.source.held values.new c ≡ V.source.held values.old c }
-    ensures legal { IfOk result (λ list. All (λ x. is_legal node.now.position.now x.played ≡ true) list.items) }
+    ensures legal { IfOk result (λ list.
+        All (λ x. is_legal node.now.position.now x.played ≡ true) list.items) }
 {
     let moves = legal_moves(node.position);
     wanted_moves(node, MoveFilter::Drawing, moves.as_slice(), values)
@@ -184,21 +231,29 @@ pub fn alternatives<V: Values>(
     m: Move,
     values: &mut V,
 ) -> Result<ArrayVec<EvaluatedMove, MAX_MOVES>, ProbeFault>
+    // Many clauses: callers use each fact of the probes by itself.
     requires depth { node.now.depth + 1 < 2 ^ 64 }
-    ensures game { V.source.is_honest values.old → IfOk result (λ list. AreAlternatives node.now.aim.now node.now.depth node.now.position.now m list.items) }
+    ensures game { V.source.is_honest values.old
+        → IfOk result (λ list.
+        AreAlternatives node.now.aim.now node.now.depth node.now.position.now m list.items) }
     ensures untold { IfErr result (IsProbeFaultOf (V.source.held values.old)
         (positions_after node.now.position.now (moves_except (m ∷ []) node.now.position.now))) }
     ensures told { OnOk result (WereTold V.source values.old
-        (positions_after node.now.position.now (moves_except (m ∷ []) node.now.position.now)) values.new) }
+        (positions_after node.now.position.now
+        (moves_except (m ∷ []) node.now.position.now)) values.new) }
     ensures first { IfErr result (λ f. IsFirstFault V.source values.old
-        (positions_after node.now.position.now (moves_except (m ∷ []) node.now.position.now)) f values.new) }
+        (positions_after node.now.position.now
+        (moves_except (m ∷ []) node.now.position.now)) f values.new) }
     ensures no_damage { V.source.is_honest values.old → IfErr result IsNotDamage }
-    ensures asked { ProbeCount (length (moves_except (m ∷ []) node.now.position.now)) (is_ok result) (V.source.asked_of values.old)
+    ensures asked { ProbeCount (length (moves_except (m ∷ []) node.now.position.now)) (is_ok result)
+        (V.source.asked_of values.old)
         (V.source.asked_of values.new) }
-    ensures failures { V.source.failed_of values.new ≡ failures_of result (V.source.failed_of values.old) }
+    ensures failures { V.source.failed_of values.new
+        ≡ failures_of result (V.source.failed_of values.old) }
     ensures honest { V.source.is_honest values.old → V.source.is_honest values.new }
     ensures tables { (c : AClass) → V.source.held values.new c ≡ V.source.held values.old c }
-    ensures legal { IfOk result (λ list. All (λ x. is_legal node.now.position.now x.played ≡ true) list.items) }
+    ensures legal { IfOk result (λ list.
+        All (λ x. is_legal node.now.position.now x.played ≡ true) list.items) }
 {
     let moves = moves_except(node.position, &[m]);
     wanted_moves(node, MoveFilter::Holding, moves.as_slice(), values)
@@ -210,21 +265,28 @@ pub fn missing_moves<V: Values>(
     there: &[Move],
     values: &mut V,
 ) -> Result<ArrayVec<EvaluatedMove, MAX_MOVES>, ProbeFault>
+    // Many clauses: callers use each fact of the probes by itself.
     requires depth { node.now.depth + 1 < 2 ^ 64 }
-    ensures game { V.source.is_honest values.old → IfOk result (λ list. AreMissing node.now.position.now there.now list.items) }
+    ensures game { V.source.is_honest values.old
+        → IfOk result (λ list. AreMissing node.now.position.now there.now list.items) }
     ensures untold { IfErr result (IsProbeFaultOf (V.source.held values.old)
         (positions_after node.now.position.now (moves_except there.now node.now.position.now))) }
     ensures told { OnOk result (WereTold V.source values.old
-        (positions_after node.now.position.now (moves_except there.now node.now.position.now)) values.new) }
+        (positions_after node.now.position.now
+        (moves_except there.now node.now.position.now)) values.new) }
     ensures first { IfErr result (λ f. IsFirstFault V.source values.old
-        (positions_after node.now.position.now (moves_except there.now node.now.position.now)) f values.new) }
+        (positions_after node.now.position.now
+        (moves_except there.now node.now.position.now)) f values.new) }
     ensures no_damage { V.source.is_honest values.old → IfErr result IsNotDamage }
-    ensures asked { ProbeCount (length (moves_except there.now node.now.position.now)) (is_ok result) (V.source.asked_of values.old)
+    ensures asked { ProbeCount (length (moves_except there.now node.now.position.now))
+        (is_ok result) (V.source.asked_of values.old)
         (V.source.asked_of values.new) }
-    ensures failures { V.source.failed_of values.new ≡ failures_of result (V.source.failed_of values.old) }
+    ensures failures { V.source.failed_of values.new
+        ≡ failures_of result (V.source.failed_of values.old) }
     ensures honest { V.source.is_honest values.old → V.source.is_honest values.new }
     ensures tables { (c : AClass) → V.source.held values.new c ≡ V.source.held values.old c }
-    ensures legal { IfOk result (λ list. All (λ x. is_legal node.now.position.now x.played ≡ true) list.items) }
+    ensures legal { IfOk result (λ list.
+        All (λ x. is_legal node.now.position.now x.played ≡ true) list.items) }
 {
     let moves = moves_except(node.position, there);
     wanted_moves(node, MoveFilter::All, moves.as_slice(), values)

@@ -52,10 +52,12 @@ fn is_near_history(line: &[Position], q: &Position) -> bool
 /// Whether the side to move is mated.
 fn is_lost<V: Values>(q: &Position, values: &mut V) -> Result<bool, ProbeFault>
     ensures game { V.source.is_honest values.old → IfOk result (λ b. (b ≡ true) ↔ HasLost q.now) }
-    ensures untold { (c : AClass) → IsErrOf result (ProbeFault.NoTable c) → V.source.held values.old c ≡ false }
+    ensures untold { (c : AClass) → IsErrOf result (ProbeFault.NoTable c)
+        → V.source.held values.old c ≡ false }
     ensures told { HasProbed (within q.now V.source) values.old result values.new }
     ensures no_damage { V.source.is_honest values.old → IfErr result IsNotDamage }
-    ensures failures { V.source.failed_of values.new ≡ failures_of result (V.source.failed_of values.old) }
+    ensures failures { V.source.failed_of values.new
+        ≡ failures_of result (V.source.failed_of values.old) }
     ensures honest { V.source.is_honest values.old → V.source.is_honest values.new }
     ensures tables { (c : AClass) → V.source.held values.new c ≡ V.source.held values.old c }
 {
@@ -80,11 +82,14 @@ fn all_wins_repeat<V: Values>(
 ) -> Result<bool, ProbeFault>
     requires legal { All (λ m. is_legal r.now m ≡ true) moves.now }
     requires few { length moves.now ≤ MAX_MOVES }
-    ensures game { V.source.is_honest values.old → IfOk result (λ b. (b ≡ true) ↔ AllWinsRepeat line.now m r.now won moves.now) }
-    ensures untold { (c : AClass) → IsErrOf result (ProbeFault.NoTable c) → V.source.held values.old c ≡ false }
+    ensures game { V.source.is_honest values.old
+        → IfOk result (λ b. (b ≡ true) ↔ AllWinsRepeat line.now m r.now won moves.now) }
+    ensures untold { (c : AClass) → IsErrOf result (ProbeFault.NoTable c)
+        → V.source.held values.old c ≡ false }
     ensures told { HasProbed (within r.now V.source) values.old result values.new }
     ensures no_damage { V.source.is_honest values.old → IfErr result IsNotDamage }
-    ensures failures { V.source.failed_of values.new ≡ failures_of result (V.source.failed_of values.old) }
+    ensures failures { V.source.failed_of values.new
+        ≡ failures_of result (V.source.failed_of values.old) }
     ensures honest { V.source.is_honest values.old → V.source.is_honest values.new }
     ensures tables { (c : AClass) → V.source.held values.new c ≡ V.source.held values.old c }
 {
@@ -113,11 +118,14 @@ fn must_repeat<V: Values>(
     r: &Position,
     values: &mut V,
 ) -> Result<bool, ProbeFault>
-    ensures game { V.source.is_honest values.old → IfOk result (λ b. (b ≡ true) ↔ MustRepeat line.now m r.now) }
-    ensures untold { (c : AClass) → IsErrOf result (ProbeFault.NoTable c) → V.source.held values.old c ≡ false }
+    ensures game { V.source.is_honest values.old
+        → IfOk result (λ b. (b ≡ true) ↔ MustRepeat line.now m r.now) }
+    ensures untold { (c : AClass) → IsErrOf result (ProbeFault.NoTable c)
+        → V.source.held values.old c ≡ false }
     ensures told { HasProbed (within r.now V.source) values.old result values.new }
     ensures no_damage { V.source.is_honest values.old → IfErr result IsNotDamage }
-    ensures failures { V.source.failed_of values.new ≡ failures_of result (V.source.failed_of values.old) }
+    ensures failures { V.source.failed_of values.new
+        ≡ failures_of result (V.source.failed_of values.old) }
     ensures honest { V.source.is_honest values.old → V.source.is_honest values.new }
     ensures tables { (c : AClass) → V.source.held values.new c ≡ V.source.held values.old c }
 {
@@ -138,10 +146,12 @@ fn can_force_repetition<V: Values>(
     requires few { length moves.now ≤ MAX_MOVES }
     ensures game { V.source.is_honest values.old → IfOk result (λ b. (b ≡ true)
         ↔ SomeLeads (MustRepeat line.now m) q.now moves.now) }
-    ensures untold { (c : AClass) → IsErrOf result (ProbeFault.NoTable c) → V.source.held values.old c ≡ false }
+    ensures untold { (c : AClass) → IsErrOf result (ProbeFault.NoTable c)
+        → V.source.held values.old c ≡ false }
     ensures told { HasProbed (within q.now V.source) values.old result values.new }
     ensures no_damage { V.source.is_honest values.old → IfErr result IsNotDamage }
-    ensures failures { V.source.failed_of values.new ≡ failures_of result (V.source.failed_of values.old) }
+    ensures failures { V.source.failed_of values.new
+        ≡ failures_of result (V.source.failed_of values.old) }
     ensures honest { V.source.is_honest values.old → V.source.is_honest values.new }
     ensures tables { (c : AClass) → V.source.held values.new c ≡ V.source.held values.old c }
 {
@@ -166,12 +176,15 @@ pub fn is_repeatable_within<V: Values>(
     q: &Position,
     values: &mut V,
 ) -> Result<bool, ProbeFault>
-    ensures game { V.source.is_honest values.old → IfOk result (λ b. (b ≡ true) ↔ IsRepeatableWithin line.now m q.now) }
+    ensures game { V.source.is_honest values.old
+        → IfOk result (λ b. (b ≡ true) ↔ IsRepeatableWithin line.now m q.now) }
     ensures none_asked { m ≡ 0 → V.source.asked_of values.new ≡ V.source.asked_of values.old }
-    ensures untold { (c : AClass) → IsErrOf result (ProbeFault.NoTable c) → V.source.held values.old c ≡ false }
+    ensures untold { (c : AClass) → IsErrOf result (ProbeFault.NoTable c)
+        → V.source.held values.old c ≡ false }
     ensures told { HasProbed (within q.now V.source) values.old result values.new }
     ensures no_damage { V.source.is_honest values.old → IfErr result IsNotDamage }
-    ensures failures { V.source.failed_of values.new ≡ failures_of result (V.source.failed_of values.old) }
+    ensures failures { V.source.failed_of values.new
+        ≡ failures_of result (V.source.failed_of values.old) }
     ensures honest { V.source.is_honest values.old → V.source.is_honest values.new }
     ensures tables { (c : AClass) → V.source.held values.new c ≡ V.source.held values.old c }
 {
@@ -192,10 +205,12 @@ pub fn waste_of_time<V: Values>(
     values: &mut V,
 ) -> Result<Option<u8>, ProbeFault>
     ensures game { V.source.is_honest values.old → IfOk result (IsWasteOfTime line.now q.now) }
-    ensures untold { (c : AClass) → IsErrOf result (ProbeFault.NoTable c) → V.source.held values.old c ≡ false }
+    ensures untold { (c : AClass) → IsErrOf result (ProbeFault.NoTable c)
+        → V.source.held values.old c ≡ false }
     ensures told { HasProbed (within q.now V.source) values.old result values.new }
     ensures no_damage { V.source.is_honest values.old → IfErr result IsNotDamage }
-    ensures failures { V.source.failed_of values.new ≡ failures_of result (V.source.failed_of values.old) }
+    ensures failures { V.source.failed_of values.new
+        ≡ failures_of result (V.source.failed_of values.old) }
     ensures honest { V.source.is_honest values.old → V.source.is_honest values.new }
     ensures tables { (c : AClass) → V.source.held values.new c ≡ V.source.held values.old c }
 {

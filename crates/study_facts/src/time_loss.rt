@@ -59,10 +59,12 @@ pub fn waste_of_time_for_goal<V: Values>(
     values: &mut V,
 ) -> Result<Option<u8>, ProbeFault>
     ensures game { V.source.is_honest values.old → IfOk result (IsTimeTold goal line.now q.now) }
-    ensures untold { (c : AClass) → IsErrOf result (ProbeFault.NoTable c) → V.source.held values.old c ≡ false }
+    ensures untold { (c : AClass) → IsErrOf result (ProbeFault.NoTable c)
+        → V.source.held values.old c ≡ false }
     ensures told { HasProbed (within q.now V.source) values.old result values.new }
     ensures no_damage { V.source.is_honest values.old → IfErr result IsNotDamage }
-    ensures failures { V.source.failed_of values.new ≡ failures_of result (V.source.failed_of values.old) }
+    ensures failures { V.source.failed_of values.new
+        ≡ failures_of result (V.source.failed_of values.old) }
     ensures honest { V.source.is_honest values.old → V.source.is_honest values.new }
     ensures tables { (c : AClass) → V.source.held values.new c ≡ V.source.held values.old c }
 {
@@ -81,9 +83,11 @@ fn push_timed(
     list: &mut ArrayVec<Alternative, MAX_MOVES>,
 )
     requires { array_vec_len list.old < MAX_MOVES }
-    ensures items { list.new.items ≡ list.old.items ++ (record { played = x.now.played; value = x.now.value; time = time }) ∷ [] }
+    ensures items { list.new.items ≡ list.old.items
+        ++ (record { played = x.now.played; value = x.now.value; time = time }) ∷ [] }
     ensures len { array_vec_len list.new ≡ array_vec_len list.old + 1 }
-    ensures legal { is_legal place.now.position x.now.played ≡ true → All (λ y. is_legal place.now.position y.played ≡ true) list.old.items
+    ensures legal { is_legal place.now.position x.now.played ≡ true
+        → All (λ y. is_legal place.now.position y.played ≡ true) list.old.items
         → All (λ y. is_legal place.now.position y.played ≡ true) list.new.items }
 {
     list.push(Alternative {
@@ -100,16 +104,20 @@ fn time_each<V: Values>(
     values: &mut V,
     list: &mut ArrayVec<Alternative, MAX_MOVES>,
 ) -> Result<(), ProbeFault>
+    // Many clauses: callers use each fact of the probes by itself.
     requires legal { All (λ x. is_legal place.now.position x.played ≡ true) moves.now }
     requires room { array_vec_len list.old + length moves.now ≤ MAX_MOVES }
     requires listed { All (λ y. is_legal place.now.position y.played ≡ true) list.old.items }
     ensures listed { All (λ y. is_legal place.now.position y.played ≡ true) list.new.items }
     ensures game { V.source.is_honest values.old → OnOk result ((timed : List AnAlternative)
-        × AreTimed place.now.aim.goal place.now.line.items place.now.position moves.now timed × (list.new.items ≡ list.old.items ++ timed)) }
-    ensures untold { (c : AClass) → IsErrOf result (ProbeFault.NoTable c) → V.source.held values.old c ≡ false }
+        × AreTimed place.now.aim.goal place.now.line.items place.now.position moves.now timed
+        × (list.new.items ≡ list.old.items ++ timed)) }
+    ensures untold { (c : AClass) → IsErrOf result (ProbeFault.NoTable c)
+        → V.source.held values.old c ≡ false }
     ensures told { HasProbed (within place.now.position V.source) values.old result values.new }
     ensures no_damage { V.source.is_honest values.old → IfErr result IsNotDamage }
-    ensures failures { V.source.failed_of values.new ≡ failures_of result (V.source.failed_of values.old) }
+    ensures failures { V.source.failed_of values.new
+        ≡ failures_of result (V.source.failed_of values.old) }
     ensures honest { V.source.is_honest values.old → V.source.is_honest values.new }
     ensures tables { (c : AClass) → V.source.held values.new c ≡ V.source.held values.old c }
 {
@@ -138,13 +146,16 @@ pub fn timed_alternatives<V: Values>(
     requires depth { place.now.depth + 1 < 2 ^ 64 }
     ensures game { V.source.is_honest values.old → IfOk result (λ list. AreTimedAlternatives
         place.now.aim place.now.depth place.now.line.items place.now.position m list.items) }
-    ensures untold { (c : AClass) → IsErrOf result (ProbeFault.NoTable c) → V.source.held values.old c ≡ false }
+    ensures untold { (c : AClass) → IsErrOf result (ProbeFault.NoTable c)
+        → V.source.held values.old c ≡ false }
     ensures told { HasProbed (within place.now.position V.source) values.old result values.new }
     ensures no_damage { V.source.is_honest values.old → IfErr result IsNotDamage }
-    ensures failures { V.source.failed_of values.new ≡ failures_of result (V.source.failed_of values.old) }
+    ensures failures { V.source.failed_of values.new
+        ≡ failures_of result (V.source.failed_of values.old) }
     ensures honest { V.source.is_honest values.old → V.source.is_honest values.new }
     ensures tables { (c : AClass) → V.source.held values.new c ≡ V.source.held values.old c }
-    ensures legal { IfOk result (λ list. All (λ y. is_legal place.now.position y.played ≡ true) list.items) }
+    ensures legal { IfOk result (λ list.
+        All (λ y. is_legal place.now.position y.played ≡ true) list.items) }
 {
     let node = NodeContext {
         aim: &place.aim,

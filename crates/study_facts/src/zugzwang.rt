@@ -28,10 +28,12 @@ pub enum Zugzwang {
 fn score<V: Values>(q: &Position, values: &mut V) -> Result<u8, ProbeFault>
     ensures game { V.source.is_honest values.old → IfOk result (Scores q.now) }
     ensures few { IfOk result (λ k. k < 3) }
-    ensures untold { (c : AClass) → IsErrOf result (ProbeFault.NoTable c) → V.source.held values.old c ≡ false }
+    ensures untold { (c : AClass) → IsErrOf result (ProbeFault.NoTable c)
+        → V.source.held values.old c ≡ false }
     ensures told { HasProbed (within q.now V.source) values.old result values.new }
     ensures no_damage { V.source.is_honest values.old → IfErr result IsNotDamage }
-    ensures failures { V.source.failed_of values.new ≡ failures_of result (V.source.failed_of values.old) }
+    ensures failures { V.source.failed_of values.new
+        ≡ failures_of result (V.source.failed_of values.old) }
     ensures honest { V.source.is_honest values.old → V.source.is_honest values.new }
     ensures tables { (c : AClass) → V.source.held values.new c ≡ V.source.held values.old c }
 {
@@ -65,14 +67,18 @@ fn kind_beside<V: Values>(
     q: &Position,
     values: &mut V,
 ) -> Result<Option<Zugzwang>, ProbeFault>
+    // Many clauses: callers use each fact of the probes by itself.
     requires passed { has_legal_en_passant p.now ≡ false }
     requires other { q.now ≡ handed_on p.now }
     requires few { here < 3 }
-    ensures game { Scores p.now here → V.source.is_honest values.old → IfOk result (IsZugzwangOf p.now) }
-    ensures untold { (c : AClass) → IsErrOf result (ProbeFault.NoTable c) → V.source.held values.old c ≡ false }
+    ensures game { Scores p.now here → V.source.is_honest values.old
+        → IfOk result (IsZugzwangOf p.now) }
+    ensures untold { (c : AClass) → IsErrOf result (ProbeFault.NoTable c)
+        → V.source.held values.old c ≡ false }
     ensures told { HasProbed (within p.now V.source) values.old result values.new }
     ensures no_damage { V.source.is_honest values.old → IfErr result IsNotDamage }
-    ensures failures { V.source.failed_of values.new ≡ failures_of result (V.source.failed_of values.old) }
+    ensures failures { V.source.failed_of values.new
+        ≡ failures_of result (V.source.failed_of values.old) }
     ensures honest { V.source.is_honest values.old → V.source.is_honest values.new }
     ensures tables { (c : AClass) → V.source.held values.new c ≡ V.source.held values.old c }
 {
@@ -94,10 +100,12 @@ fn zugzwang_of<V: Values>(
     requires passed { has_legal_en_passant p.now ≡ false }
     requires other { q.now ≡ handed_on p.now }
     ensures game { V.source.is_honest values.old → IfOk result (IsZugzwangOf p.now) }
-    ensures untold { (c : AClass) → IsErrOf result (ProbeFault.NoTable c) → V.source.held values.old c ≡ false }
+    ensures untold { (c : AClass) → IsErrOf result (ProbeFault.NoTable c)
+        → V.source.held values.old c ≡ false }
     ensures told { HasProbed (within p.now V.source) values.old result values.new }
     ensures no_damage { V.source.is_honest values.old → IfErr result IsNotDamage }
-    ensures failures { V.source.failed_of values.new ≡ failures_of result (V.source.failed_of values.old) }
+    ensures failures { V.source.failed_of values.new
+        ≡ failures_of result (V.source.failed_of values.old) }
     ensures honest { V.source.is_honest values.old → V.source.is_honest values.new }
     ensures tables { (c : AClass) → V.source.held values.new c ≡ V.source.held values.old c }
 {
@@ -110,10 +118,12 @@ fn zugzwang_of<V: Values>(
 /// The kind of mutual zugzwang that the position is, whoever is to move; `None` if it is not one.
 pub fn zugzwang_at<V: Values>(p: &Position, values: &mut V) -> Result<Option<Zugzwang>, ProbeFault>
     ensures game { V.source.is_honest values.old → IfOk result (IsZugzwangOf p.now) }
-    ensures untold { (c : AClass) → IsErrOf result (ProbeFault.NoTable c) → V.source.held values.old c ≡ false }
+    ensures untold { (c : AClass) → IsErrOf result (ProbeFault.NoTable c)
+        → V.source.held values.old c ≡ false }
     ensures told { HasProbed (within p.now V.source) values.old result values.new }
     ensures no_damage { V.source.is_honest values.old → IfErr result IsNotDamage }
-    ensures failures { V.source.failed_of values.new ≡ failures_of result (V.source.failed_of values.old) }
+    ensures failures { V.source.failed_of values.new
+        ≡ failures_of result (V.source.failed_of values.old) }
     ensures honest { V.source.is_honest values.old → V.source.is_honest values.new }
     ensures tables { (c : AClass) → V.source.held values.new c ≡ V.source.held values.old c }
 {

@@ -132,7 +132,9 @@ impl<'a, A: Allocator> Gathering<'a, A> {
 
     /// Adds bytes to those of the current game, unless they are too many.
     fn add_bytes(&mut self, line: &[u8]) -> Result<(), AllocError>
-        ensures { IfSome self.old.begun (λ g. OnOk result (self.new ≡ record { next = self.old.next; begun = Some (with_text g line.now) })) }
+        ensures { IfSome self.old.begun (λ g.
+            OnOk result (self.new
+            ≡ record { next = self.old.next; begun = Some (with_text g line.now) })) }
     {
         if self.is_too_large {
             return Ok(());
@@ -148,7 +150,9 @@ impl<'a, A: Allocator> Gathering<'a, A> {
     /// Adds a line to the current game.
     fn extend(&mut self, line: &[u8], kind: LineKind) -> Result<(), AllocError>
         ensures { IfSome self.old.begun
-            (λ g. OnOk result (self.new ≡ record { next = one_more self.old.next; begun = Some (with_line g line.now kind) })) }
+            (λ g.
+            OnOk result (self.new
+            ≡ record { next = one_more self.old.next; begun = Some (with_line g line.now kind) })) }
     {
         self.add_bytes(line)?;
         self.seen = seen_then(self.seen, kind);

@@ -26,7 +26,8 @@ fn put_title<'a, 'b, A: Allocator, B: Allocator>(
     bench: &Bench<'b, B>,
 ) -> Result<(), AllocError>
     ensures { OnOk result (html.new ≡ html.old
-        ++ inside Element.Title (said (title_words (known (tag_of (marked bench.now).tags tag.Event))))) }
+        ++ inside Element.Title
+        (said (title_words (known (tag_of (marked bench.now).tags tag.Event))))) }
 {
     put_words(
         alloc,
@@ -124,7 +125,8 @@ fn put_caption<'a, 'b, A: Allocator, B: Allocator>(
     html: &mut Html<'_, A>,
     bench: &Bench<'b, B>,
 ) -> Result<(), AllocError>
-    ensures { OnOk result (html.new ≡ html.old ++ caption (marked bench.now).stipulation (marked bench.now).start) }
+    ensures { OnOk result (html.new ≡ html.old
+        ++ caption (marked bench.now).stipulation (marked bench.now).start) }
 {
     let start = bench.start();
     let fen = write_fen(start);
@@ -152,7 +154,8 @@ pub fn put_figure<'a, 'b, A: Allocator, B: Allocator>(
     html: &mut Html<'_, A>,
     bench: &Bench<'b, B>,
 ) -> Result<(), AllocError>
-    ensures { OnOk result (html.new ≡ html.old ++ figure (marked bench.now).stipulation (marked bench.now).start) }
+    ensures { OnOk result (html.new ≡ html.old
+        ++ figure (marked bench.now).stipulation (marked bench.now).start) }
 {
     let start = bench.start();
     let mut within = Html::new(alloc);

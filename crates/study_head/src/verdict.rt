@@ -28,7 +28,8 @@ pub enum Stamp {
 
 /// The verdict on a study in which this side moves first, by whether no move of the hero was given, and how many faults lose time alone.
 fn stamp_of(stipulation: &Stipulation, first: Side, root: &Mark, empty: bool, time: u32) -> Stamp
-    ensures { (s : Study AMark) → s.stipulation ≡ stipulation.now → s.start.position.to_move ≡ first → s.tree.label ≡ root.now
+    ensures { (s : Study AMark) → s.stipulation ≡ stipulation.now
+        → s.start.position.to_move ≡ first → s.tree.label ≡ root.now
         → result ≡ stamp_of (verdict s) empty time }
 {
     if !meets_stipulation(stipulation.goal, stipulation.hero == first, root.value) {

@@ -89,8 +89,10 @@ fn closing() -> &'static [u8]
 
 /// Writes two texts, one after the other.
 fn write_both<W: Write>(out: &mut W, first: &[u8], second: &[u8]) -> Result<(), DeviceFailed>
-    ensures ok { OnOk result (Appends (W.contents out.old) (W.contents out.new) (first.now ++ second.now)) }
-    ensures prefix { OnErr result (TakesPrefix (W.contents out.old) (W.contents out.new) (first.now ++ second.now)) }
+    ensures ok { OnOk result
+        (Appends (W.contents out.old) (W.contents out.new) (first.now ++ second.now)) }
+    ensures prefix { OnErr result
+        (TakesPrefix (W.contents out.old) (W.contents out.new) (first.now ++ second.now)) }
 {
     write_text(out, first)?;
     write_text(out, second)
@@ -109,7 +111,8 @@ pub fn write_opening<W: Write>(out: &mut W) -> Result<(), DeviceFailed>
 #[tactic(auto, unfolding(crate::specs::Frame::sheet_opening))]
 pub fn write_sheet_opening<W: Write>(out: &mut W) -> Result<(), DeviceFailed>
     ensures ok { OnOk result (Appends (W.contents out.old) (W.contents out.new) sheet_opening) }
-    ensures prefix { OnErr result (TakesPrefix (W.contents out.old) (W.contents out.new) sheet_opening) }
+    ensures prefix { OnErr result
+        (TakesPrefix (W.contents out.old) (W.contents out.new) sheet_opening) }
 {
     write_text(out, front())?;
     write_both(out, sheet_style(), back())

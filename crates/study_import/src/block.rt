@@ -118,7 +118,8 @@ fn add_position<A: Allocator>(out: &mut Text<'_, A>, start: &Start) -> Result<()
 /// Adds the line with the place of the text after the result.
 #[tactic(auto, unfolding(crate::specs::Blocks::place_words))]
 fn add_unread<A: Allocator>(out: &mut Text<'_, A>, place: Place) -> Result<(), AllocError>
-    ensures { OnOk result (out.new ≡ out.old ++ (codes "# behind the result: " ++ (place_words place ++ codes "\n"))) }
+    ensures { OnOk result (out.new ≡ out.old
+        ++ (codes "# behind the result: " ++ (place_words place ++ codes "\n"))) }
 {
     add_pieces(
         out,
@@ -182,7 +183,9 @@ fn add_counts<'a, A: Allocator>(
     game: &[u8],
     told: &Told<'_>,
 ) -> Result<(), AllocError>
-    ensures { OnOk result (out.new ≡ out.old ++ counts_line (counted_words told.now.notes (other_tags (tags_of game.now)) told.now.repeated)) }
+    ensures { OnOk result (out.new ≡ out.old
+        ++ counts_line
+        (counted_words told.now.notes (other_tags (tags_of game.now)) told.now.repeated)) }
 {
     let mut words = Text::new(alloc);
     add_counted(&mut words, &told.notes, other_tags(game), told.repeated)?;
@@ -196,7 +199,8 @@ fn add_remarks<'a, A: Allocator>(
     entry: &Entry<'_>,
     told: &Told<'_>,
 ) -> Result<(), AllocError>
-    ensures { OnOk result (out.new ≡ out.old ++ remark_lines (entry_seen entry.now) (told_seen told.now)) }
+    ensures { OnOk result (out.new ≡ out.old
+        ++ remark_lines (entry_seen entry.now) (told_seen told.now)) }
 {
     add_counts(alloc, out, entry.text, told)?;
     add_behind(out, entry, told.behind)?;
@@ -212,7 +216,8 @@ fn add_study<'a, A: Allocator>(
     stipulation: &Stipulation,
     inserts: &[u8],
 ) -> Result<(), AllocError>
-    ensures { OnOk result (out.new ≡ out.old ++ study_lines (entry_seen entry.now) start.now stipulation.now inserts.now) }
+    ensures { OnOk result (out.new ≡ out.old
+        ++ study_lines (entry_seen entry.now) start.now stipulation.now inserts.now) }
 {
     add_position(out, start)?;
     add_stipulation(out, stipulation)?;
@@ -312,7 +317,8 @@ fn add_block<'a, A: Allocator>(
     aim: &Aim,
     told: &Told<'_>,
 ) -> Result<(), AllocError>
-    ensures { OnOk result (out.new ≡ out.old ++ block_lines (entry_seen entry.now) start.now aim.now (told_seen told.now)) }
+    ensures { OnOk result (out.new ≡ out.old
+        ++ block_lines (entry_seen entry.now) start.now aim.now (told_seen told.now)) }
 {
     add_head(out, entry, aim)?;
     add_remarks(alloc, out, entry, told)?;
@@ -335,8 +341,10 @@ fn add_aimed<'a, A: Allocator>(
     start: &Start,
     told: &Told<'_>,
 ) -> Result<bool, AllocError>
-    ensures { Adds result out.old out.new (aimed_block (entry_seen setting.now.entry) start.now (told_seen told.now)
-        (aim_of_game setting.now.given (tags_of setting.now.entry.text.now) start.now.position.to_move told.now.notes)) }
+    ensures { Adds result out.old out.new
+        (aimed_block (entry_seen setting.now.entry) start.now (told_seen told.now)
+        (aim_of_game setting.now.given
+        (tags_of setting.now.entry.text.now) start.now.position.to_move told.now.notes)) }
 {
     let entry = &setting.entry;
     let to_move = start.position.to_move();
@@ -354,8 +362,11 @@ fn begin_game<'a, A: Allocator>(
     alloc: &'a A,
     start: Start,
 ) -> Result<GameReading<'a, A>, AllocError>
-    ensures { IfOk result (λ g. game_of (plain_study (marked g.reading.bench)) g.reading.lines.path.items g.reading.lines.begun
-        g.reading.lines.waiting.items g.reading.lines.cut g.reading.inserts g.notes ≡ no_moves start) }
+    ensures { IfOk result (λ g.
+        game_of (plain_study (marked g.reading.bench))
+        g.reading.lines.path.items g.reading.lines.begun
+        g.reading.lines.waiting.items g.reading.lines.cut g.reading.inserts
+        g.notes ≡ no_moves start) }
 {
     let any = Stipulation {
         hero: Side::White,
@@ -383,7 +394,8 @@ fn add_read<'a, A: Allocator>(
     setting: &Setting<'_>,
     start: &Start,
 ) -> Result<bool, AllocError>
-    ensures { Adds result out.old out.new (read_block setting.now.given (entry_seen setting.now.entry) start.now
+    ensures { Adds result out.old out.new
+        (read_block setting.now.given (entry_seen setting.now.entry) start.now
         (game_read setting.now.entry.text.now start.now)) }
 {
     let mut game = begin_game(alloc, start.copied())?;
@@ -408,7 +420,8 @@ fn add_stopped<'a, A: Allocator>(
     setting: &Setting<'_>,
     fault: &MovesFault,
 ) -> Result<bool, AllocError>
-    ensures told { Adds result out.old out.new (stopped_block (entry_seen setting.now.entry) fault.now) }
+    ensures told { Adds result out.old out.new
+        (stopped_block (entry_seen setting.now.entry) fault.now) }
     ensures memory { is_of_memory fault.now.why ≡ true → IsErr result }
 {
     if is_of_memory(fault.why) {
@@ -449,7 +462,8 @@ fn add_fen_fault<'a, A: Allocator>(
     fen: &[u8],
     fault: FenFault,
 ) -> Result<bool, AllocError>
-    ensures { Adds result out.old out.new (no_study (left_out (entry_seen entry.now) (fen_words fen.now fault))) }
+    ensures { Adds result out.old out.new
+        (no_study (left_out (entry_seen entry.now) (fen_words fen.now fault))) }
 {
     let mut words = Text::new(alloc);
     add_fen_words(&mut words, fen, fault)?;
@@ -484,7 +498,8 @@ pub fn add_start<'a, A: Allocator>(
     fen: &[u8],
 ) -> Result<bool, AllocError>
     requires { list_all is_printable fen.now ≡ true }
-    ensures { Adds result out.old out.new (start_block setting.now.given (entry_seen setting.now.entry) fen.now (start_of fen.now)) }
+    ensures { Adds result out.old out.new
+        (start_block setting.now.given (entry_seen setting.now.entry) fen.now (start_of fen.now)) }
 {
     match read_fen(as_text(fen)) {
         Ok(start) => add_read(alloc, out, setting, &start),
@@ -510,7 +525,8 @@ fn add_tagged<'a, A: Allocator>(
     out: &mut Text<'_, A>,
     setting: &Setting<'_>,
 ) -> Result<bool, AllocError>
-    ensures { Adds result out.old out.new (fen_block setting.now.given (entry_seen setting.now.entry)
+    ensures { Adds result out.old out.new
+        (fen_block setting.now.given (entry_seen setting.now.entry)
         (value_of (codes "FEN") (tags_of setting.now.entry.text.now))) }
 {
     match tag_value(setting.entry.text, b"FEN") {
@@ -528,7 +544,9 @@ fn add_entry<'a, A: Allocator>(
     out: &mut Text<'_, A>,
     setting: &Setting<'_>,
 ) -> Result<bool, AllocError>
-    ensures { Adds result out.old out.new (header_block setting.now.given (entry_seen setting.now.entry) (header_fault setting.now.entry.text.now)) }
+    ensures { Adds result out.old out.new
+        (header_block setting.now.given (entry_seen setting.now.entry)
+        (header_fault setting.now.entry.text.now)) }
 {
     let entry = &setting.entry;
     if let Some(fault) = header_fault(entry.text) {

@@ -62,7 +62,8 @@ fn add_count<A: Allocator>(
     first: bool,
     count: Count<'_>,
 ) -> Result<(), AllocError>
-    ensures { OnOk result (out.new ≡ out.old ++ count_words first count.entry.name.now count.entry.number) }
+    ensures { OnOk result (out.new ≡ out.old
+        ++ count_words first count.entry.name.now count.entry.number) }
 {
     if count.number == 0 {
         return Ok(());

@@ -132,7 +132,8 @@ pub fn add_fault<'a, 't, A: Allocator>(
     name: &'t [u8],
     symbol: &'t [u8],
 ) -> Result<bool, AllocError>
-    ensures { Adds result out.old out.new (no_study (fault_words (entry_seen entry.now) place name.now symbol.now)) }
+    ensures { Adds result out.old out.new
+        (no_study (fault_words (entry_seen entry.now) place name.now symbol.now)) }
 {
     add_pieces(
         out,

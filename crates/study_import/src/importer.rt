@@ -97,7 +97,8 @@ impl<'a, A: Allocator> Importer<'a, A> {
 
     /// The end of the file: the current line is whole, if it has a byte.
     fn end_last_line(&mut self, out: &mut Text<'_, A>) -> Result<(), AllocError>
-        ensures written { OnOk result (out.old ++ still_written self.old [] ≡ out.new ++ written_of self.new []) }
+        ensures written { OnOk result
+            (out.old ++ still_written self.old [] ≡ out.new ++ written_of self.new []) }
         ensures tally { OnOk result (still_tallied self.old [] ≡ tally_ahead self.new []) }
     {
         if self.has_no_line() {
@@ -145,7 +146,8 @@ impl<'a, A: Allocator> Importer<'a, A> {
     fn add_line(&mut self, kind: LineKind) -> Result<(), AllocError>
         ensures { OnOk result (self.new ≡ record self.old {
           line = [];
-          gathered = with_next self.old.gathered (unmarked self.old.gathered.next self.old.line) kind;
+          gathered = with_next self.old.gathered
+              (unmarked self.old.gathered.next self.old.line) kind;
         }) }
     {
         let line = unmarked(self.gathering.next(), self.line.as_slice());
@@ -156,7 +158,8 @@ impl<'a, A: Allocator> Importer<'a, A> {
 
     /// Writes the current game, if there is one and it is chosen, and drops it.
     fn end_game(&mut self, out: &mut Text<'_, A>) -> Result<(), AllocError>
-        ensures text { OnOk result (out.new ≡ out.old ++ text_at_hand self.old self.old.gathered.begun) }
+        ensures text { OnOk result
+            (out.new ≡ out.old ++ text_at_hand self.old self.old.gathered.begun) }
         ensures then { OnOk result (self.new ≡ put_away self.old) }
     {
         if let Some(game) = self.gathering.game() {
@@ -175,8 +178,10 @@ fn tell_game<'a, A: Allocator>(
     tally: &Imported,
     game: &Game<'_>,
 ) -> Result<Imported, AllocError>
-    ensures text { OnOk result (out.new ≡ out.old ++ told_text choice.now (tally_seen tally.now) (game_seen game.now)) }
-    ensures then { IfOk result (λ t. tally_seen t ≡ tallied choice.now (tally_seen tally.now) (game_seen game.now)) }
+    ensures text { OnOk result (out.new ≡ out.old
+        ++ told_text choice.now (tally_seen tally.now) (game_seen game.now)) }
+    ensures then { IfOk result (λ t.
+        tally_seen t ≡ tallied choice.now (tally_seen tally.now) (game_seen game.now)) }
 {
     let number = tally.met.saturating_add(1);
     if number < choice.from || choice.to < number {

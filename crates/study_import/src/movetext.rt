@@ -52,10 +52,15 @@ impl<'a, A: Allocator> GameReading<'a, A> {
     /// Takes a token. Returns whether the game ends there.
     #[tactic(auto, using(crate::proofs::TokenByToken::noted_takes))]
     fn take(&mut self, token: Token<'_>) -> Result<bool, Reason>
-        ensures { let before = game_of (plain_study (marked self.old.reading.bench)) self.old.reading.lines.path.items self.old.reading.lines.begun
-            self.old.reading.lines.waiting.items self.old.reading.lines.cut self.old.reading.inserts self.old.notes in
-            let after = game_of (plain_study (marked self.new.reading.bench)) self.new.reading.lines.path.items self.new.reading.lines.begun
-            self.new.reading.lines.waiting.items self.new.reading.lines.cut self.new.reading.inserts self.new.notes in
+        ensures { let before = game_of
+            (plain_study (marked self.old.reading.bench)) self.old.reading.lines.path.items
+            self.old.reading.lines.begun
+            self.old.reading.lines.waiting.items self.old.reading.lines.cut
+            self.old.reading.inserts self.old.notes in
+            let after = game_of (plain_study (marked self.new.reading.bench))
+            self.new.reading.lines.path.items self.new.reading.lines.begun
+            self.new.reading.lines.waiting.items self.new.reading.lines.cut
+            self.new.reading.inserts self.new.notes in
             TakesIn result (game_taken before (token_seen token.entry)) after }
     {
         if is_header_tag(&self.notes, token) {
@@ -69,8 +74,10 @@ impl<'a, A: Allocator> GameReading<'a, A> {
 
     fn end_text<'t>(&self, text: &'t [u8]) -> Result<&'t [u8], MovesFault>
         requires { text.now ≡ [] }
-        ensures { let game = game_of (plain_study (marked self.now.reading.bench)) self.now.reading.lines.path.items self.now.reading.lines.begun
-            self.now.reading.lines.waiting.items self.now.reading.lines.cut self.now.reading.inserts self.now.notes in
+        ensures { let game = game_of (plain_study (marked self.now.reading.bench))
+            self.now.reading.lines.path.items self.now.reading.lines.begun
+            self.now.reading.lines.waiting.items self.now.reading.lines.cut
+            self.now.reading.inserts self.now.notes in
             Ends (λ t. t.now) result (at_end game) game }
     {
         if self.reading.lines.waiting.is_empty() {
@@ -85,10 +92,15 @@ impl<'a, A: Allocator> GameReading<'a, A> {
 
     /// Reads a game from its first line up to its result or the end of the text, and returns the rest of the text.
     pub fn read<'t>(&mut self, text: &'t [u8], fresh: bool) -> Result<&'t [u8], MovesFault>
-        ensures { let before = game_of (plain_study (marked self.old.reading.bench)) self.old.reading.lines.path.items self.old.reading.lines.begun
-            self.old.reading.lines.waiting.items self.old.reading.lines.cut self.old.reading.inserts self.old.notes in
-            let after = game_of (plain_study (marked self.new.reading.bench)) self.new.reading.lines.path.items self.new.reading.lines.begun
-            self.new.reading.lines.waiting.items self.new.reading.lines.cut self.new.reading.inserts self.new.notes in
+        ensures { let before = game_of
+            (plain_study (marked self.old.reading.bench)) self.old.reading.lines.path.items
+            self.old.reading.lines.begun
+            self.old.reading.lines.waiting.items self.old.reading.lines.cut
+            self.old.reading.inserts self.old.notes in
+            let after = game_of (plain_study (marked self.new.reading.bench))
+            self.new.reading.lines.path.items self.new.reading.lines.begun
+            self.new.reading.lines.waiting.items self.new.reading.lines.cut
+            self.new.reading.inserts self.new.notes in
             Ends (λ t. t.now) result (read_moves (length text.now) fresh text.now before) after }
     {
         let mut rest = text;
@@ -130,11 +142,17 @@ impl<'a, A: Allocator> GameReading<'a, A> {
     /// Reads a game, and returns the text behind its result, which has no moves.
     #[tactic(auto, using(crate::proofs::NoneBehind::still_reported))]
     pub fn read_whole<'t>(&mut self, text: &'t [u8]) -> Result<&'t [u8], MovesFault>
-        ensures { let before = game_of (plain_study (marked self.old.reading.bench)) self.old.reading.lines.path.items self.old.reading.lines.begun
-            self.old.reading.lines.waiting.items self.old.reading.lines.cut self.old.reading.inserts self.old.notes in
-            let after = game_of (plain_study (marked self.new.reading.bench)) self.new.reading.lines.path.items self.new.reading.lines.begun
-            self.new.reading.lines.waiting.items self.new.reading.lines.cut self.new.reading.inserts self.new.notes in
-            Ends (λ t. t.now) result (to_the_end (read_moves (length text.now) true text.now before)) after }
+        ensures { let before = game_of
+            (plain_study (marked self.old.reading.bench)) self.old.reading.lines.path.items
+            self.old.reading.lines.begun
+            self.old.reading.lines.waiting.items self.old.reading.lines.cut
+            self.old.reading.inserts self.old.notes in
+            let after = game_of (plain_study (marked self.new.reading.bench))
+            self.new.reading.lines.path.items self.new.reading.lines.begun
+            self.new.reading.lines.waiting.items self.new.reading.lines.cut
+            self.new.reading.inserts self.new.notes in
+            Ends (λ t. t.now) result
+            (to_the_end (read_moves (length text.now) true text.now before)) after }
     {
         match self.read(text, true) {
             Ok(behind) => match moves_in(behind) {

@@ -42,11 +42,13 @@ impl<'a, A: Allocator> Reading<'a, A> {
     pub fn play_symbol(&mut self, symbol: &[u8]) -> Result<(), MoveFault>
         ensures { Reads result (symbol_played (record {
           study = plain_study (marked self.old.bench);
-          lines = lines_of self.old.lines.path.items self.old.lines.begun self.old.lines.waiting.items self.old.lines.cut;
+          lines = lines_of self.old.lines.path.items self.old.lines.begun
+              self.old.lines.waiting.items self.old.lines.cut;
           inserts = self.old.inserts;
         }) symbol.now) (record {
           study = plain_study (marked self.new.bench);
-          lines = lines_of self.new.lines.path.items self.new.lines.begun self.new.lines.waiting.items self.new.lines.cut;
+          lines = lines_of self.new.lines.path.items self.new.lines.begun
+              self.new.lines.waiting.items self.new.lines.cut;
           inserts = self.new.inserts;
         }) }
     {
@@ -70,11 +72,13 @@ impl<'a, A: Allocator> Reading<'a, A> {
     pub fn play(&mut self, san: &str) -> Result<(), MoveFault>
         ensures { Reads result (played (record {
           study = plain_study (marked self.old.bench);
-          lines = lines_of self.old.lines.path.items self.old.lines.begun self.old.lines.waiting.items self.old.lines.cut;
+          lines = lines_of self.old.lines.path.items self.old.lines.begun
+              self.old.lines.waiting.items self.old.lines.cut;
           inserts = self.old.inserts;
         }) san.now) (record {
           study = plain_study (marked self.new.bench);
-          lines = lines_of self.new.lines.path.items self.new.lines.begun self.new.lines.waiting.items self.new.lines.cut;
+          lines = lines_of self.new.lines.path.items self.new.lines.begun
+              self.new.lines.waiting.items self.new.lines.cut;
           inserts = self.new.inserts;
         }) }
     {

@@ -149,7 +149,8 @@ fn add_tag_value<'a, A: Allocator>(
     name: TagName,
     raw: Option<&[u8]>,
 ) -> Result<(), AllocError>
-    ensures { OnOk result (out.new ≡ out.old ++ tag_value_text name (option_map (λ v. v.now) raw.entry)) }
+    ensures { OnOk result (out.new ≡ out.old
+        ++ tag_value_text name (option_map (λ v. v.now) raw.entry)) }
 {
     match raw {
         None => out.add(unknown_text(name)),

@@ -57,7 +57,8 @@ fn add_tail_of<'t, 'a, A: Allocator>(
     game: Option<&'t [u8]>,
 ) -> Result<Option<Named<'t>>, AllocError>
     requires { out.old ≡ [] }
-    ensures { IfOk result (λ named. named_seen named out.new ≡ tail_of tails (option_map (λ t. t.now) game.entry)) }
+    ensures { IfOk result (λ named.
+        named_seen named out.new ≡ tail_of tails (option_map (λ t. t.now) game.entry)) }
 {
     match (tails, game) {
         (true, Some(game)) => add_tail_of_game(alloc, out, game),
@@ -87,8 +88,13 @@ fn add_tail_block<'a, A: Allocator>(
     setting: &Setting<'_>,
     named: &Named<'_>,
 ) -> Result<bool, AllocError>
-    ensures { Adds result out.old out.new (tail_block setting.now.given setting.now.entry.number setting.now.entry.line
-        (record { position = named.now.position.now; text = setting.now.entry.text.now; skipped = named.now.skipped })) }
+    ensures { Adds result out.old out.new
+        (tail_block setting.now.given setting.now.entry.number setting.now.entry.line
+        (record {
+          position = named.now.position.now;
+          text = setting.now.entry.text.now;
+          skipped = named.now.skipped;
+        })) }
 {
     let fen = position_text(alloc, named.position)?;
     add_tail_line(out, named.skipped)?;

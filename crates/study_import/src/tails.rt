@@ -287,7 +287,8 @@ pub fn add_tail<'t, 'a, A: Allocator>(
     out: &mut Text<'_, A>,
     text: &'t [u8],
 ) -> Result<Option<Named<'t>>, AllocError>
-    ensures { IfOk result (λ named. named_seen named out.new ≡ tail_from (length text.now) true text.now (not_begun out.old)) }
+    ensures { IfOk result (λ named.
+        named_seen named out.new ≡ tail_from (length text.now) true text.now (not_begun out.old)) }
 {
     let mut rest = text;
     let mut fresh = true;

@@ -28,9 +28,11 @@ pub enum Reason {
 
 impl<'a, A: Allocator> Reading<'a, A> {
     fn take_begin(&mut self) -> Result<bool, Reason>
-        ensures { let before = reading_of (plain_study (marked self.old.bench)) self.old.lines.path.items self.old.lines.begun
+        ensures { let before = reading_of
+            (plain_study (marked self.old.bench)) self.old.lines.path.items self.old.lines.begun
             self.old.lines.waiting.items self.old.lines.cut self.old.inserts in
-            let after = reading_of (plain_study (marked self.new.bench)) self.new.lines.path.items self.new.lines.begun
+            let after = reading_of (plain_study (marked self.new.bench))
+            self.new.lines.path.items self.new.lines.begun
             self.new.lines.waiting.items self.new.lines.cut self.new.inserts in
             Takes result (on_line before (begin_line before.lines)) after }
     {
@@ -41,9 +43,11 @@ impl<'a, A: Allocator> Reading<'a, A> {
     }
 
     fn take_end(&mut self) -> Result<bool, Reason>
-        ensures { let before = reading_of (plain_study (marked self.old.bench)) self.old.lines.path.items self.old.lines.begun
+        ensures { let before = reading_of
+            (plain_study (marked self.old.bench)) self.old.lines.path.items self.old.lines.begun
             self.old.lines.waiting.items self.old.lines.cut self.old.inserts in
-            let after = reading_of (plain_study (marked self.new.bench)) self.new.lines.path.items self.new.lines.begun
+            let after = reading_of (plain_study (marked self.new.bench))
+            self.new.lines.path.items self.new.lines.begun
             self.new.lines.waiting.items self.new.lines.cut self.new.inserts in
             Takes result (on_line before (end_line before.lines)) after }
     {
@@ -54,9 +58,11 @@ impl<'a, A: Allocator> Reading<'a, A> {
     }
 
     fn take_result(&mut self) -> Result<bool, Reason>
-        ensures { let before = reading_of (plain_study (marked self.old.bench)) self.old.lines.path.items self.old.lines.begun
+        ensures { let before = reading_of
+            (plain_study (marked self.old.bench)) self.old.lines.path.items self.old.lines.begun
             self.old.lines.waiting.items self.old.lines.cut self.old.inserts in
-            let after = reading_of (plain_study (marked self.new.bench)) self.new.lines.path.items self.new.lines.begun
+            let after = reading_of (plain_study (marked self.new.bench))
+            self.new.lines.path.items self.new.lines.begun
             self.new.lines.waiting.items self.new.lines.cut self.new.inserts in
             Takes result (at_result before) after }
     {
@@ -64,9 +70,11 @@ impl<'a, A: Allocator> Reading<'a, A> {
     }
 
     fn take_null_move(&mut self) -> Result<bool, Reason>
-        ensures { let before = reading_of (plain_study (marked self.old.bench)) self.old.lines.path.items self.old.lines.begun
+        ensures { let before = reading_of
+            (plain_study (marked self.old.bench)) self.old.lines.path.items self.old.lines.begun
             self.old.lines.waiting.items self.old.lines.cut self.old.inserts in
-            let after = reading_of (plain_study (marked self.new.bench)) self.new.lines.path.items self.new.lines.begun
+            let after = reading_of (plain_study (marked self.new.bench))
+            self.new.lines.path.items self.new.lines.begun
             self.new.lines.waiting.items self.new.lines.cut self.new.inserts in
             Takes result (at_null_move before) after }
     {
@@ -80,9 +88,11 @@ impl<'a, A: Allocator> Reading<'a, A> {
     }
 
     fn take_move(&mut self, symbol: &[u8]) -> Result<bool, Reason>
-        ensures { let before = reading_of (plain_study (marked self.old.bench)) self.old.lines.path.items self.old.lines.begun
+        ensures { let before = reading_of
+            (plain_study (marked self.old.bench)) self.old.lines.path.items self.old.lines.begun
             self.old.lines.waiting.items self.old.lines.cut self.old.inserts in
-            let after = reading_of (plain_study (marked self.new.bench)) self.new.lines.path.items self.new.lines.begun
+            let after = reading_of (plain_study (marked self.new.bench))
+            self.new.lines.path.items self.new.lines.begun
             self.new.lines.waiting.items self.new.lines.cut self.new.inserts in
             Takes result (on_move (symbol_played before symbol.now)) after }
     {
@@ -93,9 +103,11 @@ impl<'a, A: Allocator> Reading<'a, A> {
     }
 
     fn take_symbol(&mut self, symbol: &[u8]) -> Result<bool, Reason>
-        ensures { let before = reading_of (plain_study (marked self.old.bench)) self.old.lines.path.items self.old.lines.begun
+        ensures { let before = reading_of
+            (plain_study (marked self.old.bench)) self.old.lines.path.items self.old.lines.begun
             self.old.lines.waiting.items self.old.lines.cut self.old.inserts in
-            let after = reading_of (plain_study (marked self.new.bench)) self.new.lines.path.items self.new.lines.begun
+            let after = reading_of (plain_study (marked self.new.bench))
+            self.new.lines.path.items self.new.lines.begun
             self.new.lines.waiting.items self.new.lines.cut self.new.inserts in
             Takes result (taken_symbol before symbol.now (said_of symbol.now)) after }
     {
@@ -109,9 +121,11 @@ impl<'a, A: Allocator> Reading<'a, A> {
     }
 
     fn take_sign(&mut self, text: &[u8]) -> Result<bool, Reason>
-        ensures { let before = reading_of (plain_study (marked self.old.bench)) self.old.lines.path.items self.old.lines.begun
+        ensures { let before = reading_of
+            (plain_study (marked self.old.bench)) self.old.lines.path.items self.old.lines.begun
             self.old.lines.waiting.items self.old.lines.cut self.old.inserts in
-            let after = reading_of (plain_study (marked self.new.bench)) self.new.lines.path.items self.new.lines.begun
+            let after = reading_of (plain_study (marked self.new.bench))
+            self.new.lines.path.items self.new.lines.begun
             self.new.lines.waiting.items self.new.lines.cut self.new.inserts in
             Takes result (taken_sign before (bytes_eq text.now (codes "--"))) after }
     {
@@ -124,9 +138,11 @@ impl<'a, A: Allocator> Reading<'a, A> {
 
     /// Takes a token. Returns whether the game ends there.
     pub fn take(&mut self, token: Token<'_>) -> Result<bool, Reason>
-        ensures { let before = reading_of (plain_study (marked self.old.bench)) self.old.lines.path.items self.old.lines.begun
+        ensures { let before = reading_of
+            (plain_study (marked self.old.bench)) self.old.lines.path.items self.old.lines.begun
             self.old.lines.waiting.items self.old.lines.cut self.old.inserts in
-            let after = reading_of (plain_study (marked self.new.bench)) self.new.lines.path.items self.new.lines.begun
+            let after = reading_of (plain_study (marked self.new.bench))
+            self.new.lines.path.items self.new.lines.begun
             self.new.lines.waiting.items self.new.lines.cut self.new.inserts in
             Takes result (taken before (token_seen token.entry)) after }
     {

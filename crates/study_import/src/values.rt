@@ -13,16 +13,14 @@ pub struct NoValues {
 }
 
 impl Values for NoValues {
-    ghost source = {
-        record {
-          is_honest = λ v. ⊥;
-          held = λ v c. true;
-          gives = λ v p answer. answer ≡ Ok Draw;
-          may_fail = λ v c f. ⊥;
-          asked_of = λ v. v.asked;
-          failed_of = λ v. 0;
-        }
-    };
+    ghost source = { record {
+      is_honest = λ v. ⊥;
+      held = λ v c. true;
+      gives = λ v p answer. answer ≡ Ok Draw;
+      may_fail = λ v c f. ⊥;
+      asked_of = λ v. v.asked;
+      failed_of = λ v. 0;
+    } };
 
     fn value(&mut self, p: &Position) -> Result<Value, ProbeFault> {
         self.asked = self.asked.saturating_add(1);

@@ -85,7 +85,9 @@ pub fn import_stream<A: Allocator, R: Read, W: Write, E: Write>(
     out: &mut W,
     errors: &mut E,
 ) -> u8
-    ensures { EndsBy (HasRun options.now.choice (R.remaining games.old) (W.contents out.old) (W.contents out.new)) result options.now.progress
+    ensures { EndsBy
+        (HasRun options.now.choice (R.remaining games.old) (W.contents out.old)
+        (W.contents out.new)) result options.now.progress
         (E.contents errors.old) (E.contents errors.new) }
 {
     let mut answer = import_games(alloc, games, out, errors, options.choice, options.progress);

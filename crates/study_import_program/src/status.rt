@@ -38,7 +38,8 @@ pub fn status_without_options(error: &Error, printed: bool) -> u8
 /// Reports why a run stopped, in a line of its own: `studyimport: ReadDevice`.
 pub fn put_stop<W: Write>(out: &mut W, fault: ImportFault) -> Result<(), DeviceFailed>
     ensures ok { OnOk result (Appends (W.contents out.old) (W.contents out.new) (stop_text fault)) }
-    ensures err { OnErr result (TakesPrefix (W.contents out.old) (W.contents out.new) (stop_text fault)) }
+    ensures err { OnErr result
+        (TakesPrefix (W.contents out.old) (W.contents out.new) (stop_text fault)) }
 {
     match fault {
         ImportFault::ReadDevice => write_text(out, b"studyimport: ReadDevice\n"),
@@ -49,16 +50,21 @@ pub fn put_stop<W: Write>(out: &mut W, fault: ImportFault) -> Result<(), DeviceF
 
 /// Reports how many games were read, in a line of its own: `300 games`.
 pub fn put_games<W: Write>(out: &mut W, count: u32) -> Result<(), DeviceFailed>
-    ensures ok { OnOk result (Appends (W.contents out.old) (W.contents out.new) (decimal count ++ codes " games\n")) }
-    ensures err { OnErr result (TakesPrefix (W.contents out.old) (W.contents out.new) (decimal count ++ codes " games\n")) }
+    ensures ok { OnOk result
+        (Appends (W.contents out.old) (W.contents out.new) (decimal count ++ codes " games\n")) }
+    ensures err { OnErr result
+        (TakesPrefix (W.contents out.old) (W.contents out.new)
+        (decimal count ++ codes " games\n")) }
 {
     let mut buffer = Buffer::new();
     put_both(out, buffer.format(count).as_bytes(), b" games\n")
 }
 
 fn put_both<W: Write>(out: &mut W, front: &[u8], back: &[u8]) -> Result<(), DeviceFailed>
-    ensures ok { OnOk result (Appends (W.contents out.old) (W.contents out.new) (front.now ++ back.now)) }
-    ensures err { OnErr result (TakesPrefix (W.contents out.old) (W.contents out.new) (front.now ++ back.now)) }
+    ensures ok { OnOk result
+        (Appends (W.contents out.old) (W.contents out.new) (front.now ++ back.now)) }
+    ensures err { OnErr result
+        (TakesPrefix (W.contents out.old) (W.contents out.new) (front.now ++ back.now)) }
 {
     write_text(out, front)?;
     write_text(out, back)

@@ -28,8 +28,10 @@ pub fn import_games<A: Allocator, R: Read, W: Write, E: Write>(
     choice: Choice,
     progress: bool,
 ) -> Result<Imported, ImportFault>
-    ensures ok { IfOk result (λ imported. IsWhole choice (R.remaining games.old) (W.contents out.old) (W.contents out.new) imported) }
-    ensures err { OnErr result (IsFront choice (R.remaining games.old) (W.contents out.old) (W.contents out.new)) }
+    ensures ok { IfOk result (λ imported.
+        IsWhole choice (R.remaining games.old) (W.contents out.old) (W.contents out.new) imported) }
+    ensures err { OnErr result
+        (IsFront choice (R.remaining games.old) (W.contents out.old) (W.contents out.new)) }
     ensures quiet { progress ≡ false → Keeps (E.contents errors.old) (E.contents errors.new) }
 {
     let mut importer = Importer::new(alloc, choice);
@@ -63,8 +65,10 @@ fn take<'a, A: Allocator, W: Write>(
     byte: u8,
     out: &mut W,
 ) -> Result<(), ImportFault>
-    ensures ok { OnOk result (PutsByte byte importer.old importer.new (W.contents out.old) (W.contents out.new)) }
-    ensures err { OnErr result (StopsAtByte byte importer.old (W.contents out.old) (W.contents out.new)) }
+    ensures ok { OnOk result
+        (PutsByte byte importer.old importer.new (W.contents out.old) (W.contents out.new)) }
+    ensures err { OnErr result
+        (StopsAtByte byte importer.old (W.contents out.old) (W.contents out.new)) }
 {
     let mut text = Text::new(alloc);
     match importer.take(byte, &mut text) {
@@ -89,8 +93,10 @@ fn finish<'a, A: Allocator, W: Write>(
     mut importer: Importer<'a, A>,
     out: &mut W,
 ) -> Result<Imported, ImportFault>
-    ensures ok { IfOk result (λ imported. PutsRest importer.entry imported (W.contents out.old) (W.contents out.new)) }
-    ensures err { OnErr result (AppendsFront (W.contents out.old) (W.contents out.new) (still_written importer.entry [])) }
+    ensures ok { IfOk result (λ imported.
+        PutsRest importer.entry imported (W.contents out.old) (W.contents out.new)) }
+    ensures err { OnErr result
+        (AppendsFront (W.contents out.old) (W.contents out.new) (still_written importer.entry [])) }
 {
     let mut text = Text::new(alloc);
     let Ok(imported) = importer.finish(&mut text) else {

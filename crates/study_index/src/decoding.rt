@@ -93,8 +93,10 @@ fn valid_position(men: &[Man], to_move: Side, passed: Option<Square>) -> Option<
 fn position_with_passed(men: &[Man], to_move: Side) -> Option<Position>
     requires few { length men.now ≤ 4 }
     requires kings { (has_one_king men.now White && has_one_king men.now Black) ≡ true }
-    ensures some { IfSome result (λ q. IsPlaced men.now to_move (square_behind_pawn (other_side to_move) men.now) q) }
-    ensures none { IfNone result (IsFaulty men.now to_move (square_behind_pawn (other_side to_move) men.now)) }
+    ensures some { IfSome result (λ q.
+        IsPlaced men.now to_move (square_behind_pawn (other_side to_move) men.now) q) }
+    ensures none { IfNone result
+        (IsFaulty men.now to_move (square_behind_pawn (other_side to_move) men.now)) }
 {
     match square_behind_pawn(to_move.other(), men) {
         None => valid_position(men, to_move, None),
@@ -110,7 +112,8 @@ fn position_with_passed(men: &[Man], to_move: Side) -> Option<Position>
 fn position_of_men(men: &[Man], to_move: Side, passed: bool) -> Option<Position>
     requires few { length men.now ≤ 4 }
     requires kings { (has_one_king men.now White && has_one_king men.now Black) ≡ true }
-    ensures some { IfSome result (λ q. IsPlaced men.now to_move (passed_behind passed to_move men.now) q) }
+    ensures some { IfSome result (λ q.
+        IsPlaced men.now to_move (passed_behind passed to_move men.now) q) }
     ensures none { IfNone result (IsFaulty men.now to_move (passed_behind passed to_move men.now)) }
 {
     if passed {
@@ -128,7 +131,8 @@ fn is_least(slots: &[Slot], pawns: bool, like: bool, n: u32) -> bool
     requires like { like ≡ are_like_slots slots.now }
     requires cell { is_cell slots.now n ≡ true }
     requires small { n < 16777216 }
-    ensures { IsTrue result ↔ HasLeast (slots_have_pawn slots.now) (told_side slots.now n) n (told_men slots.now n) }
+    ensures { IsTrue result
+        ↔ HasLeast (slots_have_pawn slots.now) (told_side slots.now n) n (told_men slots.now n) }
 {
     least_image(pawns, like, slots, n) == n
 }
@@ -148,7 +152,8 @@ fn decode_slots(slots: &[Slot], pawns: bool, like: bool, n: u32, passed: bool) -
     ensures none { IfNone result
         (IsFaulty (told_men slots.now n) (told_side slots.now n)
         (passed_behind passed (told_side slots.now n) (told_men slots.now n))
-        ⊎ (HasLeast (slots_have_pawn slots.now) (told_side slots.now n) n (told_men slots.now n) → ⊥)) }
+        ⊎ (HasLeast (slots_have_pawn slots.now) (told_side slots.now n) n (told_men slots.now n)
+        → ⊥)) }
 {
     if !is_least(slots, pawns, like, n) {
         return None;

@@ -45,7 +45,8 @@ fn way_of(class: Class, number: u32, from: Square, slot: u32) -> IndexRule
     requires cell { number < cells_of class }
     requires after { 1 ≤ slot }
     requires slot { slot < length (slots_of class) }
-    requires stands { (d : AMan) → (slice_index_or (told_men (slots_of class) (without_bit number)) slot d).at ≡ from }
+    requires stands { (d : AMan)
+        → (slice_index_or (told_men (slots_of class) (without_bit number)) slot d).at ≡ from }
     ensures { IsFoundBy class number from result }
 {
     let (slots, pawns) = (slots(class), class_has_pawn(class));
@@ -69,7 +70,8 @@ fn way_of(class: Class, number: u32, from: Square, slot: u32) -> IndexRule
 pub fn is_slot_square(slots: &[Slot], pawns: bool, n: u32, slot: u32, from: Square) -> bool
     requires slots { AreSlots slots.now }
     requires pawns { pawns ≡ slots_have_pawn slots.now }
-    ensures { IsTrue result → (slot < length slots.now) × ((d : AMan) → (slice_index_or (told_men slots.now n) slot d).at ≡ from) }
+    ensures { IsTrue result → (slot < length slots.now)
+        × ((d : AMan) → (slice_index_or (told_men slots.now n) slot d).at ≡ from) }
 {
     if slot == 0 {
         white_king_of(pawns, &slots[0], head(slots, n)).at == from
@@ -119,7 +121,8 @@ impl IndexAfterMove {
     /// the result of `index_after_move`.
     #[inline(always)]
     pub fn number_to(&self, to: Square) -> u32
-        ensures { (p : Seen) → IsMoved self.now.class self.now.number self.now.from to p → index_of p ≡ result }
+        ensures { (p : Seen)
+            → IsMoved self.now.class self.now.number self.now.from to p → index_of p ≡ result }
     {
         let class = self.class;
         match self.way {

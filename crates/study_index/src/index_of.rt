@@ -59,7 +59,8 @@ fn least(a: Option<u32>, b: Option<u32>) -> Option<u32>
 #[tactic(auto, unfolding(crate::specs::Squares::least_turned))]
 fn least_by(frame: Frame, t: Symmetry, like: bool, squares: &[Square]) -> Option<u32>
     requires { length squares.now ≤ 4 }
-    ensures { result ≡ least_turned frame.has_pawns frame.to_move (turned_square t) like squares.now }
+    ensures { result ≡ least_turned frame.has_pawns frame.to_move
+        (turned_square t) like squares.now }
 {
     if like && descends(t, squares) {
         exchanged_number(frame, t, squares)
@@ -83,7 +84,8 @@ fn descends(t: Symmetry, squares: &[Square]) -> bool
 #[inline]
 fn exchanged_number(frame: Frame, t: Symmetry, squares: &[Square]) -> Option<u32>
     requires { length squares.now ≤ 4 }
-    ensures { result ≡ number_at frame.has_pawns frame.to_move (turned_square t) (exchanged_at squares.now) }
+    ensures { result ≡ number_at frame.has_pawns frame.to_move (turned_square t)
+        (exchanged_at squares.now) }
 {
     match squares {
         [a, b, x, y] => number(frame, t, &[*a, *b, *y, *x]),
@@ -139,7 +141,8 @@ fn least_of_king(frame: Frame, a: Man) -> Option<u32>
 
 #[inline]
 fn least_of_kings(frame: Frame, a: Man, b: Man) -> Option<u32>
-    ensures { result ≡ canonical_number frame.has_pawns frame.to_move frame.swap_colours (a ∷ b ∷ []) }
+    ensures { result
+        ≡ canonical_number frame.has_pawns frame.to_move frame.swap_colours (a ∷ b ∷ []) }
 {
     let squares = [square_of_man(a), square_of_man(b)];
     least_at(frame, false, &squares)
@@ -147,7 +150,8 @@ fn least_of_kings(frame: Frame, a: Man, b: Man) -> Option<u32>
 
 #[inline(always)]
 fn least_with_one(frame: Frame, a: Man, b: Man, c: Man) -> Option<u32>
-    ensures { result ≡ canonical_number frame.has_pawns frame.to_move frame.swap_colours (a ∷ b ∷ c ∷ []) }
+    ensures { result
+        ≡ canonical_number frame.has_pawns frame.to_move frame.swap_colours (a ∷ b ∷ c ∷ []) }
 {
     let squares = [square_of_man(a), square_of_man(b), square_of_man(c)];
     least_at(frame, false, &squares)
@@ -155,7 +159,8 @@ fn least_with_one(frame: Frame, a: Man, b: Man, c: Man) -> Option<u32>
 
 #[inline(always)]
 fn least_with_two(frame: Frame, a: Man, b: Man, c: Man, d: Man) -> Option<u32>
-    ensures { result ≡ canonical_number frame.has_pawns frame.to_move frame.swap_colours (a ∷ b ∷ c ∷ d ∷ []) }
+    ensures { result
+        ≡ canonical_number frame.has_pawns frame.to_move frame.swap_colours (a ∷ b ∷ c ∷ d ∷ []) }
 {
     let like = man_slot_number(frame.swap_colours, &c) == man_slot_number(frame.swap_colours, &d);
     let squares = [
@@ -172,7 +177,8 @@ fn least_with_two(frame: Frame, a: Man, b: Man, c: Man, d: Man) -> Option<u32>
 #[tactic(auto, unfolding(study_values::specs::Canonical::canonical_number))]
 fn least_in_slots(frame: Frame, men: &[Man]) -> Option<u32>
     requires { length men.now ≤ 4 }
-    ensures { result ≡ canonical_number frame.has_pawns frame.to_move frame.swap_colours (sorted frame.swap_colours men.now) }
+    ensures { result ≡ canonical_number frame.has_pawns frame.to_move frame.swap_colours
+        (sorted frame.swap_colours men.now) }
 {
     match men {
         [] => None,
@@ -186,7 +192,8 @@ fn least_in_slots(frame: Frame, men: &[Man]) -> Option<u32>
 
 #[inline]
 fn least_of_two(frame: Frame, a: Man, b: Man) -> Option<u32>
-    ensures { result ≡ canonical_number frame.has_pawns frame.to_move frame.swap_colours (sorted frame.swap_colours (a ∷ b ∷ [])) }
+    ensures { result ≡ canonical_number frame.has_pawns frame.to_move frame.swap_colours
+        (sorted frame.swap_colours (a ∷ b ∷ [])) }
 {
     let swap = frame.swap_colours;
     let (a, b) = sort_two(&placed_man(swap, &a), &placed_man(swap, &b));
@@ -195,7 +202,8 @@ fn least_of_two(frame: Frame, a: Man, b: Man) -> Option<u32>
 
 #[inline]
 fn least_of_three(frame: Frame, a: Man, b: Man, c: Man) -> Option<u32>
-    ensures { result ≡ canonical_number frame.has_pawns frame.to_move frame.swap_colours (sorted frame.swap_colours (a ∷ b ∷ c ∷ [])) }
+    ensures { result ≡ canonical_number frame.has_pawns frame.to_move frame.swap_colours
+        (sorted frame.swap_colours (a ∷ b ∷ c ∷ [])) }
 {
     let swap = frame.swap_colours;
     let (b, c) = sort_two(&placed_man(swap, &b), &placed_man(swap, &c));
@@ -206,7 +214,8 @@ fn least_of_three(frame: Frame, a: Man, b: Man, c: Man) -> Option<u32>
 
 #[inline]
 fn least_of_four(frame: Frame, a: Man, b: Man, c: Man, d: Man) -> Option<u32>
-    ensures { result ≡ canonical_number frame.has_pawns frame.to_move frame.swap_colours (sorted frame.swap_colours (a ∷ b ∷ c ∷ d ∷ [])) }
+    ensures { result ≡ canonical_number frame.has_pawns frame.to_move frame.swap_colours
+        (sorted frame.swap_colours (a ∷ b ∷ c ∷ d ∷ [])) }
 {
     let swap = frame.swap_colours;
     let (c, d) = sort_two(&placed_man(swap, &c), &placed_man(swap, &d));

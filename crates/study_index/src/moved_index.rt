@@ -39,7 +39,8 @@ fn straight_frame(has_pawns: bool, to_move: Side) -> Frame
 fn least_moved(slots: &[Slot], pawns: bool, n: u32, from: Square, to: Square) -> Option<u32>
     requires slots { AreSlots slots.now }
     requires pawns { pawns ≡ slots_have_pawn slots.now }
-    ensures { result ≡ canonical_number pawns (other_side (told_side slots.now n)) false (map (moved_if from to) (told_men slots.now n)) }
+    ensures { result ≡ canonical_number pawns (other_side (told_side slots.now n)) false
+        (map (moved_if from to) (told_men slots.now n)) }
 {
     let frame = straight_frame(pawns, side_of_number(pawns, head(slots, n)).other());
     match slots {
@@ -112,7 +113,9 @@ fn with_head(slots: &[Slot], head: u32, n: u32) -> u32
 fn number_with_king_on(slots: &[Slot], pawns: bool, n: u32, to: Square) -> Option<u32>
     requires slots { AreSlots slots.now }
     requires pawns { pawns ≡ slots_have_pawn slots.now }
-    ensures value { result ≡ number_at pawns (other_side (told_side slots.now n)) (turned_square (king_symmetry pawns to))
+    ensures value { result
+        ≡ number_at pawns (other_side (told_side slots.now n))
+        (turned_square (king_symmetry pawns to))
         (squares (moved_to 0 to (told_men slots.now n))) }
     ensures small { IfSome result (λ m. m < 16777216) }
 {
@@ -137,7 +140,9 @@ fn number_with_king_turned(
 ) -> Option<u32>
     requires slots { AreSlots slots.now }
     requires pawns { pawns ≡ slots_have_pawn slots.now }
-    ensures value { result ≡ number_at pawns side (turned_square (king_symmetry pawns to)) (squares (moved_to 0 to (told_men slots.now n))) }
+    ensures value { result
+        ≡ number_at pawns side (turned_square (king_symmetry pawns to))
+        (squares (moved_to 0 to (told_men slots.now n))) }
     ensures small { IfSome result (λ m. m < 16777216) }
 {
     let frame = straight_frame(pawns, side);
@@ -181,7 +186,8 @@ pub fn index_after_step(class: Class, number: u32, slot: u32, to: Square) -> u32
 pub fn slot_on(slots: &[Slot], pawns: bool, n: u32, from: Square) -> Option<u32>
     requires slots { AreSlots slots.now }
     requires pawns { pawns ≡ slots_have_pawn slots.now }
-    ensures { IfSome result (λ i. (i < length slots.now) × ((d : AMan) → (slice_index_or (told_men slots.now n) i d).at ≡ from)) }
+    ensures { IfSome result (λ i. (i < length slots.now)
+        × ((d : AMan) → (slice_index_or (told_men slots.now n) i d).at ≡ from)) }
 {
     let at = u32::from(from.number());
     match slots {

@@ -42,7 +42,9 @@ fn terms_of(pawns: bool, count: u32, n: u32, slot: u32) -> RowIndexTerms
     requires number { n < 16777216 }
     requires after { 1 ≤ slot }
     requires before { slot + 1 < count }
-    ensures rest { result.rest ≡ (turned_by (king_places pawns) count n - square_of_slot count slot n * square_weight count slot) / 64 }
+    ensures rest { result.rest
+        ≡ (turned_by (king_places pawns) count n - square_of_slot count slot n
+        * square_weight count slot) / 64 }
     ensures weight { result.weight ≡ square_weight count slot / 64 }
 {
     let weight = square_weight(count, slot);
@@ -58,7 +60,9 @@ fn terms_of(pawns: bool, count: u32, n: u32, slot: u32) -> RowIndexTerms
 fn terms_of_king(pawns: bool, count: u32, head: u32, row: u32) -> RowIndexTerms
     requires few { 2 ≤ count }
     requires many { count ≤ 4 }
-    ensures rest { result.rest ≡ side_number (other_side (side_numbered (head / king_places pawns))) * king_places pawns * 64 ^ (count - 2)
+    ensures rest { result.rest
+        ≡ side_number (other_side (side_numbered (head / king_places pawns)))
+        * king_places pawns * 64 ^ (count - 2)
         + row % 64 ^ (count - 2) }
     ensures weight { result.weight ≡ 64 ^ (count - 2) }
 {
@@ -139,7 +143,8 @@ impl RowIndexAfterMove {
     #[inline(always)]
     pub fn row_to(&self, to: Square) -> Option<u32>
         ensures numbers { IfSome result (λ r. (y : ℕ) (p : Seen) → y < 64
-            → IsMoved self.now.class (64 * self.now.row + y) self.now.from to p → index_of p ≡ 64 * r + y) }
+            → IsMoved self.now.class (64 * self.now.row + y) self.now.from to p
+            → index_of p ≡ 64 * r + y) }
         ensures small { IfSome result (λ r. r < 1048576) }
     {
         match self.way {
@@ -158,7 +163,9 @@ impl RowIndexAfterMove {
     /// The number of the row's position with the last man on its square, after the man has moved to another square: the result of `IndexAfterMove::number_to`.
     #[inline(always)]
     pub fn number_to(&self, to: Square, last: Square) -> u32
-        ensures { (p : Seen) → IsMoved self.now.class (64 * self.now.row + last) self.now.from to p → index_of p ≡ result }
+        ensures { (p : Seen)
+            → IsMoved self.now.class (64 * self.now.row + last) self.now.from to p
+            → index_of p ≡ result }
     {
         let class = self.class;
         let place = u32::from(last.number());

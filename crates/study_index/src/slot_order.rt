@@ -126,7 +126,8 @@ pub fn insert_into_three(
     y: &PlacedMan,
     z: &PlacedMan,
 ) -> (PlacedMan, PlacedMan, PlacedMan, PlacedMan)
-    ensures { result.0 ∷ result.1 ∷ result.2 ∷ result.3 ∷ [] ≡ put_placed k.now (x.now ∷ y.now ∷ z.now ∷ []) }
+    ensures { result.0 ∷ result.1 ∷ result.2 ∷ result.3 ∷ []
+        ≡ put_placed k.now (x.now ∷ y.now ∷ z.now ∷ []) }
 {
     let first = comes_first(x, k);
     let second = first & comes_first(y, k);

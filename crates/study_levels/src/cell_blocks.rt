@@ -89,8 +89,10 @@ fn squares_among(cells: &[u8], from: usize, end: usize, byte: u8) -> SquareSet
     requires from { from ≤ end }
     requires end { end ≤ length cells.now }
     requires few { length cells.now ≤ 64 }
-    ensures here { (y : ℕ) → y < 64 → has result y ≡ true → (y < length cells.now) × (slice_index cells.now y ≡ byte) }
-    ensures all { (y : ℕ) → from ≤ y → y < end → slice_index cells.now y ≡ byte → has result y ≡ true }
+    ensures here { (y : ℕ) → y < 64 → has result y ≡ true → (y < length cells.now)
+        × (slice_index cells.now y ≡ byte) }
+    ensures all { (y : ℕ) → from ≤ y → y < end
+        → slice_index cells.now y ≡ byte → has result y ≡ true }
 {
     let mut set = SquareSet::empty();
     let mut place = from;
@@ -105,8 +107,10 @@ fn squares_among(cells: &[u8], from: usize, end: usize, byte: u8) -> SquareSet
 #[inline]
 fn squares_with(cells: &[u8], byte: u8) -> SquareSet
     requires { length cells.now ≤ 64 }
-    ensures here { (y : ℕ) → y < 64 → has result y ≡ true → (y < length cells.now) × (slice_index cells.now y ≡ byte) }
-    ensures all { (y : ℕ) → y < length cells.now → slice_index cells.now y ≡ byte → has result y ≡ true }
+    ensures here { (y : ℕ) → y < 64 → has result y ≡ true → (y < length cells.now)
+        × (slice_index cells.now y ≡ byte) }
+    ensures all { (y : ℕ) → y < length cells.now
+        → slice_index cells.now y ≡ byte → has result y ≡ true }
 {
     let mut set = SquareSet::empty();
     let mut at = 0usize;
@@ -123,8 +127,10 @@ fn squares_with(cells: &[u8], byte: u8) -> SquareSet
 pub fn row_with(cells: &[u8], row: u32, byte: u8) -> SquareSet
     requires row { 64 * row ≤ length cells.now }
     requires small { length cells.now < 2 ^ 32 }
-    ensures here { (y : ℕ) → y < 64 → has result y ≡ true → (64 * row + y < length cells.now) × (slice_index cells.now (64 * row + y) ≡ byte) }
-    ensures all { (y : ℕ) → y < 64 → 64 * row + y < length cells.now → slice_index cells.now (64 * row + y) ≡ byte → has result y ≡ true }
+    ensures here { (y : ℕ) → y < 64 → has result y ≡ true → (64 * row + y < length cells.now)
+        × (slice_index cells.now (64 * row + y) ≡ byte) }
+    ensures all { (y : ℕ) → y < 64 → 64 * row + y < length cells.now
+        → slice_index cells.now (64 * row + y) ≡ byte → has result y ≡ true }
 {
     let first = (64 * row) as usize;
     let end = cells.len().min(first.saturating_add(BLOCK));

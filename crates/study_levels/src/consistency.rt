@@ -61,8 +61,10 @@ pub fn is_consistent<G: LabelledGame>(game: &G, cells: &[u8], number: u32) -> bo
 pub fn first_inconsistent<G: LabelledGame>(game: &G, cells: &[u8]) -> Option<u32>
     requires laws { IsNumberedClass (G.numbered game.now) }
     requires cells { length cells.now ≡ (G.numbered game.now).size }
-    ensures other { IfSome result (λ n. (n < (G.numbered game.now).size) × IsOtherAt (G.numbered game.now) cells.now n) }
-    ensures given { IfNone result ((n : ℕ) → n < (G.numbered game.now).size → IsGivenAt (G.numbered game.now) cells.now n) }
+    ensures other { IfSome result (λ n. (n < (G.numbered game.now).size)
+        × IsOtherAt (G.numbered game.now) cells.now n) }
+    ensures given { IfNone result ((n : ℕ) → n < (G.numbered game.now).size
+        → IsGivenAt (G.numbered game.now) cells.now n) }
 {
     for number in 0..game.cells() {
         if !is_consistent(game, cells, number) {
@@ -76,7 +78,8 @@ pub fn first_inconsistent<G: LabelledGame>(game: &G, cells: &[u8]) -> Option<u32
 pub fn are_right<G: LabelledGame>(game: &G, cells: &[u8]) -> bool
     requires laws { IsNumberedClass (G.numbered game.now) }
     requires cells { length cells.now ≡ (G.numbered game.now).size }
-    ensures { OutsideIsRight (G.numbered game.now) → IsTrue result ↔ CellsAreRight (G.numbered game.now) cells.now }
+    ensures { OutsideIsRight (G.numbered game.now) → IsTrue result
+        ↔ CellsAreRight (G.numbered game.now) cells.now }
 {
     match first_inconsistent(game, cells) {
         None => true,

@@ -47,7 +47,8 @@ pub trait Game {
     /// Legal moves, among them each one that leads out of the class.
     fn conversions(&self, at: &Self::Position) -> MoveList
         requires numbered { (n : ℕ) × ((numbered self.now).position n ≡ Some at.now) }
-        ensures all { (m : Move) → (numbered self.now).legal at.now m → (numbered self.now).home ((numbered self.now).after at.now m) ≡ false
+        ensures all { (m : Move) → (numbered self.now).legal at.now m
+            → (numbered self.now).home ((numbered self.now).after at.now m) ≡ false
             → Contains result.items m }
         ensures only { (m : Move) → Contains result.items m → (numbered self.now).legal at.now m };
 
@@ -55,7 +56,8 @@ pub trait Game {
     fn may_convert(&self, at: &Self::Position, by: Move) -> bool
         requires numbered { (n : ℕ) × ((numbered self.now).position n ≡ Some at.now) }
         requires legal { (numbered self.now).legal at.now by }
-        ensures { result ≡ false → (numbered self.now).home ((numbered self.now).after at.now by) ≡ true };
+        ensures { result ≡ false
+            → (numbered self.now).home ((numbered self.now).after at.now by) ≡ true };
 
     /// The numbers of the positions from which a move leads to the position of this number.
     fn earlier(&self, number: u32) -> ArrayVec<u32, 384>

@@ -19,9 +19,12 @@ pub fn with_conversion<G: Game>(game: &G, replies: BestReplies, at: &G::Position
     ensures in_lost { (G.numbered game.now).home at.now ≡ true → result.lost ≡ replies.lost }
     ensures in_won { (G.numbered game.now).home at.now ≡ true → result.won ≡ replies.won }
     ensures in_drawn { (G.numbered game.now).home at.now ≡ true → result.drawn ≡ replies.drawn }
-    ensures out_lost { (G.numbered game.now).home at.now ≡ false → result.lost ≡ lost_with replies.lost ((G.numbered game.now).outside at.now) }
-    ensures out_won { (G.numbered game.now).home at.now ≡ false → result.won ≡ won_with replies.won ((G.numbered game.now).outside at.now) }
-    ensures out_drawn { (G.numbered game.now).home at.now ≡ false → result.drawn ≡ drawn_with replies.drawn ((G.numbered game.now).outside at.now) }
+    ensures out_lost { (G.numbered game.now).home at.now ≡ false
+        → result.lost ≡ lost_with replies.lost ((G.numbered game.now).outside at.now) }
+    ensures out_won { (G.numbered game.now).home at.now ≡ false
+        → result.won ≡ won_with replies.won ((G.numbered game.now).outside at.now) }
+    ensures out_drawn { (G.numbered game.now).home at.now ≡ false
+        → result.drawn ≡ drawn_with replies.drawn ((G.numbered game.now).outside at.now) }
 {
     match game.place(at) {
         Location::Cell(_) => replies,
@@ -81,7 +84,8 @@ pub fn initial_by_value(value: Value) -> Initial
 pub fn initial_by_moves<G: Game>(game: &G, number: u32) -> Initial
     requires laws { IsNumberedClass (G.numbered game.now) }
     requires number { number < (G.numbered game.now).size }
-    ensures held { OutsideIsRight (G.numbered game.now) → CellIsHeld (G.numbered game.now) result.far 0 number result.cell }
+    ensures held { OutsideIsRight (G.numbered game.now)
+        → CellIsHeld (G.numbered game.now) result.far 0 number result.cell }
     ensures none { (G.numbered game.now).position number ≡ None → result.cell ≡ 0 }
 {
     let Some(at) = game.decode(number) else {
@@ -114,7 +118,8 @@ fn write_first<G: LevelGame>(game: &G, cells: &mut [u8], number: u32) -> bool
     ensures other { (i : ℕ) → i ≢ number → slice_index cells.new i ≡ slice_index cells.old i }
     ensures held { number < (G.numbered game.now).size → OutsideIsRight (G.numbered game.now)
         → CellIsHeld (G.numbered game.now) result 0 number (slice_index cells.new number) }
-    ensures numbered { number < (G.numbered game.now).size → slice_index cells.new number ≢ 0 → HasPosition (G.numbered game.now) number }
+    ensures numbered { number < (G.numbered game.now).size → slice_index cells.new number ≢ 0
+        → HasPosition (G.numbered game.now) number }
 {
     if number as usize >= cells.len() {
         return false;
@@ -130,12 +135,18 @@ fn write_each_first<G: LevelGame>(game: &G, cells: &mut [u8], row: u32, squares:
     requires laws { IsNumberedClass (G.numbered game.now) }
     requires row { 64 * row < (G.numbered game.now).size }
     requires cells { length cells.old ≡ (G.numbered game.now).size }
-    ensures other { (i : ℕ) → (i < 64 * row) ⊎ (64 * row + 64 ≤ i) → slice_index cells.new i ≡ slice_index cells.old i }
-    ensures kept { (y : ℕ) → y < 64 → has squares y ≡ false → slice_index cells.new (64 * row + y) ≡ slice_index cells.old (64 * row + y) }
-    ensures held { OutsideIsRight (G.numbered game.now) → (y : ℕ) → y < 64 → has squares y ≡ true → 64 * row + y < (G.numbered game.now).size
-        → CellIsHeld (G.numbered game.now) result 0 (64 * row + y) (slice_index cells.new (64 * row + y)) }
-    ensures numbered { (y : ℕ) → y < 64 → has squares y ≡ true → 64 * row + y < (G.numbered game.now).size
-        → slice_index cells.new (64 * row + y) ≢ 0 → HasPosition (G.numbered game.now) (64 * row + y) }
+    ensures other { (i : ℕ) → (i < 64 * row) ⊎ (64 * row + 64 ≤ i)
+        → slice_index cells.new i ≡ slice_index cells.old i }
+    ensures kept { (y : ℕ) → y < 64 → has squares y ≡ false
+        → slice_index cells.new (64 * row + y) ≡ slice_index cells.old (64 * row + y) }
+    ensures held { OutsideIsRight (G.numbered game.now) → (y : ℕ) → y < 64 → has squares y ≡ true
+        → 64 * row + y < (G.numbered game.now).size
+        → CellIsHeld (G.numbered game.now) result 0 (64 * row + y)
+        (slice_index cells.new (64 * row + y)) }
+    ensures numbered { (y : ℕ) → y < 64 → has squares y ≡ true
+        → 64 * row + y < (G.numbered game.now).size
+        → slice_index cells.new (64 * row + y) ≢ 0
+        → HasPosition (G.numbered game.now) (64 * row + y) }
 {
     let mut far = false;
     let _size = game.cells();
@@ -160,11 +171,15 @@ fn initialise_row<G: LevelGame>(game: &G, cells: &mut [u8], row: u32) -> bool
     requires row { 64 * row < (G.numbered game.now).size }
     requires cells { length cells.old ≡ (G.numbered game.now).size }
     requires zero { (y : ℕ) → y < 64 → slice_index cells.old (64 * row + y) ≡ 0 }
-    ensures other { (i : ℕ) → (i < 64 * row) ⊎ (64 * row + 64 ≤ i) → slice_index cells.new i ≡ slice_index cells.old i }
-    ensures held { OutsideIsRight (G.numbered game.now) → (y : ℕ) → y < 64 → 64 * row + y < (G.numbered game.now).size
-        → CellIsHeld (G.numbered game.now) result 0 (64 * row + y) (slice_index cells.new (64 * row + y)) }
+    ensures other { (i : ℕ) → (i < 64 * row) ⊎ (64 * row + 64 ≤ i)
+        → slice_index cells.new i ≡ slice_index cells.old i }
+    ensures held { OutsideIsRight (G.numbered game.now) → (y : ℕ) → y < 64
+        → 64 * row + y < (G.numbered game.now).size
+        → CellIsHeld (G.numbered game.now) result 0 (64 * row + y)
+        (slice_index cells.new (64 * row + y)) }
     ensures numbered { (y : ℕ) → y < 64 → 64 * row + y < (G.numbered game.now).size
-        → slice_index cells.new (64 * row + y) ≢ 0 → HasPosition (G.numbered game.now) (64 * row + y) }
+        → slice_index cells.new (64 * row + y) ≢ 0
+        → HasPosition (G.numbered game.now) (64 * row + y) }
 {
     let unknown = game.undecided_in_row(row);
     write_each_first(game, cells, row, unknown.complement())
@@ -174,7 +189,8 @@ fn initialise_row<G: LevelGame>(game: &G, cells: &mut [u8], row: u32) -> bool
 pub fn initialise<G: LevelGame>(game: &G, cells: &mut [u8]) -> bool
     requires laws { IsNumberedClass (G.numbered game.now) }
     requires cells { length cells.old ≡ (G.numbered game.now).size }
-    ensures held { OutsideIsRight (G.numbered game.now) → CellsAreHeld (G.numbered game.now) result 0 cells.new }
+    ensures held { OutsideIsRight (G.numbered game.now)
+        → CellsAreHeld (G.numbered game.now) result 0 cells.new }
     ensures numbered { CellsHavePositions (G.numbered game.now) cells.new }
 {
     clear_all(cells);

@@ -20,7 +20,9 @@ pub trait LabelledGame: Game {
         requires at { (Self.numbered self.now).position number ≡ Some at.now }
         requires by { (Self.numbered self.now).legal at.now by.now }
         requires cells { length cells.now ≡ (Self.numbered self.now).size }
-        ensures value { result ≡ label_by (Self.numbered self.now) cells.now ((Self.numbered self.now).after at.now by.now) }
+        ensures value { result
+            ≡ label_by (Self.numbered self.now) cells.now
+            ((Self.numbered self.now).after at.now by.now) }
         ensures near { distance_of result < 255 };
 }
 
@@ -30,7 +32,8 @@ pub trait LevelGame: LabelledGame {
     fn first(&self, number: u32) -> Initial
         requires laws { IsNumberedClass (Self.numbered self.now) }
         requires number { number < (Self.numbered self.now).size }
-        ensures held { OutsideIsRight (Self.numbered self.now) → CellIsHeld (Self.numbered self.now) result.far 0 number result.cell }
+        ensures held { OutsideIsRight (Self.numbered self.now)
+            → CellIsHeld (Self.numbered self.now) result.far 0 number result.cell }
         ensures none { (Self.numbered self.now).position number ≡ None → result.cell ≡ 0 };
 
     /// Squares of a row at whose numbers nothing is known before the levels; a row is 64 numbers, one for each square. Not all such squares need be in it.
@@ -44,8 +47,11 @@ pub trait LevelGame: LabelledGame {
         requires level { level < 254 }
         requires numbered { HavePositions (Self.numbered self.now) row decided }
         requires cells { length cells.old ≡ (Self.numbered self.now).size }
-        ensures rise { AreLowered (LeadsIntoRow (Self.numbered self.now) row decided) level cells.old cells.new }
-        ensures done { (i y : ℕ) → y < 64 → has decided y ≡ true → StepLeads (Self.numbered self.now) i (64 * row + y) → IsSetBy (level + 2) cells.new i };
+        ensures rise { AreLowered (LeadsIntoRow (Self.numbered self.now) row decided)
+            level cells.old cells.new }
+        ensures done { (i y : ℕ) → y < 64 → has decided y ≡ true
+            → StepLeads (Self.numbered self.now) i (64 * row + y)
+            → IsSetBy (level + 2) cells.new i };
 
     /// For positions of a row that are won in `level` plies: the positions before them are marked, if they have no mate yet.
     fn mark_before(&self, cells: &mut [u8], row: u32, decided: SquareSet, level: u8) -> u64
@@ -53,8 +59,10 @@ pub trait LevelGame: LabelledGame {
         requires level { level < 254 }
         requires numbered { HavePositions (Self.numbered self.now) row decided }
         requires cells { length cells.old ≡ (Self.numbered self.now).size }
-        ensures rise { AreAdded (LeadsIntoRow (Self.numbered self.now) row decided) level cells.old cells.new }
-        ensures done { (i y : ℕ) → y < 64 → has decided y ≡ true → StepLeads (Self.numbered self.now) i (64 * row + y) → slice_index cells.new i ≢ 0 };
+        ensures rise { AreAdded (LeadsIntoRow (Self.numbered self.now) row decided)
+            level cells.old cells.new }
+        ensures done { (i y : ℕ) → y < 64 → has decided y ≡ true
+            → StepLeads (Self.numbered self.now) i (64 * row + y) → slice_index cells.new i ≢ 0 };
 
     /// The positions, among some of a row, that have a move, and whose moves each lead to a win within `level` plies.
     fn lost_in_row(&self, cells: &[u8], row: u32, candidates: SquareSet, level: u8) -> SquareSet
@@ -63,7 +71,8 @@ pub trait LevelGame: LabelledGame {
         requires cells { length cells.now ≡ (Self.numbered self.now).size }
         ensures only { (y : ℕ) → y < 64 → has result y ≡ true → has candidates y ≡ true }
         ensures yes { (y : ℕ) → y < 64 → has result y ≡ true → (p : Self.Position)
-            × ((Self.numbered self.now).position (64 * row + y) ≡ Some p) × LosesBy (Self.numbered self.now) cells.now level p }
+            × ((Self.numbered self.now).position (64 * row + y) ≡ Some p)
+            × LosesBy (Self.numbered self.now) cells.now level p }
         ensures no { (y : ℕ) → y < 64 → has candidates y ≡ true → has result y ≡ false
             → NoLossBy (Self.numbered self.now) cells.now level (64 * row + y) };
 }

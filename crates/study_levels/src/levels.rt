@@ -18,7 +18,8 @@ pub fn propagate_losses<G: LevelGame>(game: &G, cells: &mut [u8], level: u8) -> 
     requires level { level < 254 }
     requires cells { length cells.old ≡ (G.numbered game.now).size }
     requires numbered { CellsHavePositions (G.numbered game.now) cells.old }
-    ensures rise { AreLowered (λ i. (j : ℕ) × (slice_index cells.old j ≡ level + 1) × StepLeads (G.numbered game.now) i j) level cells.old cells.new }
+    ensures rise { AreLowered (λ i. (j : ℕ) × (slice_index cells.old j ≡ level + 1)
+        × StepLeads (G.numbered game.now) i j) level cells.old cells.new }
     ensures done { LossesGoBack (G.numbered game.now) level cells.old cells.new }
 {
     let mut examined = 0u64;
@@ -41,7 +42,8 @@ pub fn propagate_wins<G: LevelGame>(game: &G, cells: &mut [u8], level: u8) -> u6
     requires level { level < 254 }
     requires cells { length cells.old ≡ (G.numbered game.now).size }
     requires numbered { CellsHavePositions (G.numbered game.now) cells.old }
-    ensures rise { AreAdded (λ i. (j : ℕ) × StepLeads (G.numbered game.now) i j) level cells.old cells.new }
+    ensures rise { AreAdded (λ i. (j : ℕ)
+        × StepLeads (G.numbered game.now) i j) level cells.old cells.new }
     ensures done { WinsGoBack (G.numbered game.now) level cells.old cells.new }
 {
     let mut examined = 0u64;
@@ -60,6 +62,7 @@ pub fn propagate_wins<G: LevelGame>(game: &G, cells: &mut [u8], level: u8) -> u6
 
 /// Tests the numbers of a row that may be lost in `level + 1` plies: the cells of those that are lost stay, the others are set to 0.
 fn confirm_row<G: LevelGame>(game: &G, cells: &mut [u8], row: u32, level: u8) -> u64
+    // Many clauses: which cells may change, which must, and which stay.
     requires laws { IsNumberedClass (G.numbered game.now) }
     requires level { level < 254 }
     requires row { 64 * row < (G.numbered game.now).size }
@@ -67,9 +70,12 @@ fn confirm_row<G: LevelGame>(game: &G, cells: &mut [u8], row: u32, level: u8) ->
     requires small { length cells.old < 2 ^ 32 }
     requires numbered { CellsHavePositions (G.numbered game.now) cells.old }
     ensures fall { AreDropped level cells.old cells.new }
-    ensures other { (i : ℕ) → (i < 64 * row) ⊎ (64 * row + 64 ≤ i) → slice_index cells.new i ≡ slice_index cells.old i }
-    ensures lost { WhereWinsAreTold (G.numbered game.now) level cells.old (RowLossesAreTrue (G.numbered game.now) level row cells.new) }
-    ensures kept { WhereWinsAreTold (G.numbered game.now) level cells.old (RowLossesAreKept (G.numbered game.now) level row cells.old cells.new) }
+    ensures other { (i : ℕ) → (i < 64 * row) ⊎ (64 * row + 64 ≤ i)
+        → slice_index cells.new i ≡ slice_index cells.old i }
+    ensures lost { WhereWinsAreTold (G.numbered game.now) level cells.old
+        (RowLossesAreTrue (G.numbered game.now) level row cells.new) }
+    ensures kept { WhereWinsAreTold (G.numbered game.now) level cells.old
+        (RowLossesAreKept (G.numbered game.now) level row cells.old cells.new) }
 {
     let candidates = row_with(cells, row, level + 2);
     let lost = game.lost_in_row(cells, row, candidates, level);
@@ -85,8 +91,10 @@ pub fn confirm_losses<G: LevelGame>(game: &G, cells: &mut [u8], level: u8) -> u6
     requires cells { length cells.old ≡ (G.numbered game.now).size }
     requires numbered { CellsHavePositions (G.numbered game.now) cells.old }
     ensures fall { AreDropped level cells.old cells.new }
-    ensures lost { WhereWinsAreTold (G.numbered game.now) level cells.old (LossesAreTrue (G.numbered game.now) level cells.new) }
-    ensures kept { WhereWinsAreTold (G.numbered game.now) level cells.old (LossesAreKept (G.numbered game.now) level cells.old cells.new) }
+    ensures lost { WhereWinsAreTold (G.numbered game.now) level cells.old
+        (LossesAreTrue (G.numbered game.now) level cells.new) }
+    ensures kept { WhereWinsAreTold (G.numbered game.now) level cells.old
+        (LossesAreKept (G.numbered game.now) level cells.old cells.new) }
 {
     let mut examined = 0u64;
     let size = game.cells();
@@ -159,8 +167,10 @@ pub struct FillReport {
 pub fn solve_cells<G: LevelGame>(game: &G, cells: &mut [u8]) -> FillReport
     requires laws { IsNumberedClass (G.numbered game.now) }
     requires cells { length cells.old ≡ (G.numbered game.now).size }
-    ensures right { OutsideIsRight (G.numbered game.now) → IsTrue result.fits → CellsAreRight (G.numbered game.now) cells.new }
-    ensures far { OutsideIsRight (G.numbered game.now) → result.fits ≡ false → HasFarMate (G.numbered game.now) }
+    ensures right { OutsideIsRight (G.numbered game.now) → IsTrue result.fits
+        → CellsAreRight (G.numbered game.now) cells.new }
+    ensures far { OutsideIsRight (G.numbered game.now) → result.fits ≡ false
+        → HasFarMate (G.numbered game.now) }
 {
     let far = initialise(game, cells);
     let ended = all_levels(game, cells);

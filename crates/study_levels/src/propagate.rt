@@ -38,7 +38,8 @@ pub fn mark_cell(cells: &mut [u8], number: u32, cell: u8)
 /// Sets a cell to 0.
 fn clear_cell(cells: &mut [u8], number: u32)
     requires number { number < length cells.old }
-    ensures each { (i : ℕ) → (slice_index cells.new i ≡ slice_index cells.old i) ⊎ (i ≡ number) × (slice_index cells.new i ≡ 0) }
+    ensures each { (i : ℕ) → (slice_index cells.new i ≡ slice_index cells.old i) ⊎ (i ≡ number)
+        × (slice_index cells.new i ≡ 0) }
     ensures here { slice_index cells.new number ≡ 0 }
 {
     cells[number as usize] = 0;
@@ -50,8 +51,10 @@ pub fn clear_in_row(cells: &mut [u8], row: u32, squares: SquareSet)
     requires small { length cells.old < 2 ^ 32 }
     requires squares { (y : ℕ) → y < 64 → has squares y ≡ true → 64 * row + y < length cells.old }
     ensures each { (i : ℕ) → (slice_index cells.new i ≡ slice_index cells.old i)
-        ⊎ ((y : ℕ) × (y < 64) × (has squares y ≡ true) × (i ≡ 64 * row + y)) × (slice_index cells.new i ≡ 0) }
-    ensures done { (y : ℕ) → y < 64 → has squares y ≡ true → slice_index cells.new (64 * row + y) ≡ 0 }
+        ⊎ ((y : ℕ) × (y < 64) × (has squares y ≡ true) × (i ≡ 64 * row + y))
+        × (slice_index cells.new i ≡ 0) }
+    ensures done { (y : ℕ) → y < 64 → has squares y ≡ true
+        → slice_index cells.new (64 * row + y) ≡ 0 }
 {
     let mut rest = squares;
     let mut next = 0u8;
@@ -69,8 +72,10 @@ pub fn lower_by_moves<G: Game>(game: &G, cells: &mut [u8], number: u32, level: u
     requires level { level < 254 }
     requires number { number < (G.numbered game.now).size }
     requires cells { length cells.old ≡ (G.numbered game.now).size }
-    ensures rise { AreLowered (λ i. StepLeads (G.numbered game.now) i number) level cells.old cells.new }
-    ensures done { (i : ℕ) → StepLeads (G.numbered game.now) i number → IsSetBy (level + 2) cells.new i }
+    ensures rise { AreLowered (λ i.
+        StepLeads (G.numbered game.now) i number) level cells.old cells.new }
+    ensures done { (i : ℕ) → StepLeads (G.numbered game.now) i number
+        → IsSetBy (level + 2) cells.new i }
 {
     let before = game.earlier(number);
     for from in before.as_slice() {
@@ -85,8 +90,10 @@ pub fn mark_by_moves<G: Game>(game: &G, cells: &mut [u8], number: u32, level: u8
     requires level { level < 254 }
     requires number { number < (G.numbered game.now).size }
     requires cells { length cells.old ≡ (G.numbered game.now).size }
-    ensures rise { AreAdded (λ i. StepLeads (G.numbered game.now) i number) level cells.old cells.new }
-    ensures done { (i : ℕ) → StepLeads (G.numbered game.now) i number → slice_index cells.new i ≢ 0 }
+    ensures rise { AreAdded (λ i.
+        StepLeads (G.numbered game.now) i number) level cells.old cells.new }
+    ensures done { (i : ℕ) → StepLeads (G.numbered game.now) i number
+        → slice_index cells.new i ≢ 0 }
 {
     let before = game.earlier(number);
     for from in before.as_slice() {
@@ -141,7 +148,9 @@ pub fn is_lost_by_moves<G: LabelledGame>(game: &G, cells: &[u8], number: u32, le
     requires laws { IsNumberedClass (G.numbered game.now) }
     requires number { number < (G.numbered game.now).size }
     requires cells { length cells.now ≡ (G.numbered game.now).size }
-    ensures yes { IsTrue result → (p : G.Position) × ((G.numbered game.now).position number ≡ Some p) × LosesBy (G.numbered game.now) cells.now level p }
+    ensures yes { IsTrue result → (p : G.Position)
+        × ((G.numbered game.now).position number ≡ Some p)
+        × LosesBy (G.numbered game.now) cells.now level p }
     ensures no { result ≡ false → NoLossBy (G.numbered game.now) cells.now level number }
 {
     match game.decode(number) {

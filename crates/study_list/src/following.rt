@@ -21,13 +21,17 @@ pub fn follow_list<'a, R: Read, W: Write, P: PageSource, A: Allocator>(
     out: &mut W,
     tables: Tables<'a, P, A>,
 ) -> Result<Summary, RunFault>
-    ensures list { (classes : List AClass) → tables_honest P.honest tables.entry → ((c : AClass) → tables_held tables.entry c ≡ is_among classes c)
+    ensures list { (classes : List AClass) → tables_honest P.honest tables.entry
+        → ((c : AClass) → tables_held tables.entry c ≡ is_among classes c)
         → IfSome (R.remaining script.old)
-        (λ bytes. IsList (over_tables classes (are_paged tables.entry)) bytes (R.remaining script.new)
+        (λ bytes.
+        IsList (over_tables classes (are_paged tables.entry)) bytes (R.remaining script.new)
         (W.contents out.old) (W.contents out.new) result) }
-    ensures shape { IfSome (R.remaining script.old) (λ bytes. ListShape bytes (R.remaining script.new) result) }
+    ensures shape { IfSome (R.remaining script.old) (λ bytes.
+        ListShape bytes (R.remaining script.new) result) }
     ensures fits { IfSome (R.remaining script.old)
-        (λ bytes. ListFits bytes (R.remaining script.new) (W.contents out.old) (W.contents out.new) result) }
+        (λ bytes.
+        ListFits bytes (R.remaining script.new) (W.contents out.old) (W.contents out.new) result) }
 {
     if write_head_record(out).is_err() {
         return Err(RunFault::WriteDevice);

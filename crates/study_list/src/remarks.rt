@@ -68,8 +68,10 @@ pub fn write_remark<'a, A: Allocator, W: Write>(
     line: &[u8],
     out: &mut W,
 ) -> Result<(), PageFault>
-    ensures ok { OnOk result (Appends (W.contents out.old) (W.contents out.new) (remark_record line.now)) }
-    ensures device { result ≡ Err PageFault.Device → TakesPrefix (W.contents out.old) (W.contents out.new) (remark_record line.now) }
+    ensures ok { OnOk result
+        (Appends (W.contents out.old) (W.contents out.new) (remark_record line.now)) }
+    ensures device { result ≡ Err PageFault.Device
+        → TakesPrefix (W.contents out.old) (W.contents out.new) (remark_record line.now) }
     ensures memory { result ≡ Err PageFault.OutOfMemory → out.new ≡ out.old }
 {
     let mut text = Text::new(alloc);

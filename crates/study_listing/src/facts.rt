@@ -58,7 +58,8 @@ fn find_key<V: Values>(
     value: Value,
     values: &mut V,
 ) -> Result<Option<Move>, ProbeFault>
-    ensures game { V.source.is_honest values.old → IsValueOf p.now value → IfOk result (IsOneKey p.now) }
+    ensures game { V.source.is_honest values.old → IsValueOf p.now value
+        → IfOk result (IsOneKey p.now) }
     ensures legal { IfOk result (λ key. IfSome key (λ m. is_legal p.now m ≡ true)) }
     ensures faults { IfErr result (CanReport V.source values.old) }
     ensures honest { V.source.is_honest values.old → V.source.is_honest values.new }
@@ -79,7 +80,8 @@ fn key_if<V: Values>(
     value: Value,
     values: &mut V,
 ) -> Result<Option<Move>, ProbeFault>
-    ensures game { V.source.is_honest values.old → IsValueOf p.now value → IfOk result (SaidIf wanted (IsOneKey p.now)) }
+    ensures game { V.source.is_honest values.old → IsValueOf p.now value
+        → IfOk result (SaidIf wanted (IsOneKey p.now)) }
     ensures legal { IfOk result (λ key. IfSome key (λ m. is_legal p.now m ≡ true)) }
     ensures faults { IfErr result (CanReport V.source values.old) }
     ensures honest { V.source.is_honest values.old → V.source.is_honest values.new }
@@ -113,7 +115,8 @@ fn other_if<V: Values>(
     p: &Position,
     values: &mut V,
 ) -> Result<Option<Value>, ProbeFault>
-    ensures game { V.source.is_honest values.old → IfOk result (SaidIf wanted (IsOtherValue p.now)) }
+    ensures game { V.source.is_honest values.old
+        → IfOk result (SaidIf wanted (IsOtherValue p.now)) }
     ensures faults { IfErr result (CanReport V.source values.old) }
     ensures honest { V.source.is_honest values.old → V.source.is_honest values.new }
     ensures tables { HasSameTables V.source values.old values.new }
@@ -130,7 +133,8 @@ pub fn facts_of<V: Values>(
     wanted: Wanted,
     values: &mut V,
 ) -> Result<Facts, ProbeFault>
-    ensures game { V.source.is_honest values.old → IfOk result (AreFacts wanted.other wanted.key p.now) }
+    ensures game { V.source.is_honest values.old
+        → IfOk result (AreFacts wanted.other wanted.key p.now) }
     ensures legal { IfOk result (λ f. IfSome f.key (λ m. is_legal p.now m ≡ true)) }
     ensures faults { IfErr result (CanReport V.source values.old) }
     ensures honest { V.source.is_honest values.old → V.source.is_honest values.new }

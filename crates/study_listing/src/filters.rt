@@ -180,7 +180,8 @@ fn has_key_let_through<V: Values>(
     p: &Position,
     values: &mut V,
 ) -> Result<bool, ProbeFault>
-    ensures game { V.source.is_honest values.old → IfOk result (λ b. (b ≡ true) ↔ HasKeyLetThrough filters.now p.now) }
+    ensures game { V.source.is_honest values.old
+        → IfOk result (λ b. (b ≡ true) ↔ HasKeyLetThrough filters.now p.now) }
     ensures faults { IfErr result (CanReport V.source values.old) }
     ensures honest { V.source.is_honest values.old → V.source.is_honest values.new }
     ensures tables { HasSameTables V.source values.old values.new }
@@ -201,7 +202,8 @@ pub(crate) fn has_wanted_key<V: Values>(
     p: &Position,
     values: &mut V,
 ) -> Result<bool, ProbeFault>
-    ensures game { V.source.is_honest values.old → IfOk result (λ b. (b ≡ true) ↔ HasWantedKey filters.now p.now) }
+    ensures game { V.source.is_honest values.old
+        → IfOk result (λ b. (b ≡ true) ↔ HasWantedKey filters.now p.now) }
     ensures faults { IfErr result (CanReport V.source values.old) }
     ensures honest { V.source.is_honest values.old → V.source.is_honest values.new }
     ensures tables { HasSameTables V.source values.old values.new }

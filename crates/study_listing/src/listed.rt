@@ -77,7 +77,8 @@ fn is_one_of_pair<V: Values>(
 
 /// The colour image of a position with the other side to move, if it has men on the wanted squares.
 fn counterpart_placed(selection: &Selection, p: &Position) -> Option<Position>
-    ensures { IsValid (handed_on p.now) → result ≡ first_placed selection.now.filters.men (counterpart p.now) turns }
+    ensures { IsValid (handed_on p.now)
+        → result ≡ first_placed selection.now.filters.men (counterpart p.now) turns }
 {
     let other = handed_on(p)?;
     let swapped = Symmetry {
@@ -91,7 +92,8 @@ fn counterpart_placed(selection: &Selection, p: &Position) -> Option<Position>
 
 /// The same for a mutual zugzwang that has two placements.
 fn second_placed(selection: &Selection, p: &Position) -> Option<Position>
-    ensures { (is_paired selection.now.search ≡ true → IsValid (handed_on p.now)) → result ≡ second_placed selection.now p.now }
+    ensures { (is_paired selection.now.search ≡ true → IsValid (handed_on p.now))
+        → result ≡ second_placed selection.now p.now }
 {
     let paired = is_paired(&selection.search);
     if paired {
@@ -102,7 +104,8 @@ fn second_placed(selection: &Selection, p: &Position) -> Option<Position>
 
 /// The image of a position that is listed: the first with men on the wanted squares.
 fn shown(selection: &Selection, p: &Position) -> Option<Position>
-    ensures { (is_paired selection.now.search ≡ true → IsValid (handed_on p.now)) → result ≡ shown selection.now p.now }
+    ensures { (is_paired selection.now.search ≡ true → IsValid (handed_on p.now))
+        → result ≡ shown selection.now p.now }
 {
     match first_placed(selection.filters.men.as_slice(), p) {
         Some(image) => Some(image),
@@ -116,7 +119,8 @@ fn is_listed<V: Values>(
     p: &Position,
     values: &mut V,
 ) -> Result<bool, ProbeFault>
-    ensures game { V.source.is_honest values.old → IsLookedFor selection.now.search p.now → is_some (shown selection.now p.now) ≡ true
+    ensures game { V.source.is_honest values.old → IsLookedFor selection.now.search p.now
+        → is_some (shown selection.now p.now) ≡ true
         → IfOk result (λ b. (b ≡ true) ↔ IsListed selection.now p.now) }
     ensures faults { IfErr result (CanReport V.source values.old) }
     ensures honest { V.source.is_honest values.old → V.source.is_honest values.new }
@@ -163,8 +167,10 @@ pub(crate) fn listed_at<V: Values>(
 ) -> Result<Option<Position>, ProbeFault>
     ensures some { V.source.is_honest values.old → IsFound selection.now.search number
         → IfOk result (λ at. IfSome at (λ q. IsListedAt selection.now number)) }
-    ensures image { V.source.is_honest values.old → IsFound selection.now.search number → IfOk result (λ at. IfSome at (λ q.
-        (p : APosition) × (position_numbered selection.now.search.class number ≡ Some p) × (shown selection.now p ≡ Some q))) }
+    ensures image { V.source.is_honest values.old → IsFound selection.now.search number
+        → IfOk result (λ at. IfSome at (λ q.
+        (p : APosition) × (position_numbered selection.now.search.class number ≡ Some p)
+        × (shown selection.now p ≡ Some q))) }
     ensures none { V.source.is_honest values.old → IsFound selection.now.search number
         → IfOk result (λ at. IfNone at (¬ (IsListedAt selection.now number))) }
     ensures faults { IfErr result (CanReport V.source values.old) }

@@ -66,7 +66,8 @@ pub fn count_numbers<V: CellPages, H: Watch>(
     values: &mut V,
     watch: &mut H,
 ) -> Result<u32, ProbeFault>
-    ensures count { V.source.is_honest values.old → IfOk result (AreSoMany selection.now numbers.from numbers.to) }
+    ensures count { V.source.is_honest values.old
+        → IfOk result (AreSoMany selection.now numbers.from numbers.to) }
     ensures faults { IfErr result (CanReport V.source values.old) }
     ensures honest { V.source.is_honest values.old → V.source.is_honest values.new }
     ensures tables { HasSameTables V.source values.old values.new }
@@ -106,11 +107,15 @@ pub fn list_numbers<V: CellPages, W: Write, H: Watch>(
     watch: &mut H,
 ) -> Result<u32, Stop>
     ensures list { V.source.is_honest values.old
-        → IfOk result (HasWritten selection.now form numbers.from numbers.to (W.contents out.old) (W.contents out.new)) }
+        → IfOk result
+        (HasWritten selection.now form numbers.from numbers.to
+        (W.contents out.old) (W.contents out.new)) }
     ensures values { V.source.is_honest values.old → (f : AFault) → IsErrOf result (Stop.Values f)
-        → HasWrittenSome selection.now form numbers.from numbers.to (W.contents out.old) (W.contents out.new) }
+        → HasWrittenSome selection.now form numbers.from numbers.to
+        (W.contents out.old) (W.contents out.new) }
     ensures device { V.source.is_honest values.old → IsErrOf result Stop.WriteDevice
-        → HasStopped selection.now form numbers.from numbers.to (W.contents out.old) (W.contents out.new) }
+        → HasStopped selection.now form numbers.from numbers.to
+        (W.contents out.old) (W.contents out.new) }
     ensures fits { ¬ (IsErrOf result Stop.TooManyStudies) }
     ensures faults { IfErr result (CanStop V.source values.old) }
     ensures honest { V.source.is_honest values.old → V.source.is_honest values.new }
@@ -148,7 +153,8 @@ pub fn count_found<V: CellPages, H: Watch>(
     values: &mut V,
     watch: &mut H,
 ) -> Result<u32, ProbeFault>
-    ensures count { V.source.is_honest values.old → IfOk result (AreSoMany selection.now 0 (cells_of selection.now.search.class)) }
+    ensures count { V.source.is_honest values.old
+        → IfOk result (AreSoMany selection.now 0 (cells_of selection.now.search.class)) }
     ensures faults { IfErr result (CanReport V.source values.old) }
     ensures honest { V.source.is_honest values.old → V.source.is_honest values.new }
     ensures tables { HasSameTables V.source values.old values.new }
@@ -168,11 +174,15 @@ fn list_lines<V: CellPages, W: Write, H: Watch>(
     watch: &mut H,
 ) -> Result<u32, Stop>
     ensures list { V.source.is_honest values.old
-        → IfOk result (HasWritten selection.now Form.Lines 0 (cells_of selection.now.search.class) (W.contents out.old) (W.contents out.new)) }
+        → IfOk result
+        (HasWritten selection.now Form.Lines 0 (cells_of selection.now.search.class)
+        (W.contents out.old) (W.contents out.new)) }
     ensures values { V.source.is_honest values.old → (f : AFault) → IsErrOf result (Stop.Values f)
-        → HasWrittenSome selection.now Form.Lines 0 (cells_of selection.now.search.class) (W.contents out.old) (W.contents out.new) }
+        → HasWrittenSome selection.now Form.Lines 0 (cells_of selection.now.search.class)
+        (W.contents out.old) (W.contents out.new) }
     ensures device { V.source.is_honest values.old → IsErrOf result Stop.WriteDevice
-        → HasStopped selection.now Form.Lines 0 (cells_of selection.now.search.class) (W.contents out.old) (W.contents out.new) }
+        → HasStopped selection.now Form.Lines 0 (cells_of selection.now.search.class)
+        (W.contents out.old) (W.contents out.new) }
     ensures fits { ¬ (IsErrOf result Stop.TooManyStudies) }
     ensures faults { IfErr result (CanStop V.source values.old) }
     ensures honest { V.source.is_honest values.old → V.source.is_honest values.new }
@@ -193,15 +203,20 @@ fn list_studies<V: CellPages, W: Write, H: Watch>(
     watch: &mut H,
 ) -> Result<u32, Stop>
     ensures list { V.source.is_honest values.old
-        → IfOk result (HasWritten selection.now Form.Script 0 (cells_of selection.now.search.class) (W.contents out.old) (W.contents out.new)) }
+        → IfOk result
+        (HasWritten selection.now Form.Script 0 (cells_of selection.now.search.class)
+        (W.contents out.old) (W.contents out.new)) }
     ensures few { V.source.is_honest values.old → IfOk result (λ count. count ≤ 25000) }
     ensures many { V.source.is_honest values.old → IsErrOf result Stop.TooManyStudies
-        → (count : ℕ) × AreSoMany selection.now 0 (cells_of selection.now.search.class) count × (25000 < count) }
+        → (count : ℕ)
+        × AreSoMany selection.now 0 (cells_of selection.now.search.class) count × (25000 < count) }
     ensures nothing { IsErrOf result Stop.TooManyStudies → out.new ≡ out.old }
     ensures values { V.source.is_honest values.old → (f : AFault) → IsErrOf result (Stop.Values f)
-        → HasWrittenSome selection.now Form.Script 0 (cells_of selection.now.search.class) (W.contents out.old) (W.contents out.new) }
+        → HasWrittenSome selection.now Form.Script 0 (cells_of selection.now.search.class)
+        (W.contents out.old) (W.contents out.new) }
     ensures device { V.source.is_honest values.old → IsErrOf result Stop.WriteDevice
-        → HasStopped selection.now Form.Script 0 (cells_of selection.now.search.class) (W.contents out.old) (W.contents out.new) }
+        → HasStopped selection.now Form.Script 0 (cells_of selection.now.search.class)
+        (W.contents out.old) (W.contents out.new) }
     ensures faults { IfErr result (CanStop V.source values.old) }
     ensures honest { V.source.is_honest values.old → V.source.is_honest values.new }
     ensures tables { HasSameTables V.source values.old values.new }
@@ -230,15 +245,22 @@ pub fn list_found<V: CellPages, W: Write, H: Watch>(
     watch: &mut H,
 ) -> Result<u32, Stop>
     ensures list { V.source.is_honest values.old
-        → IfOk result (HasWritten selection.now form 0 (cells_of selection.now.search.class) (W.contents out.old) (W.contents out.new)) }
-    ensures few { V.source.is_honest values.old → form ≡ Form.Script → IfOk result (λ count. count ≤ 25000) }
+        → IfOk result
+        (HasWritten selection.now form 0 (cells_of selection.now.search.class)
+        (W.contents out.old) (W.contents out.new)) }
+    ensures few { V.source.is_honest values.old → form ≡ Form.Script
+        → IfOk result (λ count. count ≤ 25000) }
     ensures many { V.source.is_honest values.old → IsErrOf result Stop.TooManyStudies
-        → (form ≡ Form.Script) × ((count : ℕ) × AreSoMany selection.now 0 (cells_of selection.now.search.class) count × (25000 < count)) }
+        → (form ≡ Form.Script)
+        × ((count : ℕ)
+        × AreSoMany selection.now 0 (cells_of selection.now.search.class) count × (25000 < count)) }
     ensures nothing { IsErrOf result Stop.TooManyStudies → out.new ≡ out.old }
     ensures values { V.source.is_honest values.old → (f : AFault) → IsErrOf result (Stop.Values f)
-        → HasWrittenSome selection.now form 0 (cells_of selection.now.search.class) (W.contents out.old) (W.contents out.new) }
+        → HasWrittenSome selection.now form 0 (cells_of selection.now.search.class)
+        (W.contents out.old) (W.contents out.new) }
     ensures device { V.source.is_honest values.old → IsErrOf result Stop.WriteDevice
-        → HasStopped selection.now form 0 (cells_of selection.now.search.class) (W.contents out.old) (W.contents out.new) }
+        → HasStopped selection.now form 0 (cells_of selection.now.search.class)
+        (W.contents out.old) (W.contents out.new) }
     ensures faults { IfErr result (CanStop V.source values.old) }
     ensures honest { V.source.is_honest values.old → V.source.is_honest values.new }
     ensures tables { HasSameTables V.source values.old values.new }
@@ -271,7 +293,8 @@ pub fn selection_of<V: Values>(
 
 /// The mates in so many plies by a side, which is to move.
 fn mates_in(class: Class, side: Side, plies: u8) -> Selection
-    ensures search { result.search ≡ record { class = class; theme = theme.MateIn plies; side = Some side } }
+    ensures search { result.search
+        ≡ record { class = class; theme = theme.MateIn plies; side = Some side } }
     ensures filters { result.filters ≡ no_filters }
 {
     Selection {

@@ -70,7 +70,10 @@ fn write_lines<V: CellPages, W: Write>(
     values: &mut V,
     out: &mut W,
 ) -> Result<(), Stop>
-    ensures lines { V.source.is_honest values.old → OnOk result (HasWrittenLines selection numbers.from numbers.to (W.contents out.old) (W.contents out.new)) }
+    ensures lines { V.source.is_honest values.old
+        → OnOk result
+        (HasWrittenLines selection numbers.from numbers.to
+        (W.contents out.old) (W.contents out.new)) }
     ensures fits { ¬ (IsErrOf result Stop.TooManyStudies) }
     ensures faults { IfErr result (CanStop V.source values.old) }
 {
@@ -102,7 +105,8 @@ fn how_far(end: u32, all: u32) -> ArrayString<32>
 
 /// Writes the progress of the list among all numbers of the class.
 fn write_how_far<W: Write>(out: &mut W, end: u32, all: u32) -> Result<(), Stop>
-    ensures written { OnOk result (Appends (W.contents out.old) (W.contents out.new) (how_far end all)) }
+    ensures written { OnOk result
+        (Appends (W.contents out.old) (W.contents out.new) (how_far end all)) }
     ensures device { IfErr result (λ stop. stop ≡ Stop.WriteDevice) }
     ensures fits { ¬ (IsErrOf result Stop.TooManyStudies) }
 {
@@ -142,9 +146,12 @@ pub fn write_piece<V: CellPages, W: Write>(
     values: &mut V,
     out: &mut W,
 ) -> Result<(), Stop>
-    ensures text { V.source.is_honest values.old → OnOk result (HasWrittenPiece piece.now (W.contents out.old) (W.contents out.new)) }
-    ensures no_table { (c : AClass) → IsErrOf result (Stop.Values (ProbeFault.NoTable c)) → V.source.held values.old c ≡ false }
-    ensures failed_so { (f : ASourceFault) → IsErrOf result (Stop.Values (ProbeFault.TableRead f)) → (c : AClass) × V.source.may_fail values.old c f }
+    ensures text { V.source.is_honest values.old
+        → OnOk result (HasWrittenPiece piece.now (W.contents out.old) (W.contents out.new)) }
+    ensures no_table { (c : AClass) → IsErrOf result (Stop.Values (ProbeFault.NoTable c))
+        → V.source.held values.old c ≡ false }
+    ensures failed_so { (f : ASourceFault) → IsErrOf result (Stop.Values (ProbeFault.TableRead f))
+        → (c : AClass) × V.source.may_fail values.old c f }
     ensures no_damage { V.source.is_honest values.old → IfErr result StopsUndamaged }
     ensures fits { ¬ (IsErrOf result Stop.TooManyStudies) }
 {

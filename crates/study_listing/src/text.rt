@@ -188,7 +188,8 @@ fn study_of(p: &Position, facts: &Facts) -> Listed
 
 /// The line of a position with this theme.
 fn line_text<V: Values>(p: &Position, theme: Theme, values: &mut V) -> Result<Listed, ProbeFault>
-    ensures game { V.source.is_honest values.old → IfOk result (λ text. IsTextOf Form.Lines theme p.now text.bytes) }
+    ensures game { V.source.is_honest values.old
+        → IfOk result (λ text. IsTextOf Form.Lines theme p.now text.bytes) }
     ensures faults { IfErr result (CanReport V.source values.old) }
     ensures honest { V.source.is_honest values.old → V.source.is_honest values.new }
     ensures tables { HasSameTables V.source values.old values.new }
@@ -202,7 +203,8 @@ fn line_text<V: Values>(p: &Position, theme: Theme, values: &mut V) -> Result<Li
 
 /// The study of a position: the result of the side to move, and the only move that keeps it, if there is one.
 fn study_text<V: Values>(p: &Position, values: &mut V) -> Result<Listed, ProbeFault>
-    ensures game { V.source.is_honest values.old → (t : ATheme) → IfOk result (λ text. IsTextOf Form.Script t p.now text.bytes) }
+    ensures game { V.source.is_honest values.old → (t : ATheme)
+        → IfOk result (λ text. IsTextOf Form.Script t p.now text.bytes) }
     ensures faults { IfErr result (CanReport V.source values.old) }
     ensures honest { V.source.is_honest values.old → V.source.is_honest values.new }
     ensures tables { HasSameTables V.source values.old values.new }
@@ -224,7 +226,8 @@ pub fn text_of<V: Values>(
     theme: Theme,
     values: &mut V,
 ) -> Result<Listed, ProbeFault>
-    ensures game { V.source.is_honest values.old → IfOk result (λ text. IsTextOf form theme p.now text.bytes) }
+    ensures game { V.source.is_honest values.old
+        → IfOk result (λ text. IsTextOf form theme p.now text.bytes) }
     ensures faults { IfErr result (CanReport V.source values.old) }
     ensures honest { V.source.is_honest values.old → V.source.is_honest values.new }
     ensures tables { HasSameTables V.source values.old values.new }

@@ -49,10 +49,13 @@ impl<'a, A: Allocator> Bench<'a, A> {
         stipulation: Stipulation,
         values: &mut V,
     ) -> Result<Bench<'a, A>, Refusal<'a, A>>
-        ensures refusal { IfErr result (IsOutside (V.source.held values.old) (asked_at start.position)) }
+        // Many clauses: those of the study after the edit, and those of the values that it probes.
+        ensures refusal { IfErr result
+            (IsOutside (V.source.held values.old) (asked_at start.position)) }
         ensures takes_no_memory { IfErr result (λ e. is_of_tables e ≡ true) }
         ensures no_damage { V.source.is_honest values.old → IfErr result IsUndamaged }
-        ensures first { IfErr result (TellsFirstFault V.source values.old (asked_at start.position) values.new) }
+        ensures first { IfErr result
+            (TellsFirstFault V.source values.old (asked_at start.position) values.new) }
         ensures found { OnOk result (AllHeld (V.source.held values.old) (asked_at start.position)) }
         ensures made { IfOk result (λ b. plain_study (marked b) ≡ record {
           start = start;
@@ -62,10 +65,13 @@ impl<'a, A: Allocator> Bench<'a, A> {
         }) }
         ensures right { V.source.is_honest values.old → IfOk result IsKeptRight }
         ensures relabelled { IfOk result (λ b. b.relabelled ≡ 1) }
-        ensures asked { HasAsked (length (asked_at start.position)) result (V.source.asked_of values.old) (V.source.asked_of values.new) }
-        ensures failures { V.source.failed_of values.new ≡ failures_after result (V.source.failed_of values.old) }
+        ensures asked { HasAsked (length (asked_at start.position)) result
+            (V.source.asked_of values.old) (V.source.asked_of values.new) }
+        ensures failures { V.source.failed_of values.new
+            ≡ failures_after result (V.source.failed_of values.old) }
         ensures honest { V.source.is_honest values.old → V.source.is_honest values.new }
-        ensures fails_as_before { (c : AClass) (f : ASourceFault) → V.source.may_fail values.new c f → V.source.may_fail values.old c f }
+        ensures fails_as_before { (c : AClass) (f : ASourceFault) → V.source.may_fail values.new c f
+            → V.source.may_fail values.old c f }
         ensures tables { (c : AClass) → V.source.held values.new c ≡ V.source.held values.old c }
     {
         let told = evaluate(&start.position, values)?;
@@ -84,18 +90,25 @@ impl<'a, A: Allocator> Bench<'a, A> {
         start: Start,
         values: &mut V,
     ) -> Result<(), Refusal<'a, A>>
-        ensures refusal { IfErr result (IsOutside (V.source.held values.old) (asked_at start.position)) }
+        // Many clauses: those of the study after the edit, and those of the values that it probes.
+        ensures refusal { IfErr result
+            (IsOutside (V.source.held values.old) (asked_at start.position)) }
         ensures takes_no_memory { IfErr result (λ e. is_of_tables e ≡ true) }
         ensures no_damage { V.source.is_honest values.old → IfErr result IsUndamaged }
-        ensures first { IfErr result (TellsFirstFault V.source values.old (asked_at start.position) values.new) }
+        ensures first { IfErr result
+            (TellsFirstFault V.source values.old (asked_at start.position) values.new) }
         ensures found { OnOk result (AllHeld (V.source.held values.old) (asked_at start.position)) }
-        ensures edited { OnOk result (plain_study (marked self.new) ≡ with_position (plain_study (marked self.old)) start) }
+        ensures edited { OnOk result
+            (plain_study (marked self.new) ≡ with_position (plain_study (marked self.old)) start) }
         ensures right { V.source.is_honest values.old → OnOk result (IsKeptRight self.new) }
         ensures relabelled { OnOk result (self.new.relabelled ≡ 1) }
-        ensures asked { HasAsked (length (asked_at start.position)) result (V.source.asked_of values.old) (V.source.asked_of values.new) }
-        ensures failures { V.source.failed_of values.new ≡ failures_after result (V.source.failed_of values.old) }
+        ensures asked { HasAsked (length (asked_at start.position)) result
+            (V.source.asked_of values.old) (V.source.asked_of values.new) }
+        ensures failures { V.source.failed_of values.new
+            ≡ failures_after result (V.source.failed_of values.old) }
         ensures honest { V.source.is_honest values.old → V.source.is_honest values.new }
-        ensures fails_as_before { (c : AClass) (f : ASourceFault) → V.source.may_fail values.new c f → V.source.may_fail values.old c f }
+        ensures fails_as_before { (c : AClass) (f : ASourceFault) → V.source.may_fail values.new c f
+            → V.source.may_fail values.old c f }
         ensures tables { (c : AClass) → V.source.held values.new c ≡ V.source.held values.old c }
         ensures same { OnErr result (self.new ≡ self.old) }
     {
@@ -111,21 +124,33 @@ impl<'a, A: Allocator> Bench<'a, A> {
         start: Start,
         values: &mut V,
     ) -> Result<(), Refusal<'a, A>>
-        ensures broken { OnOk result (first_illegal_from 0 start.position (marked self.old).tree.below ≡ None) }
-        ensures refusal { IfErr result (IsShiftRefusal (V.source.held values.old) (positions_asked (with_start (plain_study (marked self.old)) start))
+        // Many clauses: those of the study after the edit, and those of the values that it probes.
+        ensures broken { OnOk result
+            (first_illegal_from 0 start.position (marked self.old).tree.below ≡ None) }
+        ensures refusal { IfErr result
+            (IsShiftRefusal (V.source.held values.old)
+            (positions_asked (with_start (plain_study (marked self.old)) start))
             (shift_refusal (plain_study (marked self.old)) start)) }
-        ensures edited { OnOk result (plain_study (marked self.new) ≡ with_start (plain_study (marked self.old)) start) }
+        ensures edited { OnOk result
+            (plain_study (marked self.new) ≡ with_start (plain_study (marked self.old)) start) }
         ensures right { V.source.is_honest values.old → OnOk result (IsKeptRight self.new) }
-        ensures relabelled { OnOk result (self.new.relabelled ≡ counted_up_by (size_of (marked self.old).tree) self.old.relabelled) }
+        ensures relabelled { OnOk result
+            (self.new.relabelled
+            ≡ counted_up_by (size_of (marked self.old).tree) self.old.relabelled) }
         ensures no_damage { V.source.is_honest values.old → IfErr result IsUndamaged }
         ensures first { IfErr result (TellsFirstFault V.source values.old
             (positions_asked (with_start (plain_study (marked self.old)) start)) values.new) }
-        ensures found { OnOk result (AllHeld (V.source.held values.old) (positions_asked (with_start (plain_study (marked self.old)) start))) }
-        ensures asked { HasAsked (length (positions_asked (with_start (plain_study (marked self.old)) start))) result
+        ensures found { OnOk result
+            (AllHeld (V.source.held values.old)
+            (positions_asked (with_start (plain_study (marked self.old)) start))) }
+        ensures asked { HasAsked
+            (length (positions_asked (with_start (plain_study (marked self.old)) start))) result
             (V.source.asked_of values.old) (V.source.asked_of values.new) }
-        ensures failures { V.source.failed_of values.new ≡ failures_after result (V.source.failed_of values.old) }
+        ensures failures { V.source.failed_of values.new
+            ≡ failures_after result (V.source.failed_of values.old) }
         ensures honest { V.source.is_honest values.old → V.source.is_honest values.new }
-        ensures fails_as_before { (c : AClass) (f : ASourceFault) → V.source.may_fail values.new c f → V.source.may_fail values.old c f }
+        ensures fails_as_before { (c : AClass) (f : ASourceFault) → V.source.may_fail values.new c f
+            → V.source.may_fail values.old c f }
         ensures tables { (c : AClass) → V.source.held values.new c ≡ V.source.held values.old c }
         ensures same { OnErr result (self.new ≡ self.old) }
     {
@@ -143,23 +168,38 @@ impl<'a, A: Allocator> Bench<'a, A> {
         m: Move,
         values: &mut V,
     ) -> Result<u16, Refusal<'a, A>>
+        // Many clauses: those of the study after the edit, and those of the values that it probes.
         ensures refusal { MatchOption (insert_refusal (plain_study (marked self.old)) path.now m)
-            (IfErr result (IsOutside (V.source.held values.old) (asked_at (after (position_at (marked self.old) path.now) m))))
+            (IfErr result
+            (IsOutside (V.source.held values.old)
+            (asked_at (after (position_at (marked self.old) path.now) m))))
             (λ fault. result ≡ Err fault) }
         ensures no_damage { V.source.is_honest values.old → IfErr result IsUndamaged }
         ensures first { IfErr result (TellsFirstFault V.source values.old
             (asked_at (after (position_at (marked self.old) path.now) m)) values.new) }
-        ensures found { OnOk result (AllHeld (V.source.held values.old) (asked_at (after (position_at (marked self.old) path.now) m))) }
-        ensures edited { OnOk result (plain_study (marked self.new) ≡ with_insertion (plain_study (marked self.old)) path.now m) }
-        ensures kept { OnOk result ((told : ATold) × (evaluation_tree self.new.study.tree ≡ with_child (evaluation_tree self.old.study.tree) path.now m told)) }
+        ensures found { OnOk result
+            (AllHeld (V.source.held values.old)
+            (asked_at (after (position_at (marked self.old) path.now) m))) }
+        ensures edited { OnOk result
+            (plain_study (marked self.new)
+            ≡ with_insertion (plain_study (marked self.old)) path.now m) }
+        ensures kept { OnOk result ((told : ATold)
+            × (evaluation_tree self.new.study.tree
+            ≡ with_child (evaluation_tree self.old.study.tree) path.now m told)) }
         ensures place { IfOk result (λ k. k ≡ children_at (marked self.old).tree.below path.now) }
-        ensures right { V.source.is_honest values.old → IsKeptRight self.old → OnOk result (IsKeptRight self.new) }
-        ensures relabelled { OnOk result (self.new.relabelled ≡ counted_up_by (length path.now + 2) self.old.relabelled) }
-        ensures asked { HasAsked (length (asked_at (after (position_at (marked self.old) path.now) m))) result (V.source.asked_of values.old)
+        ensures right { V.source.is_honest values.old → IsKeptRight self.old
+            → OnOk result (IsKeptRight self.new) }
+        ensures relabelled { OnOk result
+            (self.new.relabelled ≡ counted_up_by (length path.now + 2) self.old.relabelled) }
+        ensures asked { HasAsked
+            (length (asked_at (after (position_at (marked self.old) path.now) m))) result
+            (V.source.asked_of values.old)
             (V.source.asked_of values.new) }
-        ensures failures { V.source.failed_of values.new ≡ failures_after result (V.source.failed_of values.old) }
+        ensures failures { V.source.failed_of values.new
+            ≡ failures_after result (V.source.failed_of values.old) }
         ensures honest { V.source.is_honest values.old → V.source.is_honest values.new }
-        ensures fails_as_before { (c : AClass) (f : ASourceFault) → V.source.may_fail values.new c f → V.source.may_fail values.old c f }
+        ensures fails_as_before { (c : AClass) (f : ASourceFault) → V.source.may_fail values.new c f
+            → V.source.may_fail values.old c f }
         ensures tables { (c : AClass) → V.source.held values.new c ≡ V.source.held values.old c }
         ensures same { OnErr result (self.new ≡ self.old) }
     {
@@ -176,10 +216,12 @@ impl<'a, A: Allocator> Bench<'a, A> {
 
     /// Sets another stipulation.
     pub fn set_stipulation(&mut self, stipulation: Stipulation)
-        ensures edited { plain_study (marked self.new) ≡ with_stipulation (plain_study (marked self.old)) stipulation }
+        ensures edited { plain_study (marked self.new)
+            ≡ with_stipulation (plain_study (marked self.old)) stipulation }
         ensures kept { evaluation_tree self.new.study.tree ≡ evaluation_tree self.old.study.tree }
         ensures right { IsKeptRight self.old → IsKeptRight self.new }
-        ensures relabelled { self.new.relabelled ≡ counted_up_by (size_of (marked self.old).tree) self.old.relabelled }
+        ensures relabelled { self.new.relabelled
+            ≡ counted_up_by (size_of (marked self.old).tree) self.old.relabelled }
     {
         let aim = aim_of(&stipulation, self.start.position.to_move());
         relabel_all(&aim, &mut self.tree, &[]);
@@ -188,11 +230,17 @@ impl<'a, A: Allocator> Bench<'a, A> {
 
     /// Removes the node, with all nodes below it.
     pub fn delete(&mut self, path: &Path<'a, A>) -> Result<(), Refusal<'a, A>>
-        ensures refusal { MatchOption (delete_refusal (plain_study (marked self.old)) path.now) (IsOk result) (λ fault. result ≡ Err fault) }
-        ensures edited { OnOk result (plain_study (marked self.new) ≡ with_deletion (plain_study (marked self.old)) path.now) }
-        ensures kept { OnOk result (evaluation_tree self.new.study.tree ≡ without (evaluation_tree self.old.study.tree) path.now) }
+        ensures refusal { MatchOption (delete_refusal (plain_study (marked self.old)) path.now)
+            (IsOk result) (λ fault. result ≡ Err fault) }
+        ensures edited { OnOk result
+            (plain_study (marked self.new)
+            ≡ with_deletion (plain_study (marked self.old)) path.now) }
+        ensures kept { OnOk result
+            (evaluation_tree self.new.study.tree
+            ≡ without (evaluation_tree self.old.study.tree) path.now) }
         ensures right { IsKeptRight self.old → OnOk result (IsKeptRight self.new) }
-        ensures relabelled { OnOk result (self.new.relabelled ≡ counted_up_by (length path.now) self.old.relabelled) }
+        ensures relabelled { OnOk result
+            (self.new.relabelled ≡ counted_up_by (length path.now) self.old.relabelled) }
         ensures same { OnErr result (self.new ≡ self.old) }
     {
         let aim = aim_of(&self.stipulation, self.start.position.to_move());
@@ -202,11 +250,17 @@ impl<'a, A: Allocator> Bench<'a, A> {
 
     /// Exchanges the node with the one before it.
     pub fn promote(&mut self, path: &Path<'a, A>) -> Result<(), Refusal<'a, A>>
-        ensures refusal { MatchOption (promote_refusal (plain_study (marked self.old)) path.now) (IsOk result) (λ fault. result ≡ Err fault) }
-        ensures edited { OnOk result (plain_study (marked self.new) ≡ with_promotion (plain_study (marked self.old)) path.now) }
-        ensures kept { OnOk result (evaluation_tree self.new.study.tree ≡ moved_up (evaluation_tree self.old.study.tree) path.now) }
+        ensures refusal { MatchOption (promote_refusal (plain_study (marked self.old)) path.now)
+            (IsOk result) (λ fault. result ≡ Err fault) }
+        ensures edited { OnOk result
+            (plain_study (marked self.new)
+            ≡ with_promotion (plain_study (marked self.old)) path.now) }
+        ensures kept { OnOk result
+            (evaluation_tree self.new.study.tree
+            ≡ moved_up (evaluation_tree self.old.study.tree) path.now) }
         ensures right { IsKeptRight self.old → OnOk result (IsKeptRight self.new) }
-        ensures relabelled { OnOk result (self.new.relabelled ≡ counted_up_by (length path.now) self.old.relabelled) }
+        ensures relabelled { OnOk result
+            (self.new.relabelled ≡ counted_up_by (length path.now) self.old.relabelled) }
         ensures same { OnErr result (self.new ≡ self.old) }
     {
         let aim = aim_of(&self.stipulation, self.start.position.to_move());
@@ -216,8 +270,11 @@ impl<'a, A: Allocator> Bench<'a, A> {
 
     /// Sets another text of a tag.
     pub fn set_tag(&mut self, name: TagName, text: &str) -> Result<(), Refusal<'a, A>>
-        ensures refusal { MatchOption (tag_refusal text.now) (IsOk result) (λ fault. result ≡ Err fault) }
-        ensures edited { OnOk result (plain_study (marked self.new) ≡ with_tag (plain_study (marked self.old)) name text.now) }
+        ensures refusal { MatchOption (tag_refusal text.now) (IsOk result)
+            (λ fault. result ≡ Err fault) }
+        ensures edited { OnOk result
+            (plain_study (marked self.new)
+            ≡ with_tag (plain_study (marked self.old)) name text.now) }
         ensures kept { self.new.study.tree ≡ self.old.study.tree }
         ensures right { IsKeptRight self.old → OnOk result (IsKeptRight self.new) }
         ensures relabelled { self.new.relabelled ≡ self.old.relabelled }
@@ -237,17 +294,27 @@ impl<'a, A: Allocator> Bench<'a, A> {
 
     /// Probes every value anew.
     pub fn reannotate<V: Values>(&mut self, values: &mut V) -> Result<(), Refusal<'a, A>>
-        ensures refusal { IfErr result (IsOutside (V.source.held values.old) (positions_asked (marked self.old))) }
-        ensures study { OnOk result (plain_study (marked self.new) ≡ plain_study (marked self.old)) }
+        // Many clauses: those of the study after the edit, and those of the values that it probes.
+        ensures refusal { IfErr result
+            (IsOutside (V.source.held values.old) (positions_asked (marked self.old))) }
+        ensures study { OnOk result
+            (plain_study (marked self.new) ≡ plain_study (marked self.old)) }
         ensures right { V.source.is_honest values.old → OnOk result (IsKeptRight self.new) }
-        ensures relabelled { OnOk result (self.new.relabelled ≡ counted_up_by (size_of (marked self.old).tree) self.old.relabelled) }
+        ensures relabelled { OnOk result
+            (self.new.relabelled
+            ≡ counted_up_by (size_of (marked self.old).tree) self.old.relabelled) }
         ensures no_damage { V.source.is_honest values.old → IfErr result IsUndamaged }
-        ensures first { IfErr result (TellsFirstFault V.source values.old (positions_asked (marked self.old)) values.new) }
-        ensures found { OnOk result (AllHeld (V.source.held values.old) (positions_asked (marked self.old))) }
-        ensures asked { HasAsked (length (positions_asked (marked self.old))) result (V.source.asked_of values.old) (V.source.asked_of values.new) }
-        ensures failures { V.source.failed_of values.new ≡ failures_after result (V.source.failed_of values.old) }
+        ensures first { IfErr result
+            (TellsFirstFault V.source values.old (positions_asked (marked self.old)) values.new) }
+        ensures found { OnOk result
+            (AllHeld (V.source.held values.old) (positions_asked (marked self.old))) }
+        ensures asked { HasAsked (length (positions_asked (marked self.old))) result
+            (V.source.asked_of values.old) (V.source.asked_of values.new) }
+        ensures failures { V.source.failed_of values.new
+            ≡ failures_after result (V.source.failed_of values.old) }
         ensures honest { V.source.is_honest values.old → V.source.is_honest values.new }
-        ensures fails_as_before { (c : AClass) (f : ASourceFault) → V.source.may_fail values.new c f → V.source.may_fail values.old c f }
+        ensures fails_as_before { (c : AClass) (f : ASourceFault) → V.source.may_fail values.new c f
+            → V.source.may_fail values.old c f }
         ensures tables { (c : AClass) → V.source.held values.new c ≡ V.source.held values.old c }
         ensures same { OnErr result (self.new ≡ self.old) }
     {
@@ -261,18 +328,32 @@ impl<'a, A: Allocator> Bench<'a, A> {
         edits: &[Edit<'a, A>],
         values: &mut V,
     ) -> Result<(), Stopped<'a, A>>
-        ensures stopped { IfErr result (λ s. IsStopped (V.source.held values.old) (plain_study (marked self.old)) edits.now s.done s.refusal) }
-        ensures no_damage { V.source.is_honest values.old → IfErr result (λ s. IsUndamaged s.refusal) }
-        ensures first { IfErr result (TellsStop V.source values.old values.new (plain_study (marked self.old)) edits.now) }
-        ensures accepted { AreAccepted (V.source.held values.old) (plain_study (marked self.old)) (accepted_of result edits.now) }
-        ensures edited { plain_study (marked self.new) ≡ edited_by (plain_study (marked self.old)) (accepted_of result edits.now) }
-        ensures kept { AreKeptAfter (evaluation_tree self.old.study.tree) (accepted_of result edits.now) (evaluation_tree self.new.study.tree) }
-        ensures right { V.source.is_honest values.old → IsKeptRight self.old → IsKeptRight self.new }
-        ensures relabelled { self.new.relabelled ≡ labels_by (plain_study (marked self.old)) (accepted_of result edits.now) self.old.relabelled }
-        ensures asked { HasAskedBy (plain_study (marked self.old)) edits.now result (V.source.asked_of values.old) (V.source.asked_of values.new) }
-        ensures failures { V.source.failed_of values.new ≡ failures_stopped result (V.source.failed_of values.old) }
+        // Many clauses: those of the study after the edit, and those of the values that it probes.
+        ensures stopped { IfErr result (λ s.
+            IsStopped (V.source.held values.old)
+            (plain_study (marked self.old)) edits.now s.done s.refusal) }
+        ensures no_damage { V.source.is_honest values.old
+            → IfErr result (λ s. IsUndamaged s.refusal) }
+        ensures first { IfErr result
+            (TellsStop V.source values.old values.new (plain_study (marked self.old)) edits.now) }
+        ensures accepted { AreAccepted (V.source.held values.old) (plain_study (marked self.old))
+            (accepted_of result edits.now) }
+        ensures edited { plain_study (marked self.new)
+            ≡ edited_by (plain_study (marked self.old)) (accepted_of result edits.now) }
+        ensures kept { AreKeptAfter (evaluation_tree self.old.study.tree)
+            (accepted_of result edits.now) (evaluation_tree self.new.study.tree) }
+        ensures right { V.source.is_honest values.old
+            → IsKeptRight self.old → IsKeptRight self.new }
+        ensures relabelled { self.new.relabelled
+            ≡ labels_by (plain_study (marked self.old))
+            (accepted_of result edits.now) self.old.relabelled }
+        ensures asked { HasAskedBy (plain_study (marked self.old)) edits.now result
+            (V.source.asked_of values.old) (V.source.asked_of values.new) }
+        ensures failures { V.source.failed_of values.new
+            ≡ failures_stopped result (V.source.failed_of values.old) }
         ensures honest { V.source.is_honest values.old → V.source.is_honest values.new }
-        ensures fails_as_before { (c : AClass) (f : ASourceFault) → V.source.may_fail values.new c f → V.source.may_fail values.old c f }
+        ensures fails_as_before { (c : AClass) (f : ASourceFault) → V.source.may_fail values.new c f
+            → V.source.may_fail values.old c f }
         ensures tables { (c : AClass) → V.source.held values.new c ≡ V.source.held values.old c }
         ensures same { accepted_of result edits.now ≡ [] → self.new ≡ self.old }
     {
@@ -288,7 +369,9 @@ impl<'a, A: Allocator> Bench<'a, A> {
 
     /// The position of the node, if the move may be inserted there.
     fn check_insert(&self, steps: &[u16], m: &Move) -> Result<Position, Refusal<'a, A>>
-        ensures refusal { MatchOption (insert_refusal (plain_study (marked self.now)) steps.now m.now) (IsOk result) (λ fault. result ≡ Err fault) }
+        ensures refusal { MatchOption
+            (insert_refusal (plain_study (marked self.now)) steps.now m.now) (IsOk result)
+            (λ fault. result ≡ Err fault) }
         ensures position { IfOk result (λ p. p ≡ position_at self.now.study steps.now) }
     {
         let before = self.check_move(steps, m)?;
@@ -306,20 +389,31 @@ impl<'a, A: Allocator> Bench<'a, A> {
 
     /// Sets another start, from which each move of the tree is legal, and keeps the tree: probes every value, then writes all labels.
     fn annotate<V: Values>(&mut self, start: Start, values: &mut V) -> Result<(), Refusal<'a, A>>
+        // Many clauses: those of the study after the edit, and those of the values that it probes.
         requires playable { IsPlayable start.position self.old.study.tree.below }
-        ensures refusal { IfErr result (IsOutside (V.source.held values.old) (positions_asked (with_start (plain_study (marked self.old)) start))) }
+        ensures refusal { IfErr result
+            (IsOutside (V.source.held values.old)
+            (positions_asked (with_start (plain_study (marked self.old)) start))) }
         ensures no_damage { V.source.is_honest values.old → IfErr result IsUndamaged }
         ensures first { IfErr result (TellsFirstFault V.source values.old
             (positions_asked (with_start (plain_study (marked self.old)) start)) values.new) }
-        ensures found { OnOk result (AllHeld (V.source.held values.old) (positions_asked (with_start (plain_study (marked self.old)) start))) }
-        ensures edited { OnOk result (plain_study (marked self.new) ≡ with_start (plain_study (marked self.old)) start) }
+        ensures found { OnOk result
+            (AllHeld (V.source.held values.old)
+            (positions_asked (with_start (plain_study (marked self.old)) start))) }
+        ensures edited { OnOk result
+            (plain_study (marked self.new) ≡ with_start (plain_study (marked self.old)) start) }
         ensures right { V.source.is_honest values.old → OnOk result (IsKeptRight self.new) }
-        ensures relabelled { OnOk result (self.new.relabelled ≡ counted_up_by (size_of (marked self.old).tree) self.old.relabelled) }
-        ensures asked { HasAsked (length (positions_asked (with_start (plain_study (marked self.old)) start))) result
+        ensures relabelled { OnOk result
+            (self.new.relabelled
+            ≡ counted_up_by (size_of (marked self.old).tree) self.old.relabelled) }
+        ensures asked { HasAsked
+            (length (positions_asked (with_start (plain_study (marked self.old)) start))) result
             (V.source.asked_of values.old) (V.source.asked_of values.new) }
-        ensures failures { V.source.failed_of values.new ≡ failures_after result (V.source.failed_of values.old) }
+        ensures failures { V.source.failed_of values.new
+            ≡ failures_after result (V.source.failed_of values.old) }
         ensures honest { V.source.is_honest values.old → V.source.is_honest values.new }
-        ensures fails_as_before { (c : AClass) (f : ASourceFault) → V.source.may_fail values.new c f → V.source.may_fail values.old c f }
+        ensures fails_as_before { (c : AClass) (f : ASourceFault) → V.source.may_fail values.new c f
+            → V.source.may_fail values.old c f }
         ensures tables { (c : AClass) → V.source.held values.new c ≡ V.source.held values.old c }
         ensures same { OnErr result (self.new ≡ self.old) }
     {
@@ -332,8 +426,10 @@ impl<'a, A: Allocator> Bench<'a, A> {
 
     /// Applies one edit.
     fn apply<V: Values>(&mut self, edit: &Edit<'a, A>, values: &mut V) -> Result<(), Refusal<'a, A>>
-        ensures applied { IsApplied V.source values.old values.new self.old self.new edit.now result }
-        ensures fails_as_before { (c : AClass) (f : ASourceFault) → V.source.may_fail values.new c f → V.source.may_fail values.old c f }
+        ensures applied { IsApplied V.source values.old values.new
+            self.old self.new edit.now result }
+        ensures fails_as_before { (c : AClass) (f : ASourceFault) → V.source.may_fail values.new c f
+            → V.source.may_fail values.old c f }
         ensures no_damage { V.source.is_honest values.old → IfErr result IsUndamaged }
         ensures first { IfErr result (TellsFirstFault V.source values.old
             (questions_of (plain_study (marked self.old)) edit.now) values.new) }
@@ -358,7 +454,8 @@ impl<'a, A: Allocator> Bench<'a, A> {
 
 /// Sets the text of a tag.
 fn set_tag_text(tags: &mut [Option<ArrayString<64>>; 6], name: TagName, text: ArrayString<64>)
-    ensures { map text_of tags.new ≡ slice_set (map text_of tags.old) (tag_index name) (Some text.bytes) }
+    ensures { map text_of tags.new
+        ≡ slice_set (map text_of tags.old) (tag_index name) (Some text.bytes) }
 {
     tags[tag_place(name)] = Some(text);
 }

@@ -44,7 +44,8 @@ fn find_from<'a, A: Allocator>(
     requires found { IsTrue (has_spot (plain_tree tree.now) steps.now) }
     requires within { place ≤ count }
     requires all { count ≡ children_at (plain_tree tree.now).below steps.now }
-    ensures { result ≡ place_from place m.now (skipped place (below_at (plain_tree tree.now).below steps.now)) }
+    ensures { result ≡ place_from place m.now
+        (skipped place (below_at (plain_tree tree.now).below steps.now)) }
 {
     if place >= count {
         return None;

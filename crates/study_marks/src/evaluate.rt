@@ -25,19 +25,28 @@ fn tally_moves<V: Values>(
     values: &mut V,
     tally: &mut MoveOutcomes,
 ) -> Result<(), ProbeFault>
+    // Many clauses: callers use each fact of the probes by itself.
     requires legal { All (λ m. is_legal p.now m ≡ true) moves.now }
     requires room { length tally.old.mates + tally.old.draws + length moves.now ≤ MAX_MOVES }
-    ensures game { V.source.is_honest values.old → OnOk result ((all : List AValue) × AreValuesAfter p.now moves.now all
+    ensures game { V.source.is_honest values.old
+        → OnOk result ((all : List AValue) × AreValuesAfter p.now moves.now all
         × (tally.new ≡ tallies_joined tally.old (tally_of all))) }
-    ensures untold { IfErr result (IsProbeFaultOf (V.source.held values.old) (map (after p.now) moves.now)) }
-    ensures held { OnOk result (AreTablesHeld (V.source.held values.old) (map (after p.now) moves.now)) }
-    ensures told { OnOk result (WereTold V.source values.old (map (after p.now) moves.now) values.new) }
+    ensures untold { IfErr result
+        (IsProbeFaultOf (V.source.held values.old) (map (after p.now) moves.now)) }
+    ensures held { OnOk result
+        (AreTablesHeld (V.source.held values.old) (map (after p.now) moves.now)) }
+    ensures told { OnOk result
+        (WereTold V.source values.old (map (after p.now) moves.now) values.new) }
     ensures no_damage { V.source.is_honest values.old → IfErr result IsNotDamage }
-    ensures first { IfErr result (λ f. IsFirstFault V.source values.old (map (after p.now) moves.now) f values.new) }
-    ensures asked { ProbeCount (length moves.now) (is_ok result) (V.source.asked_of values.old) (V.source.asked_of values.new) }
-    ensures failures { V.source.failed_of values.new ≡ failures_of result (V.source.failed_of values.old) }
+    ensures first { IfErr result (λ f.
+        IsFirstFault V.source values.old (map (after p.now) moves.now) f values.new) }
+    ensures asked { ProbeCount (length moves.now) (is_ok result) (V.source.asked_of values.old)
+        (V.source.asked_of values.new) }
+    ensures failures { V.source.failed_of values.new
+        ≡ failures_of result (V.source.failed_of values.old) }
     ensures honest { V.source.is_honest values.old → V.source.is_honest values.new }
-    ensures fails_as_before { (c : AClass) (f : ASourceFault) → V.source.may_fail values.new c f → V.source.may_fail values.old c f }
+    ensures fails_as_before { (c : AClass) (f : ASourceFault) → V.source.may_fail values.new c f
+        → V.source.may_fail values.old c f }
     ensures tables { (c : AClass) → V.source.held values.new c ≡ V.source.held values.old c }
 {
     match moves.split_first() {
@@ -57,16 +66,21 @@ fn tally_moves<V: Values>(
 
 /// Evaluates a position: its value, and the values after its legal moves.
 pub fn evaluate<V: Values>(p: &Position, values: &mut V) -> Result<Evaluation, ProbeFault>
+    // Many clauses: callers use each fact of the probes by itself.
     ensures game { V.source.is_honest values.old → IfOk result (IsEvaluationOf p.now) }
     ensures untold { IfErr result (IsProbeFaultOf (V.source.held values.old) (asked_at p.now)) }
     ensures held { OnOk result (AreTablesHeld (V.source.held values.old) (asked_at p.now)) }
     ensures told { OnOk result (WereTold V.source values.old (asked_at p.now) values.new) }
     ensures no_damage { V.source.is_honest values.old → IfErr result IsNotDamage }
-    ensures first { IfErr result (λ f. IsFirstFault V.source values.old (asked_at p.now) f values.new) }
-    ensures asked { ProbeCount (length (asked_at p.now)) (is_ok result) (V.source.asked_of values.old) (V.source.asked_of values.new) }
-    ensures failures { V.source.failed_of values.new ≡ failures_of result (V.source.failed_of values.old) }
+    ensures first { IfErr result (λ f.
+        IsFirstFault V.source values.old (asked_at p.now) f values.new) }
+    ensures asked { ProbeCount (length (asked_at p.now)) (is_ok result)
+        (V.source.asked_of values.old) (V.source.asked_of values.new) }
+    ensures failures { V.source.failed_of values.new
+        ≡ failures_of result (V.source.failed_of values.old) }
     ensures honest { V.source.is_honest values.old → V.source.is_honest values.new }
-    ensures fails_as_before { (c : AClass) (f : ASourceFault) → V.source.may_fail values.new c f → V.source.may_fail values.old c f }
+    ensures fails_as_before { (c : AClass) (f : ASourceFault) → V.source.may_fail values.new c f
+        → V.source.may_fail values.old c f }
     ensures tables { (c : AClass) → V.source.held values.new c ≡ V.source.held values.old c }
 {
     // (the clauses of `men` say that the position is valid)

@@ -41,7 +41,8 @@ fn list_positions_below<'t, 'a, A: Allocator>(
     all: &mut Vec<Position, &'a A>,
 ) -> Result<(), AllocError>
     requires playable { IsPlayable position.now node.now.below }
-    ensures listed { OnOk result (all.new.items ≡ all.old.items ++ positions_in position.now node.now.below) }
+    ensures listed { OnOk result
+        (all.new.items ≡ all.old.items ++ positions_in position.now node.now.below) }
 {
     let count = node.width();
     let mut place = 0u16;
@@ -64,7 +65,8 @@ fn list_positions<'a, A: Allocator>(
     position: &Position,
 ) -> Result<Vec<Position, &'a A>, AllocError>
     requires playable { IsPlayable position.now (plain_tree tree.now).below }
-    ensures { IfOk result (λ all. all.items ≡ position.now ∷ positions_in position.now (plain_tree tree.now).below) }
+    ensures { IfOk result (λ all.
+        all.items ≡ position.now ∷ positions_in position.now (plain_tree tree.now).below) }
 {
     let mut all = Vec::with_capacity(alloc, tree.size())?;
     push_position(&mut all, position)?;
@@ -78,17 +80,24 @@ fn evaluate_one<'a, A: Allocator, V: Values>(
     values: &mut V,
     all: &mut Vec<Evaluation, &'a A>,
 ) -> Result<(), ProbeFault>
+    // Many clauses: callers use each fact of the probes by itself.
     requires room { vec_len all.old < vec_capacity all.old }
-    ensures game { V.source.is_honest values.old → OnOk result ((t : ATold) × IsEvaluationOf p.now t × (all.new.items ≡ all.old.items ++ t ∷ [])) }
+    ensures game { V.source.is_honest values.old
+        → OnOk result ((t : ATold) × IsEvaluationOf p.now t
+        × (all.new.items ≡ all.old.items ++ t ∷ [])) }
     ensures untold { IfErr result (IsProbeFaultOf (V.source.held values.old) (asked_at p.now)) }
     ensures held { OnOk result (AreTablesHeld (V.source.held values.old) (asked_at p.now)) }
     ensures told { OnOk result (WereTold V.source values.old (asked_at p.now) values.new) }
     ensures no_damage { V.source.is_honest values.old → IfErr result IsNotDamage }
-    ensures first { IfErr result (λ f. IsFirstFault V.source values.old (asked_at p.now) f values.new) }
-    ensures asked { ProbeCount (length (asked_at p.now)) (is_ok result) (V.source.asked_of values.old) (V.source.asked_of values.new) }
-    ensures failures { V.source.failed_of values.new ≡ failures_of result (V.source.failed_of values.old) }
+    ensures first { IfErr result (λ f.
+        IsFirstFault V.source values.old (asked_at p.now) f values.new) }
+    ensures asked { ProbeCount (length (asked_at p.now)) (is_ok result)
+        (V.source.asked_of values.old) (V.source.asked_of values.new) }
+    ensures failures { V.source.failed_of values.new
+        ≡ failures_of result (V.source.failed_of values.old) }
     ensures honest { V.source.is_honest values.old → V.source.is_honest values.new }
-    ensures fails_as_before { (c : AClass) (f : ASourceFault) → V.source.may_fail values.new c f → V.source.may_fail values.old c f }
+    ensures fails_as_before { (c : AClass) (f : ASourceFault) → V.source.may_fail values.new c f
+        → V.source.may_fail values.old c f }
     ensures tables { (c : AClass) → V.source.held values.new c ≡ V.source.held values.old c }
     ensures len { OnOk result (vec_len all.new ≡ vec_len all.old + 1) }
     ensures capacity { vec_capacity all.new ≡ vec_capacity all.old }
@@ -104,16 +113,25 @@ fn evaluate_positions<'a, A: Allocator, V: Values>(
     values: &mut V,
     all: &mut Vec<Evaluation, &'a A>,
 ) -> Result<(), ProbeFault>
+    // Many clauses: callers use each fact of the probes by itself.
     requires room { vec_len all.old + length positions.now ≤ vec_capacity all.old }
-    ensures game { V.source.is_honest values.old → OnOk result ((told : List ATold) × AreToldOf positions.now told × (all.new.items ≡ all.old.items ++ told)) }
-    ensures untold { IfErr result (IsProbeFaultOf (V.source.held values.old) (asked_each positions.now)) }
-    ensures held { OnOk result (AreTablesHeld (V.source.held values.old) (asked_each positions.now)) }
+    ensures game { V.source.is_honest values.old
+        → OnOk result ((told : List ATold) × AreToldOf positions.now told
+        × (all.new.items ≡ all.old.items ++ told)) }
+    ensures untold { IfErr result
+        (IsProbeFaultOf (V.source.held values.old) (asked_each positions.now)) }
+    ensures held { OnOk result
+        (AreTablesHeld (V.source.held values.old) (asked_each positions.now)) }
     ensures no_damage { V.source.is_honest values.old → IfErr result IsNotDamage }
-    ensures first { IfErr result (λ f. IsFirstFault V.source values.old (asked_each positions.now) f values.new) }
-    ensures asked { ProbeCount (length (asked_each positions.now)) (is_ok result) (V.source.asked_of values.old) (V.source.asked_of values.new) }
-    ensures failures { V.source.failed_of values.new ≡ failures_of result (V.source.failed_of values.old) }
+    ensures first { IfErr result (λ f.
+        IsFirstFault V.source values.old (asked_each positions.now) f values.new) }
+    ensures asked { ProbeCount (length (asked_each positions.now)) (is_ok result)
+        (V.source.asked_of values.old) (V.source.asked_of values.new) }
+    ensures failures { V.source.failed_of values.new
+        ≡ failures_of result (V.source.failed_of values.old) }
     ensures honest { V.source.is_honest values.old → V.source.is_honest values.new }
-    ensures fails_as_before { (c : AClass) (f : ASourceFault) → V.source.may_fail values.new c f → V.source.may_fail values.old c f }
+    ensures fails_as_before { (c : AClass) (f : ASourceFault) → V.source.may_fail values.new c f
+        → V.source.may_fail values.old c f }
     ensures tables { (c : AClass) → V.source.held values.new c ≡ V.source.held values.old c }
 {
     for p in positions {
@@ -129,19 +147,30 @@ pub fn evaluate_all<'a, A: Allocator, V: Values>(
     position: &Position,
     values: &mut V,
 ) -> Result<Vec<Evaluation, &'a A>, Refusal<'a, A>>
+    // Many clauses: callers use each fact of the probes by itself.
     requires playable { IsPlayable position.now (plain_tree tree.now).below }
     ensures game { V.source.is_honest values.old → IfOk result (λ all.
-        AllAreEvaluated position.now (reevaluated_tree all.items (evaluation_tree (plain_tree tree.now)))) }
-    ensures refusal { IfErr result (IsOutside (V.source.held values.old) (asked_at position.now ++ asked_below position.now (plain_tree tree.now).below)) }
+        AllAreEvaluated position.now
+        (reevaluated_tree all.items (evaluation_tree (plain_tree tree.now)))) }
+    ensures refusal { IfErr result
+        (IsOutside (V.source.held values.old)
+        (asked_at position.now ++ asked_below position.now (plain_tree tree.now).below)) }
     ensures no_damage { V.source.is_honest values.old → IfErr result IsUndamaged }
     ensures first { IfErr result (TellsFirstFault V.source values.old
-        (asked_at position.now ++ asked_below position.now (plain_tree tree.now).below) values.new) }
-    ensures found { OnOk result (AreTablesHeld (V.source.held values.old) (asked_at position.now ++ asked_below position.now (plain_tree tree.now).below)) }
-    ensures asked { HasAsked (length (asked_at position.now ++ asked_below position.now (plain_tree tree.now).below)) result
+        (asked_at position.now
+        ++ asked_below position.now (plain_tree tree.now).below) values.new) }
+    ensures found { OnOk result
+        (AreTablesHeld (V.source.held values.old)
+        (asked_at position.now ++ asked_below position.now (plain_tree tree.now).below)) }
+    ensures asked { HasAsked
+        (length (asked_at position.now
+        ++ asked_below position.now (plain_tree tree.now).below)) result
         (V.source.asked_of values.old) (V.source.asked_of values.new) }
-    ensures failures { V.source.failed_of values.new ≡ failures_after result (V.source.failed_of values.old) }
+    ensures failures { V.source.failed_of values.new
+        ≡ failures_after result (V.source.failed_of values.old) }
     ensures honest { V.source.is_honest values.old → V.source.is_honest values.new }
-    ensures fails_as_before { (c : AClass) (f : ASourceFault) → V.source.may_fail values.new c f → V.source.may_fail values.old c f }
+    ensures fails_as_before { (c : AClass) (f : ASourceFault) → V.source.may_fail values.new c f
+        → V.source.may_fail values.old c f }
     ensures tables { (c : AClass) → V.source.held values.new c ≡ V.source.held values.old c }
 {
     let positions = match list_positions(alloc, tree, position) {

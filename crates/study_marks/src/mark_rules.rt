@@ -23,7 +23,10 @@ pub struct Aim {
 
 /// The aim of a study with this stipulation in which this side moves first.
 pub fn aim_of(stipulation: &Stipulation, first: Side) -> Aim
-    ensures { result ≡ record { goal = stipulation.now.goal; hero_first = same_side stipulation.now.hero first } }
+    ensures { result ≡ record {
+      goal = stipulation.now.goal;
+      hero_first = same_side stipulation.now.hero first;
+    } }
 {
     Aim {
         goal: stipulation.goal,

@@ -75,7 +75,8 @@ impl<'t, 'a, A: Allocator> MarkedNode<'t, 'a, A> {
     /// The child at this place, `None` if there is no such child.
     pub fn child(&self, place: u16) -> Option<MarkedChild<'t, 'a, A>>
         ensures { MatchOption result (node_in self.now.below place [] ≡ None)
-            (λ c. node_in self.now.below place [] ≡ Some (record { played = c.played; label = c.node.label; below = c.node.below })) }
+            (λ c. node_in self.now.below place []
+            ≡ Some (record { played = c.played; label = c.node.label; below = c.node.below })) }
     {
         match self.branch.child(place) {
             None => None,

@@ -34,7 +34,11 @@ pub struct NodeLabel {
 impl NodeLabel {
     /// The mark that is shown, with the mark of the move that led here.
     pub fn mark(&self, on_move: Option<MoveMark>) -> Mark
-        ensures { result ≡ record { value = self.now.told.value; on_move = on_move; faults = self.now.faults } }
+        ensures { result ≡ record {
+          value = self.now.told.value;
+          on_move = on_move;
+          faults = self.now.faults;
+        } }
     {
         Mark {
             value: self.told.value,

@@ -28,8 +28,10 @@ pub fn find_illegal_move<'t, 'a, A: Allocator>(
     requires short { length steps.old.items ≤ 256 }
     requires shallow { IsWithin (256 - length steps.old.items) node.now.below }
     ensures broken { IsTrue result
-        → (path : List ℕ) × (first_illegal_from 0 position.now node.now.below ≡ Some path) × (steps.new.items ≡ steps.old.items ++ path) }
-    ensures whole { result ≡ false → (first_illegal_from 0 position.now node.now.below ≡ None) × (steps.new.items ≡ steps.old.items) }
+        → (path : List ℕ) × (first_illegal_from 0 position.now node.now.below ≡ Some path)
+        × (steps.new.items ≡ steps.old.items ++ path) }
+    ensures whole { result ≡ false → (first_illegal_from 0 position.now node.now.below ≡ None)
+        × (steps.new.items ≡ steps.old.items) }
 {
     let count = node.width();
     let mut place = 0u16;
@@ -94,9 +96,11 @@ pub fn relabel_all<'a, A: Allocator>(
     tree: &mut Tree<'a, NodeLabel, A>,
     all: &[Evaluation],
 )
-    ensures told { evaluation_tree (plain_tree tree.new) ≡ reevaluated_tree all.now (evaluation_tree (plain_tree tree.old)) }
+    ensures told { evaluation_tree (plain_tree tree.new)
+        ≡ reevaluated_tree all.now (evaluation_tree (plain_tree tree.old)) }
     ensures right { AllAddUp aim.now (plain_tree tree.new) }
-    ensures count { tree.new.relabelled ≡ counted_up_by (size_of (plain_tree tree.old)) tree.old.relabelled }
+    ensures count { tree.new.relabelled
+        ≡ counted_up_by (size_of (plain_tree tree.old)) tree.old.relabelled }
 {
     let _few = tree.size();
     tree.rewrite(&RelabelPass { aim, all });

@@ -24,7 +24,8 @@ pub fn add_node<'a, A: Allocator>(
     requires free { child_refusal (plain_tree tree.old) steps.now ≡ None }
     requires room { 0 < spare_of tree.old steps.now }
     requires right { AllAddUp aim.now (plain_tree tree.old) }
-    ensures added { evaluation_tree (plain_tree tree.new) ≡ with_child (evaluation_tree (plain_tree tree.old)) steps.now m.now told }
+    ensures added { evaluation_tree (plain_tree tree.new)
+        ≡ with_child (evaluation_tree (plain_tree tree.old)) steps.now m.now told }
     ensures right { AllAddUp aim.now (plain_tree tree.new) }
     ensures place { result ≡ children_at (plain_tree tree.old).below steps.now }
     ensures count { tree.new.relabelled ≡ counted_up_by (length steps.now + 2) tree.old.relabelled }
@@ -60,10 +61,14 @@ pub fn remove_node<'a, A: Allocator>(
     steps: &[u16],
 ) -> Result<(), TreeFault>
     requires { AllAddUp aim.now (plain_tree tree.old) }
-    ensures refusal { MatchOption (removal_refusal (plain_tree tree.old) steps.now) (IsOk result) (λ fault. result ≡ Err fault) }
-    ensures removed { OnOk result (evaluation_tree (plain_tree tree.new) ≡ without (evaluation_tree (plain_tree tree.old)) steps.now) }
+    ensures refusal { MatchOption (removal_refusal (plain_tree tree.old) steps.now) (IsOk result)
+        (λ fault. result ≡ Err fault) }
+    ensures removed { OnOk result
+        (evaluation_tree (plain_tree tree.new)
+        ≡ without (evaluation_tree (plain_tree tree.old)) steps.now) }
     ensures right { AllAddUp aim.now (plain_tree tree.new) }
-    ensures count { OnOk result (tree.new.relabelled ≡ counted_up_by (length steps.now) tree.old.relabelled) }
+    ensures count { OnOk result
+        (tree.new.relabelled ≡ counted_up_by (length steps.now) tree.old.relabelled) }
     ensures same { OnErr result (tree.new ≡ tree.old) }
 {
     let gone = faults_at(tree, steps);
@@ -85,10 +90,14 @@ pub fn promote_node<'a, A: Allocator>(
     steps: &[u16],
 ) -> Result<(), TreeFault>
     requires { AllAddUp aim.now (plain_tree tree.old) }
-    ensures refusal { MatchOption (move_up_refusal (plain_tree tree.old) steps.now) (IsOk result) (λ fault. result ≡ Err fault) }
-    ensures raised { OnOk result (evaluation_tree (plain_tree tree.new) ≡ moved_up (evaluation_tree (plain_tree tree.old)) steps.now) }
+    ensures refusal { MatchOption (move_up_refusal (plain_tree tree.old) steps.now) (IsOk result)
+        (λ fault. result ≡ Err fault) }
+    ensures raised { OnOk result
+        (evaluation_tree (plain_tree tree.new)
+        ≡ moved_up (evaluation_tree (plain_tree tree.old)) steps.now) }
     ensures right { AllAddUp aim.now (plain_tree tree.new) }
-    ensures count { OnOk result (tree.new.relabelled ≡ counted_up_by (length steps.now) tree.old.relabelled) }
+    ensures count { OnOk result
+        (tree.new.relabelled ≡ counted_up_by (length steps.now) tree.old.relabelled) }
     ensures same { OnErr result (tree.new ≡ tree.old) }
 {
     let raised = faults_at(tree, steps);

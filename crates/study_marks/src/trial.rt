@@ -33,19 +33,28 @@ impl<'a, A: Allocator> Bench<'a, A> {
         m: Move,
         values: &mut V,
     ) -> Result<Mark, Refusal<'a, A>>
+        // Many clauses: callers use each fact of the probes by itself.
         ensures refusal { MatchOption (trial_refusal (plain_study (marked self.now)) path.now m)
-            (IfErr result (IsOutside (V.source.held values.old) (after (position_at (marked self.now) path.now) m ∷ [])))
+            (IfErr result
+            (IsOutside (V.source.held values.old)
+            (after (position_at (marked self.now) path.now) m ∷ [])))
             (λ fault. result ≡ Err fault) }
         ensures takes_no_memory { IsErrOf result Refusal.OutOfMemory → ⊥ }
         ensures no_damage { V.source.is_honest values.old → IfErr result IsUndamaged }
         ensures first { IfErr result (TellsFirstFault V.source values.old
             (after (position_at (marked self.now) path.now) m ∷ []) values.new) }
-        ensures found { OnOk result (AllHeld (V.source.held values.old) (after (position_at (marked self.now) path.now) m ∷ [])) }
-        ensures mark { V.source.is_honest values.old → IsKeptRight self.now → IfOk result (IsMarkOf (marked self.now) path.now m) }
-        ensures asked { HasAsked 1 result (V.source.asked_of values.old) (V.source.asked_of values.new) }
-        ensures failures { V.source.failed_of values.new ≡ failures_after result (V.source.failed_of values.old) }
+        ensures found { OnOk result
+            (AllHeld (V.source.held values.old)
+            (after (position_at (marked self.now) path.now) m ∷ [])) }
+        ensures mark { V.source.is_honest values.old → IsKeptRight self.now
+            → IfOk result (IsMarkOf (marked self.now) path.now m) }
+        ensures asked { HasAsked 1 result (V.source.asked_of values.old)
+            (V.source.asked_of values.new) }
+        ensures failures { V.source.failed_of values.new
+            ≡ failures_after result (V.source.failed_of values.old) }
         ensures honest { V.source.is_honest values.old → V.source.is_honest values.new }
-        ensures fails_as_before { (c : AClass) (f : ASourceFault) → V.source.may_fail values.new c f → V.source.may_fail values.old c f }
+        ensures fails_as_before { (c : AClass) (f : ASourceFault) → V.source.may_fail values.new c f
+            → V.source.may_fail values.old c f }
         ensures tables { (c : AClass) → V.source.held values.new c ≡ V.source.held values.old c }
     {
         let steps = path.steps();
@@ -56,7 +65,9 @@ impl<'a, A: Allocator> Bench<'a, A> {
 
     /// The position of the node, if the move is legal there.
     pub(crate) fn check_move(&self, steps: &[u16], m: &Move) -> Result<Position, Refusal<'a, A>>
-        ensures refusal { MatchOption (trial_refusal (plain_study (marked self.now)) steps.now m.now) (IsOk result) (λ fault. result ≡ Err fault) }
+        ensures refusal { MatchOption
+            (trial_refusal (plain_study (marked self.now)) steps.now m.now) (IsOk result)
+            (λ fault. result ≡ Err fault) }
         ensures short { OnOk result (length steps.now ≤ 256) }
         ensures found { OnOk result (IsTrue (has_spot self.now.study.tree steps.now)) }
         ensures legal { OnOk result (is_legal (position_at self.now.study steps.now) m.now ≡ true) }
@@ -77,7 +88,8 @@ impl<'a, A: Allocator> Bench<'a, A> {
         requires short { length steps.now ≤ 256 }
         requires found { IsTrue (has_spot self.now.study.tree steps.now) }
         ensures { (s : Spot ALabel) → spot_at self.now.study.tree steps.now ≡ Some s
-            → result ≡ mark_of_new_node (aim_of self.now.study) (length steps.now) s.label.told after }
+            → result ≡ mark_of_new_node (aim_of self.now.study)
+            (length steps.now) s.label.told after }
     {
         let aim = aim_of(&self.stipulation, self.start.position.to_move());
         match self.tree.node(steps) {

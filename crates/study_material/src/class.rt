@@ -101,7 +101,8 @@ impl Class {
     pub fn parse(text: &str) -> Result<Class, ClassFault>
         ensures ok { IfOk result (λ c. IsNameOf text.now c) }
         ensures left_out { ¬ (IsErrOf result ClassFault.MaterialLeftOut) }
-        ensures none { IsErrOf result ClassFault.NotAClass ↔ ((c : Class) → ¬ (IsNameOf text.now c)) }
+        ensures none { IsErrOf result ClassFault.NotAClass
+            ↔ ((c : Class) → ¬ (IsNameOf text.now c)) }
     {
         for class in &ALL {
             if class.name() == text {

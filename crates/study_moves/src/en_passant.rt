@@ -10,7 +10,9 @@ use study_board::{Man, Position, Square};
 /// Whether the man is a pawn that captures on the passed square by a legal move.
 #[inline]
 fn captures(p: &Position, man: &Man, x: Square) -> bool
-    ensures { result ≡ (is_en_passant p.now.passed man.now x && is_legal p.now (record { origin = man.now.at; target = x; promoted = None })) }
+    ensures { result
+        ≡ (is_en_passant p.now.passed man.now x
+        && is_legal p.now (record { origin = man.now.at; target = x; promoted = None })) }
 {
     is_en_passant(p.passed(), man, x)
         && is_legal(

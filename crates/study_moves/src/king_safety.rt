@@ -20,7 +20,8 @@ fn is_other_man(by: Side, lifted: Square, m: &Man) -> bool
 /// The squares on which a man of the side bears, once the man on `lifted` is taken away.
 #[inline(always)]
 pub fn reach_of(men: &[Man], by: Side, lifted: Square, m: &Man) -> SquareSet
-    ensures { (x : ℕ) → x < 64 → has result x ≡ (is_other_man by lifted m.now && bears_past men.now lifted m.now x) }
+    ensures { (x : ℕ) → x < 64
+        → has result x ≡ (is_other_man by lifted m.now && bears_past men.now lifted m.now x) }
 {
     if is_other_man(by, lifted, m) {
         attacks_without(men, lifted, m)
@@ -43,7 +44,8 @@ fn attacked_past(men: &[Man], by: Side, lifted: Square) -> SquareSet
 /// The squares on the man's line to the square.
 #[inline]
 fn line_of(m: &Man, k: Square) -> SquareSet
-    ensures { (x : ℕ) → x < 64 → has result x ≡ (is_slider m.now.kind && strictly_between m.now.at x k) }
+    ensures { (x : ℕ) → x < 64
+        → has result x ≡ (is_slider m.now.kind && strictly_between m.now.at x k) }
 {
     if m.kind.is_slider() {
         between(m.at, k)
@@ -126,7 +128,9 @@ fn threatened_by_others(men: &[Man], side: Side, lifted: Square) -> SquareSet
 
 #[inline]
 fn attacked_for_king(men: &[Man], side: Side, man: &Man) -> SquareSet
-    ensures { (x : ℕ) → x < 64 → has result x ≡ (same_kind man.now.kind AKing && attacked_past men.now (other_side side) man.now.at x) }
+    ensures { (x : ℕ) → x < 64
+        → has result x
+        ≡ (same_kind man.now.kind AKing && attacked_past men.now (other_side side) man.now.at x) }
 {
     if man.kind == Kind::King {
         attacked_past(men, side.other(), man.at)

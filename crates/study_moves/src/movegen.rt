@@ -69,9 +69,12 @@ fn add_moves_of(p: &Position, man: &Man, list: &mut MoveList)
 #[inline]
 fn legal_targets(p: &Position, man: &Man) -> (SquareSet, bool)
     requires { same_side man.now.side p.now.to_move ≡ true }
-    ensures all { (m : AMove) → m.target < 64 → is_legal_for p.now man.now m ≡ true → has result.0 m.target ≡ true }
-    ensures going { (x : ℕ) → x < 64 → has result.0 x ≡ true → reaches_target p.now.men p.now.passed man.now x ≡ true }
-    ensures sure { result.1 ≡ true → (x : ℕ) → x < 64 → has result.0 x ≡ true → EachIsLegal p.now man.now x }
+    ensures all { (m : AMove) → m.target < 64 → is_legal_for p.now man.now m ≡ true
+        → has result.0 m.target ≡ true }
+    ensures going { (x : ℕ) → x < 64 → has result.0 x ≡ true
+        → reaches_target p.now.men p.now.passed man.now x ≡ true }
+    ensures sure { result.1 ≡ true → (x : ℕ) → x < 64 → has result.0 x ≡ true
+        → EachIsLegal p.now man.now x }
 {
     let men = p.men();
     let side = p.to_move();
@@ -87,10 +90,12 @@ fn legal_targets(p: &Position, man: &Man) -> (SquareSet, bool)
 fn add_target(p: &Position, man: &Man, target: Square, sure: bool, list: &mut MoveList)
     requires here { man_at p.now.men man.now.at ≡ Some man.now }
     requires sure { sure ≡ true → EachIsLegal p.now man.now target }
-    requires room { array_vec_len list.old + (if reaches_last_rank man.now target then 4 else 1) ≤ MAX_MOVES }
+    requires room { array_vec_len list.old
+        + (if reaches_last_rank man.now target then 4 else 1) ≤ MAX_MOVES }
     requires before { AreMovesBelow p.now list.old.items (512 * man.now.at + 8 * target) }
     ensures after { AreMovesBelow p.now list.new.items (512 * man.now.at + 8 * target + 8) }
-    ensures few { array_vec_len list.new ≤ array_vec_len list.old + (if reaches_last_rank man.now target then 4 else 1) }
+    ensures few { array_vec_len list.new ≤ array_vec_len list.old
+        + (if reaches_last_rank man.now target then 4 else 1) }
 {
     let _target = target.number();
     if reaches_last_rank(man, target) {

@@ -53,7 +53,8 @@ fn add_unmoves_of(q: &Position, man: &Man, list: &mut ArrayVec<Move, 192>)
     requires room { array_vec_len list.old ≤ 128 }
     requires once { AllPairs (λ m n. m ≢ n) list.old.items }
     requires apart { (m : AMove) → Contains list.old.items m → m.target ≢ man.now.at }
-    ensures more { (m : AMove) → Contains list.new.items m ↔ Contains list.old.items m ⊎ IsLastMove q.now man.now m }
+    ensures more { (m : AMove) → Contains list.new.items m ↔ Contains list.old.items m
+        ⊎ IsLastMove q.now man.now m }
     ensures once { AllPairs (λ m n. m ≢ n) list.new.items }
     ensures few { array_vec_len list.new ≤ array_vec_len list.old + 64 }
 {
@@ -219,7 +220,8 @@ fn origins_attacking(men: &[Man], side: Side, man: &Man, k: &Man) -> SquareSet
 /// The squares from which the man bears on the square: those on which a man of the other side there would bear.
 #[inline(always)]
 fn origins_giving_check(men: &[Man], man: &Man, k: Square) -> SquareSet
-    ensures { (a : ℕ) → a < 64 → has result a ≡ bears_past men.now man.now.at (set_back man.now a) k }
+    ensures { (a : ℕ) → a < 64
+        → has result a ≡ bears_past men.now man.now.at (set_back man.now a) k }
 {
     let mirrored = Man {
         side: man.side.other(),

@@ -51,7 +51,8 @@ fn read_square(men: &mut ArrayVec<Man, 64>, b: u8, first: u8, file: u8) -> Optio
     requires room { array_vec_len men.old ≤ first + file }
     ensures known { IfSome result (λ _. is_placement_byte b ≡ true) }
     ensures next { IfSome result (λ next. (next ≡ file + length (squares_of b)) × (next ≤ 8)) }
-    ensures added { IfSome result (λ _. men.new.items ≡ men.old.items ++ men_from (first + file) (squares_of b)) }
+    ensures added { IfSome result (λ _.
+        men.new.items ≡ men.old.items ++ men_from (first + file) (squares_of b)) }
     ensures none { IfNone result ((is_placement_byte b ≡ true) → 8 < file + length (squares_of b)) }
 {
     if is_run(b) {
@@ -78,7 +79,8 @@ fn read_rank(men: &mut ArrayVec<Man, 64>, part: &[u8], first: u8) -> bool
     requires low { first ≤ 56 }
     requires room { array_vec_len men.old ≤ first }
     ensures tells { result ≡ is_rank part.now }
-    ensures added { IsTrue result → men.new.items ≡ men.old.items ++ men_from first (squares part.now) }
+    ensures added { IsTrue result
+        → men.new.items ≡ men.old.items ++ men_from first (squares part.now) }
     ensures room { IsTrue result → array_vec_len men.new ≤ first + 8 }
 {
     let mut file = 0u8;

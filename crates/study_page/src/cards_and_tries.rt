@@ -120,7 +120,8 @@ fn put_san<'a, A: Allocator>(
     m: Move,
 ) -> Result<(), AllocError>
     requires { is_legal p.now m ≡ true }
-    ensures { OnOk result (html.new ≡ html.old ++ inside Element.Strong (said (move_text p.now m))) }
+    ensures { OnOk result (html.new ≡ html.old
+        ++ inside Element.Strong (said (move_text p.now m))) }
 {
     let mut san = Text::new(alloc);
     add_san(&mut san, p, m)?;
@@ -171,7 +172,8 @@ fn put_card_title<'a, A: Allocator>(
     count: u8,
 ) -> Result<(), AllocError>
     requires { is_legal ply.now.position.now m ≡ true }
-    ensures { OnOk result (html.new ≡ html.old ++ card_title ply.now.start.now ply.now.depth ply.now.position.now m count) }
+    ensures { OnOk result (html.new ≡ html.old
+        ++ card_title ply.now.start.now ply.now.depth ply.now.position.now m count) }
 {
     let mut title = Html::new(alloc);
     let mut text = Text::new(alloc);
@@ -192,7 +194,8 @@ fn put_after<'a, A: Allocator>(
     side: Side,
     value: Value,
 ) -> Result<(), AllocError>
-    ensures { OnOk result (html.new ≡ html.old ++ inside Element.Paragraph (said (value_text side value ++ codes ". Also:"))) }
+    ensures { OnOk result (html.new ≡ html.old
+        ++ inside Element.Paragraph (said (value_text side value ++ codes ". Also:"))) }
 {
     let mut text = Text::new(alloc);
     add_value(&mut text, side, value)?;
@@ -209,7 +212,8 @@ fn put_others<'a, A: Allocator>(
     list: &[Alternative],
 ) -> Result<(), AllocError>
     requires { All (λ x. is_legal p.now x.played ≡ true) list.now }
-    ensures { OnOk result (html.new ≡ html.old ++ inside Element.Also (flat_map (also_item p.now value) list.now)) }
+    ensures { OnOk result (html.new ≡ html.old
+        ++ inside Element.Also (flat_map (also_item p.now value) list.now)) }
 {
     let mut others = Html::new(alloc);
     put_each_also(alloc, &mut others, p, value, list)?;
@@ -229,7 +233,8 @@ fn put_card_words<'a, A: Allocator>(
     requires legal { is_legal ply.now.position.now x.now.played ≡ true }
     requires others { All (λ y. is_legal ply.now.position.now y.played ≡ true) list.now }
     ensures { OnOk result (html.new ≡ html.old
-        ++ card_words ply.now.start.now ply.now.depth ply.now.position.now x.now.played count x.now.value list.now) }
+        ++ card_words ply.now.start.now ply.now.depth ply.now.position.now x.now.played
+        count x.now.value list.now) }
 {
     let p = ply.position;
     put_card_title(alloc, html, ply, x.played, count)?;
@@ -250,7 +255,8 @@ pub fn put_card<'a, A: Allocator>(
     requires legal { is_legal ply.now.position.now x.now.played ≡ true }
     requires others { All (λ y. is_legal ply.now.position.now y.played ≡ true) list.now }
     ensures { OnOk result (html.new ≡ html.old
-        ++ card ply.now.start.now ply.now.depth ply.now.position.now x.now.played count x.now.value list.now) }
+        ++ card ply.now.start.now ply.now.depth ply.now.position.now x.now.played
+        count x.now.value list.now) }
 {
     let mut card = Html::new(alloc);
     let mut beside = Html::new(alloc);
@@ -426,7 +432,8 @@ fn put_node<'a, A: Allocator>(
     node: &[u8],
     zugzwang: Zugzwang,
 ) -> Result<(), AllocError>
-    ensures { OnOk result (html.new ≡ html.old ++ inside Element.Cell (said node.now ++ (said (codes " ")
+    ensures { OnOk result (html.new ≡ html.old
+        ++ inside Element.Cell (said node.now ++ (said (codes " ")
         ++ inside Element.Label (said (points_words zugzwang))))) }
 {
     let mut cell = Html::new(alloc);

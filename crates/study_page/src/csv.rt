@@ -127,7 +127,8 @@ fn add_wanted<'a, 'b, A: Allocator, B: Allocator>(
     text: &mut Text<'_, A>,
     bench: &Bench<'b, B>,
 ) -> Result<(), AllocError>
-    ensures { OnOk result (text.new ≡ text.old ++ column (stipulation_text (marked bench.now).stipulation)) }
+    ensures { OnOk result (text.new ≡ text.old
+        ++ column (stipulation_text (marked bench.now).stipulation)) }
 {
     let mut words = Text::new(alloc);
     add_stipulation(&mut words, bench.stipulation())?;
@@ -140,7 +141,8 @@ fn add_verdict<'a, 'b, A: Allocator, B: Allocator>(
     bench: &Bench<'b, B>,
     time: u32,
 ) -> Result<(), AllocError>
-    ensures { OnOk result (text.new ≡ text.old ++ field (stamp_words (judgement_of (marked bench.now) time).stamp)) }
+    ensures { OnOk result (text.new ≡ text.old
+        ++ field (stamp_words (judgement_of (marked bench.now) time).stamp)) }
 {
     let mut words = Text::new(alloc);
     add_stamp_words(&mut words, judgement_of(bench, time).stamp)?;
@@ -173,9 +175,11 @@ fn record_of<'a, 'b, A: Allocator, B: Allocator, V: Values>(
     values: &mut V,
     number: u32,
 ) -> Result<Text<'a, A>, TextFault>
-    ensures text { V.source.is_honest values.old → IfOk result (λ text. IsRecord (marked bench.now) number text) }
+    ensures text { V.source.is_honest values.old
+        → IfOk result (λ text. IsRecord (marked bench.now) number text) }
     ensures form { IfOk result (λ text. IsSomeRecord number text) }
-    ensures asked { HasAsked (within (marked bench.now).start.position V.source) values.old result values.new }
+    ensures asked { HasAsked (within (marked bench.now).start.position V.source)
+        values.old result values.new }
 {
     let mut text = Text::new(alloc);
     let parts = parts_of(alloc, bench, values)?;
@@ -202,14 +206,21 @@ pub fn write_record<'a, 'b, A: Allocator, B: Allocator, V: Values, W: Write>(
     number: u32,
     out: &mut W,
 ) -> Result<(), ReviewFault>
-    ensures plain { V.source.is_honest values.old → IsKeptRight bench.now → OnOk result ((text : List ℕ)
-        × IsRecordOf (plain_study (marked bench.now)) number text × Appends (W.contents out.old) (W.contents out.new) text) }
-    ensures form { OnOk result ((text : List ℕ) × IsSomeRecord number text × Appends (W.contents out.old) (W.contents out.new) text) }
-    ensures device { V.source.is_honest values.old → IsKeptRight bench.now → result ≡ Err ReviewFault.Device → (text : List ℕ)
-        × IsRecordOf (plain_study (marked bench.now)) number text × TakesPrefix (W.contents out.old) (W.contents out.new) text }
+    ensures plain { V.source.is_honest values.old → IsKeptRight bench.now
+        → OnOk result ((text : List ℕ)
+        × IsRecordOf (plain_study (marked bench.now)) number text
+        × Appends (W.contents out.old) (W.contents out.new) text) }
+    ensures form { OnOk result ((text : List ℕ) × IsSomeRecord number text
+        × Appends (W.contents out.old) (W.contents out.new) text) }
+    ensures device { V.source.is_honest values.old → IsKeptRight bench.now
+        → result ≡ Err ReviewFault.Device → (text : List ℕ)
+        × IsRecordOf (plain_study (marked bench.now)) number text
+        × TakesPrefix (W.contents out.old) (W.contents out.new) text }
     ensures memory { result ≡ Err ReviewFault.OutOfMemory → out.new ≡ out.old }
-    ensures untold { (fault : AProbeFault) → result ≡ Err (ReviewFault.Values fault) → out.new ≡ out.old }
-    ensures asked { HasReviewed (within (marked bench.now).start.position V.source) values.old result values.new }
+    ensures untold { (fault : AProbeFault)
+        → result ≡ Err (ReviewFault.Values fault) → out.new ≡ out.old }
+    ensures asked { HasReviewed (within (marked bench.now).start.position V.source)
+        values.old result values.new }
 {
     let text = record_of(alloc, bench, values, number)?;
     write_text(out, text.as_slice())?;
@@ -249,9 +260,12 @@ pub fn write_refused_record<'a, A: Allocator, W: Write>(
     name: &[u8],
     out: &mut W,
 ) -> Result<(), PageFault>
-    ensures ok { OnOk result (Appends (W.contents out.old) (W.contents out.new) (refused_record number line.now name.now)) }
+    ensures ok { OnOk result
+        (Appends (W.contents out.old) (W.contents out.new)
+        (refused_record number line.now name.now)) }
     ensures device { result ≡ Err PageFault.Device
-        → TakesPrefix (W.contents out.old) (W.contents out.new) (refused_record number line.now name.now) }
+        → TakesPrefix (W.contents out.old) (W.contents out.new)
+        (refused_record number line.now name.now) }
     ensures memory { result ≡ Err PageFault.OutOfMemory → out.new ≡ out.old }
 {
     let mut text = Text::new(alloc);

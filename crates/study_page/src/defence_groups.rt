@@ -236,7 +236,8 @@ fn put_groups<'a, A: Allocator>(
 ) -> Result<(), AllocError>
     requires within { place ≤ length list.now }
     requires all { All (IsPlayed p.now) list.now }
-    ensures { OnOk result (html.new ≡ html.old ++ groups_from p.now list.now (take place list.now) (drop place list.now)) }
+    ensures { OnOk result (html.new ≡ html.old
+        ++ groups_from p.now list.now (take place list.now) (drop place list.now)) }
 {
     let (before, rest) = list.split_at(place);
     match rest.split_first() {

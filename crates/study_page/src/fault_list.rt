@@ -169,7 +169,8 @@ pub fn put_dual<'a, A: Allocator>(
     requires legal { is_legal ply.now.position.now x.now.played ≡ true }
     requires others { All (λ y. is_legal ply.now.position.now y.played ≡ true) list.now }
     ensures { OnOk result (html.new ≡ html.old
-        ++ dual_item ply.now.start.now ply.now.depth ply.now.position.now x.now.played x.now.value list.now) }
+        ++ dual_item ply.now.start.now ply.now.depth ply.now.position.now
+        x.now.played x.now.value list.now) }
 {
     let mut text = Text::new(alloc);
     add_label(&mut text, ply.start, ply.depth, ply.position, x.played)?;
@@ -194,7 +195,8 @@ pub fn put_mistake<'a, A: Allocator>(
     value: Value,
 ) -> Result<(), AllocError>
     requires { is_legal ply.now.position.now m ≡ true }
-    ensures { OnOk result (html.new ≡ html.old ++ mistake_item ply.now.start.now ply.now.depth ply.now.position.now m value) }
+    ensures { OnOk result (html.new ≡ html.old
+        ++ mistake_item ply.now.start.now ply.now.depth ply.now.position.now m value) }
 {
     let mut text = Text::new(alloc);
     add_label(&mut text, ply.start, ply.depth, ply.position, m)?;

@@ -36,11 +36,15 @@ pub fn parts_of<'a, 'b, A: Allocator, B: Allocator, V: Values>(
     bench: &Bench<'b, B>,
     values: &mut V,
 ) -> Result<Sections<'a, A>, TextFault>
-    ensures text { V.source.is_honest values.old → IfOk result (λ p. AreRows FaultItems (marked bench.now) p.faults
+    ensures text { V.source.is_honest values.old
+        → IfOk result (λ p. AreRows FaultItems (marked bench.now) p.faults
         × AreTimeFaults (marked bench.now) p.time_faults × AreRows Cards (marked bench.now) p.duals
-        × AreRows TryRows (marked bench.now) p.tries × AreRows ZugzwangRows (marked bench.now) p.zugzwangs
-        × AreRows DefenceRows (marked bench.now) p.defences × AreRows EndRows (marked bench.now) p.ends) }
-    ensures asked { HasAsked (within (marked bench.now).start.position V.source) values.old result values.new }
+        × AreRows TryRows (marked bench.now) p.tries
+        × AreRows ZugzwangRows (marked bench.now) p.zugzwangs
+        × AreRows DefenceRows (marked bench.now) p.defences
+        × AreRows EndRows (marked bench.now) p.ends) }
+    ensures asked { HasAsked (within (marked bench.now).start.position V.source)
+        values.old result values.new }
 {
     // (the study has at most 4,096 nodes)
     let _size = bench.size();
@@ -156,7 +160,8 @@ fn put_solution<'a, 'b, A: Allocator, B: Allocator>(
     html: &mut Html<'_, A>,
     bench: &Bench<'b, B>,
 ) -> Result<(), AllocError>
-    ensures { OnOk result (html.new ≡ html.old ++ solution_part (solution_words (marked bench.now))) }
+    ensures { OnOk result (html.new ≡ html.old
+        ++ solution_part (solution_words (marked bench.now))) }
 {
     let mut part = Html::new(alloc);
     let tree = solution_of(alloc, bench)?;
@@ -240,7 +245,8 @@ fn put_tables<'a, A: Allocator>(
     html: &mut Html<'_, A>,
     parts: &Sections<'_, A>,
 ) -> Result<(), AllocError>
-    ensures { OnOk result (html.new ≡ html.old ++ tables parts.now.tries parts.now.zugzwangs parts.now.defences parts.now.ends) }
+    ensures { OnOk result (html.new ≡ html.old
+        ++ tables parts.now.tries parts.now.zugzwangs parts.now.defences parts.now.ends) }
 {
     let mut tries = Html::new(alloc);
     let mut zugzwangs = Html::new(alloc);
@@ -265,7 +271,8 @@ fn put_top<'a, 'b, A: Allocator, B: Allocator>(
     bench: &Bench<'b, B>,
     parts: &Sections<'_, A>,
 ) -> Result<(), AllocError>
-    ensures { OnOk result (html.new ≡ html.old ++ top (marked bench.now) parts.now.time_faults parts.now.faults) }
+    ensures { OnOk result (html.new ≡ html.old
+        ++ top (marked bench.now) parts.now.time_faults parts.now.faults) }
 {
     let mut within = Html::new(alloc);
     put_figure(alloc, &mut within, bench)?;
@@ -287,7 +294,8 @@ fn put_content<'a, 'b, A: Allocator, B: Allocator>(
     parts: &Sections<'_, A>,
 ) -> Result<(), AllocError>
     ensures { OnOk result (html.new ≡ html.old ++ content (marked bench.now) parts.now.time_faults
-        parts.now.faults parts.now.duals parts.now.tries parts.now.zugzwangs parts.now.defences parts.now.ends) }
+        parts.now.faults parts.now.duals parts.now.tries parts.now.zugzwangs
+        parts.now.defences parts.now.ends) }
 {
     put_head(alloc, html, bench)?;
     put_top(alloc, html, bench, parts)?;
@@ -311,7 +319,8 @@ fn with_row<'s, 'b, S: Allocator, B: Allocator>(
     time: u32,
     number: u32,
 ) -> Result<Html<'s, S>, AllocError>
-    ensures { IfOk result (λ more. more ≡ list.now.rows.now ++ summary_row (marked bench.now) time number) }
+    ensures { IfOk result (λ more.
+        more ≡ list.now.rows.now ++ summary_row (marked bench.now) time number) }
 {
     let mut more = Html::new(list.alloc);
     more.append(list.rows)?;
@@ -334,11 +343,14 @@ fn entry_of<'a, 's, 'b, A: Allocator, S: Allocator, B: Allocator, V: Values>(
     number: u32,
     list: &Listed<'_, 's, S>,
 ) -> Result<Entry<'a, 's, A, S>, TextFault>
-    ensures text { V.source.is_honest values.old → IfOk result (λ entry. IsPage (marked bench.now) number entry.page) }
-    ensures rows { V.source.is_honest values.old → IfOk result (λ entry. (row : List ℕ) × IsRow (marked bench.now) number row
+    ensures text { V.source.is_honest values.old
+        → IfOk result (λ entry. IsPage (marked bench.now) number entry.page) }
+    ensures rows { V.source.is_honest values.old
+        → IfOk result (λ entry. (row : List ℕ) × IsRow (marked bench.now) number row
         × (entry.rows ≡ list.now.rows.now ++ row)) }
     ensures entry { IfOk result (λ entry. IsEntry number entry.page) }
-    ensures asked { HasAsked (within (marked bench.now).start.position V.source) values.old result values.new }
+    ensures asked { HasAsked (within (marked bench.now).start.position V.source)
+        values.old result values.new }
 {
     let mut page = Html::new(alloc);
     let mut content = Html::new(alloc);
@@ -364,19 +376,28 @@ pub fn write_page<'a, 's, 'b, A: Allocator, S: Allocator, B: Allocator, V: Value
     list: Listed<'_, 's, S>,
     out: &mut W,
 ) -> Result<Html<'s, S>, ReviewFault>
-    ensures ok { V.source.is_honest values.old → OnOk result ((text : List ℕ) × IsPage (marked bench.now) number text
+    ensures ok { V.source.is_honest values.old
+        → OnOk result ((text : List ℕ) × IsPage (marked bench.now) number text
         × Appends (W.contents out.old) (W.contents out.new) text) }
-    ensures plain { V.source.is_honest values.old → IsKeptRight bench.now → OnOk result ((text : List ℕ)
-        × IsPageOf (plain_study (marked bench.now)) number text × Appends (W.contents out.old) (W.contents out.new) text) }
-    ensures rows { V.source.is_honest values.old → IfOk result (λ rows. (row : List ℕ) × IsRow (marked bench.now) number row
+    ensures plain { V.source.is_honest values.old → IsKeptRight bench.now
+        → OnOk result ((text : List ℕ)
+        × IsPageOf (plain_study (marked bench.now)) number text
+        × Appends (W.contents out.old) (W.contents out.new) text) }
+    ensures rows { V.source.is_honest values.old
+        → IfOk result (λ rows. (row : List ℕ) × IsRow (marked bench.now) number row
         × (rows ≡ list.entry.rows.now ++ row)) }
-    ensures entry { OnOk result ((text : List ℕ) × IsEntry number text × Appends (W.contents out.old) (W.contents out.new) text) }
-    ensures nested { OnOk result ((text : List ℕ) × IsWellNested text × Appends (W.contents out.old) (W.contents out.new) text) }
-    ensures device { V.source.is_honest values.old → result ≡ Err ReviewFault.Device → (text : List ℕ) × IsPage (marked bench.now) number text
+    ensures entry { OnOk result ((text : List ℕ) × IsEntry number text
+        × Appends (W.contents out.old) (W.contents out.new) text) }
+    ensures nested { OnOk result ((text : List ℕ) × IsWellNested text
+        × Appends (W.contents out.old) (W.contents out.new) text) }
+    ensures device { V.source.is_honest values.old → result ≡ Err ReviewFault.Device
+        → (text : List ℕ) × IsPage (marked bench.now) number text
         × TakesPrefix (W.contents out.old) (W.contents out.new) text }
     ensures memory { result ≡ Err ReviewFault.OutOfMemory → out.new ≡ out.old }
-    ensures untold { (fault : AProbeFault) → result ≡ Err (ReviewFault.Values fault) → out.new ≡ out.old }
-    ensures asked { HasReviewed (within (marked bench.now).start.position V.source) values.old result values.new }
+    ensures untold { (fault : AProbeFault)
+        → result ≡ Err (ReviewFault.Values fault) → out.new ≡ out.old }
+    ensures asked { HasReviewed (within (marked bench.now).start.position V.source)
+        values.old result values.new }
 {
     let entry = entry_of(alloc, bench, values, number, &list)?;
     write_text(out, entry.page.as_slice())?;

@@ -48,7 +48,8 @@ fn put_listed_dual<'a, A: Allocator>(
     requires few { length list.now < 2 ^ 32 }
     requires legal { is_legal ply.now.position.now x.now.played ≡ true }
     requires others { All (λ y. is_legal ply.now.position.now y.played ≡ true) list.now }
-    ensures { OnOk result (html.new ≡ html.old ++ (if listed then dual_item ply.now.start.now ply.now.depth ply.now.position.now
+    ensures { OnOk result (html.new ≡ html.old
+        ++ (if listed then dual_item ply.now.start.now ply.now.depth ply.now.position.now
         x.now.played x.now.value list.now else [])) }
 {
     if !listed {
@@ -81,15 +82,21 @@ fn put_dual_parts<'a, A: Allocator>(
     dual: DualFacts,
     list: &[Alternative],
 ) -> Result<(), AllocError>
+    // Many clauses: one for each part of the page, and those of the probes.
     requires few { length list.now < 2 ^ 32 }
     requires legal { is_legal ply.now.position.now played ≡ true }
     requires others { All (λ y. is_legal ply.now.position.now y.played ≡ true) list.now }
-    ensures faults { OnOk result (parts.new.faults ≡ parts.old.faults ++ (if dual.listed then dual_item ply.now.start.now ply.now.depth
+    ensures faults { OnOk result
+        (parts.new.faults ≡ parts.old.faults
+        ++ (if dual.listed then dual_item ply.now.start.now ply.now.depth
         ply.now.position.now played dual.value list.now else [])) }
     ensures duals { OnOk result (parts.new.duals ≡ parts.old.duals
-        ++ card ply.now.start.now ply.now.depth ply.now.position.now played dual.others dual.value list.now) }
-    ensures time { OnOk result (parts.old.time_faults + (if dual.listed && all_lose_time list.now then 1 else 0) < 2 ^ 32
-        → parts.new.time_faults ≡ parts.old.time_faults + (if dual.listed && all_lose_time list.now then 1 else 0)) }
+        ++ card ply.now.start.now ply.now.depth ply.now.position.now played
+        dual.others dual.value list.now) }
+    ensures time { OnOk result
+        (parts.old.time_faults + (if dual.listed && all_lose_time list.now then 1 else 0) < 2 ^ 32
+        → parts.new.time_faults
+        ≡ parts.old.time_faults + (if dual.listed && all_lose_time list.now then 1 else 0)) }
     ensures tries { parts.new.tries ≡ parts.old.tries }
     ensures zugzwangs { parts.new.zugzwangs ≡ parts.old.zugzwangs }
     ensures defences { parts.new.defences ≡ parts.old.defences }
@@ -116,21 +123,30 @@ fn add_dual<'a, A: Allocator, V: Values>(
     dual: DualFacts,
     values: &mut V,
 ) -> Result<(), TextFault>
+    // Many clauses: one for each part of the page, and those of the probes.
     requires depth { made.now.before.depth + 1 < 2 ^ 64 }
     requires legal { is_legal made.now.before.position made.now.played ≡ true }
-    ensures faults { V.source.is_honest values.old → OnOk result (Grew (EmptyUnless dual.listed (IsFaultOf start.now made.now.before.aim
-        made.now.before.depth made.now.before.line.items made.now.before.position made.now.played dual.value (Some (MoveMark.Dual dual.others))))
+    ensures faults { V.source.is_honest values.old
+        → OnOk result (Grew (EmptyUnless dual.listed (IsFaultOf start.now made.now.before.aim
+        made.now.before.depth made.now.before.line.items made.now.before.position made.now.played
+        dual.value (Some (MoveMark.Dual dual.others))))
         parts.old.faults parts.new.faults) }
-    ensures time { V.source.is_honest values.old → OnOk result (Rose (CountWhere dual.listed (IsTimeDual made.now.before.aim made.now.before.depth
-        made.now.before.line.items made.now.before.position made.now.played)) parts.old.time_faults parts.new.time_faults) }
-    ensures duals { V.source.is_honest values.old → OnOk result (Grew (IsCardOf start.now made.now.before.aim made.now.before.depth
-        made.now.before.line.items made.now.before.position made.now.played dual.value (Some (MoveMark.Dual dual.others)))
+    ensures time { V.source.is_honest values.old
+        → OnOk result
+        (Rose (CountWhere dual.listed (IsTimeDual made.now.before.aim made.now.before.depth
+        made.now.before.line.items made.now.before.position made.now.played))
+        parts.old.time_faults parts.new.time_faults) }
+    ensures duals { V.source.is_honest values.old
+        → OnOk result (Grew (IsCardOf start.now made.now.before.aim made.now.before.depth
+        made.now.before.line.items made.now.before.position made.now.played dual.value
+        (Some (MoveMark.Dual dual.others)))
         parts.old.duals parts.new.duals) }
     ensures tries { parts.new.tries ≡ parts.old.tries }
     ensures zugzwangs { parts.new.zugzwangs ≡ parts.old.zugzwangs }
     ensures defences { parts.new.defences ≡ parts.old.defences }
     ensures ends { parts.new.ends ≡ parts.old.ends }
-    ensures asked { HasAsked (within made.now.before.position V.source) values.old result values.new }
+    ensures asked { HasAsked (within made.now.before.position V.source)
+        values.old result values.new }
 {
     match timed_alternatives(&made.before, made.played, values) {
         Err(fault) => Err(TextFault::Untold(fault)),
@@ -157,7 +173,8 @@ fn put_listed_mistake<'a, A: Allocator>(
     listed: bool,
 ) -> Result<(), AllocError>
     requires { is_legal made.now.before.position made.now.played ≡ true }
-    ensures { OnOk result (html.new ≡ html.old ++ (if listed then mistake_item start.now made.now.before.depth made.now.before.position
+    ensures { OnOk result (html.new ≡ html.old
+        ++ (if listed then mistake_item start.now made.now.before.depth made.now.before.position
         made.now.played value else [])) }
 {
     if !listed {
@@ -182,14 +199,21 @@ pub fn add_move<'a, 'b, A: Allocator, B: Allocator, V: Values>(
     made: &mut MoveContext,
     values: &mut V,
 ) -> Result<(), TextFault>
-    ensures faults { V.source.is_honest values.old → OnOk result (Grew (FaultItems (marked bench.now) steps.now) parts.old.faults parts.new.faults) }
-    ensures time { V.source.is_honest values.old → OnOk result (Rose (IsTimeFault (marked bench.now) steps.now) parts.old.time_faults parts.new.time_faults) }
-    ensures duals { V.source.is_honest values.old → OnOk result (Grew (Cards (marked bench.now) steps.now) parts.old.duals parts.new.duals) }
+    ensures faults { V.source.is_honest values.old
+        → OnOk result
+        (Grew (FaultItems (marked bench.now) steps.now) parts.old.faults parts.new.faults) }
+    ensures time { V.source.is_honest values.old
+        → OnOk result
+        (Rose (IsTimeFault (marked bench.now) steps.now)
+        parts.old.time_faults parts.new.time_faults) }
+    ensures duals { V.source.is_honest values.old
+        → OnOk result (Grew (Cards (marked bench.now) steps.now) parts.old.duals parts.new.duals) }
     ensures tries { parts.new.tries ≡ parts.old.tries }
     ensures zugzwangs { parts.new.zugzwangs ≡ parts.old.zugzwangs }
     ensures defences { parts.new.defences ≡ parts.old.defences }
     ensures ends { parts.new.ends ≡ parts.old.ends }
-    ensures asked { HasAsked (within (marked bench.now).start.position V.source) values.old result values.new }
+    ensures asked { HasAsked (within (marked bench.now).start.position V.source)
+        values.old result values.new }
 {
     let first = bench.start();
     let value = value_at(bench, steps);
@@ -229,7 +253,8 @@ fn put_try_at<'a, 'b, A: Allocator, B: Allocator>(
     requires few { length list.now < 2 ^ 32 }
     requires legal { All (λ x. is_legal p.now x.played ≡ true) list.now }
     ensures { OnOk result (html.new ≡ html.old
-        ++ try_row (where_words (marked bench.now) steps.now) p.now (value_at (marked bench.now) steps.now) list.now) }
+        ++ try_row (where_words (marked bench.now) steps.now) p.now
+        (value_at (marked bench.now) steps.now) list.now) }
 {
     let mut node = Text::new(alloc);
     add_node_name(&mut node, bench, steps)?;
@@ -254,7 +279,8 @@ fn add_try<'a, 'b, A: Allocator, B: Allocator, V: Values>(
     values: &mut V,
 ) -> Result<(), TextFault>
     requires { IsPlaceOf (marked bench.now) steps.now place.now }
-    ensures text { V.source.is_honest values.old → OnOk result (Grew (TryRows (marked bench.now) steps.now) html.old html.new) }
+    ensures text { V.source.is_honest values.old
+        → OnOk result (Grew (TryRows (marked bench.now) steps.now) html.old html.new) }
     ensures asked { HasAsked (within place.now.position V.source) values.old result values.new }
 {
     if !is_try(bench, steps) {
@@ -284,7 +310,8 @@ fn put_defences_at<'a, 'b, A: Allocator, B: Allocator>(
 ) -> Result<(), AllocError>
     requires few { length list.now < 2 ^ 32 }
     requires all { All (IsPlayed p.now) list.now }
-    ensures { OnOk result (html.new ≡ html.old ++ defence_row (where_words (marked bench.now) steps.now) p.now list.now) }
+    ensures { OnOk result (html.new ≡ html.old
+        ++ defence_row (where_words (marked bench.now) steps.now) p.now list.now) }
 {
     let mut node = Text::new(alloc);
     add_node_name(&mut node, bench, steps)?;
@@ -303,7 +330,8 @@ fn add_defences<'a, 'b, A: Allocator, B: Allocator, V: Values>(
 ) -> Result<(), TextFault>
     requires found { IsTrue (has_spot (marked bench.now).tree steps.now) }
     requires place { IsPlaceOf (marked bench.now) steps.now place.now }
-    ensures text { V.source.is_honest values.old → OnOk result (Grew (DefenceRows (marked bench.now) steps.now) html.old html.new) }
+    ensures text { V.source.is_honest values.old
+        → OnOk result (Grew (DefenceRows (marked bench.now) steps.now) html.old html.new) }
     ensures asked { HasAsked (within place.now.position V.source) values.old result values.new }
 {
     if !is_defended(bench, steps) {
@@ -335,7 +363,8 @@ fn put_keep_at<'a, A: Allocator>(
 ) -> Result<(), AllocError>
     requires few { length list.now < 2 ^ 32 }
     requires legal { All (λ x. is_legal p.now x.played ≡ true) list.now }
-    ensures { OnOk result (html.new ≡ html.old ++ end_row node.now p.now.to_move Value.Draw (keep_words p.now list.now)) }
+    ensures { OnOk result (html.new ≡ html.old
+        ++ end_row node.now p.now.to_move Value.Draw (keep_words p.now list.now)) }
 {
     let mut text = Text::new(alloc);
     add_keep(&mut text, p, list)?;
@@ -374,7 +403,8 @@ fn add_continued<'a, A: Allocator, V: Values>(
     values: &mut V,
 ) -> Result<(), TextFault>
     requires { place.now.depth + 20 < 2 ^ 64 }
-    ensures text { V.source.is_honest values.old → OnOk result (Grew (IsEnd start.now place.now.depth node.now place.now.position value)
+    ensures text { V.source.is_honest values.old
+        → OnOk result (Grew (IsEnd start.now place.now.depth node.now place.now.position value)
         html.old html.new) }
     ensures asked { HasAsked (within place.now.position V.source) values.old result values.new }
 {
@@ -413,7 +443,8 @@ fn add_end<'a, 'b, A: Allocator, B: Allocator, V: Values>(
     values: &mut V,
 ) -> Result<(), TextFault>
     requires { IsPlaceOf (marked bench.now) steps.now place.now }
-    ensures text { V.source.is_honest values.old → OnOk result (Grew (EndRows (marked bench.now) steps.now) html.old html.new) }
+    ensures text { V.source.is_honest values.old
+        → OnOk result (Grew (EndRows (marked bench.now) steps.now) html.old html.new) }
     ensures asked { HasAsked (within place.now.position V.source) values.old result values.new }
 {
     if !is_open_end(bench, steps, &place.position) {
@@ -440,7 +471,8 @@ fn put_zugzwang_at<'a, 'b, A: Allocator, B: Allocator>(
     steps: &[u16],
     zugzwang: Option<Zugzwang>,
 ) -> Result<(), AllocError>
-    ensures { OnOk result (html.new ≡ html.old ++ zugzwang_rows (where_words (marked bench.now) steps.now) zugzwang) }
+    ensures { OnOk result (html.new ≡ html.old
+        ++ zugzwang_rows (where_words (marked bench.now) steps.now) zugzwang) }
 {
     match zugzwang {
         None => Ok(()),
@@ -463,7 +495,8 @@ fn add_zugzwang<'a, 'b, A: Allocator, B: Allocator, V: Values>(
     values: &mut V,
 ) -> Result<(), TextFault>
     requires { IsPlaceOf (marked bench.now) steps.now place.now }
-    ensures text { V.source.is_honest values.old → OnOk result (Grew (ZugzwangRows (marked bench.now) steps.now) html.old html.new) }
+    ensures text { V.source.is_honest values.old
+        → OnOk result (Grew (ZugzwangRows (marked bench.now) steps.now) html.old html.new) }
     ensures asked { HasAsked (within place.now.position V.source) values.old result values.new }
 {
     match zugzwang_at(&place.position, values) {
@@ -485,16 +518,23 @@ pub fn add_position<'a, 'b, A: Allocator, B: Allocator, V: Values>(
     place: &NodePosition,
     values: &mut V,
 ) -> Result<(), TextFault>
+    // Many clauses: one for each part of the page, and those of the probes.
     requires found { IsTrue (has_spot (marked bench.now).tree steps.now) }
     requires place { IsPlaceOf (marked bench.now) steps.now place.now }
     ensures faults { parts.new.faults ≡ parts.old.faults }
     ensures time { parts.new.time_faults ≡ parts.old.time_faults }
     ensures duals { parts.new.duals ≡ parts.old.duals }
-    ensures tries { V.source.is_honest values.old → OnOk result (Grew (TryRows (marked bench.now) steps.now) parts.old.tries parts.new.tries) }
+    ensures tries { V.source.is_honest values.old
+        → OnOk result
+        (Grew (TryRows (marked bench.now) steps.now) parts.old.tries parts.new.tries) }
     ensures zugzwangs { V.source.is_honest values.old
-        → OnOk result (Grew (ZugzwangRows (marked bench.now) steps.now) parts.old.zugzwangs parts.new.zugzwangs) }
-    ensures defences { V.source.is_honest values.old → OnOk result (Grew (DefenceRows (marked bench.now) steps.now) parts.old.defences parts.new.defences) }
-    ensures ends { V.source.is_honest values.old → OnOk result (Grew (EndRows (marked bench.now) steps.now) parts.old.ends parts.new.ends) }
+        → OnOk result
+        (Grew (ZugzwangRows (marked bench.now) steps.now) parts.old.zugzwangs parts.new.zugzwangs) }
+    ensures defences { V.source.is_honest values.old
+        → OnOk result
+        (Grew (DefenceRows (marked bench.now) steps.now) parts.old.defences parts.new.defences) }
+    ensures ends { V.source.is_honest values.old
+        → OnOk result (Grew (EndRows (marked bench.now) steps.now) parts.old.ends parts.new.ends) }
     ensures asked { HasAsked (within place.now.position V.source) values.old result values.new }
 {
     add_try(alloc, &mut parts.tries, bench, steps, place, values)?;

@@ -26,7 +26,8 @@ fn add_numbered<'b, A: Allocator, B: Allocator>(
     bench: &Bench<'b, B>,
     number: u32,
 ) -> Result<(), AllocError>
-    ensures { OnOk result (text.new ≡ text.old ++ number_words number (stipulation_text (marked bench.now).stipulation)) }
+    ensures { OnOk result (text.new ≡ text.old
+        ++ number_words number (stipulation_text (marked bench.now).stipulation)) }
 {
     text.add_number(number)?;
     text.add(b". ")?;
@@ -49,7 +50,8 @@ fn add_key<'b, A: Allocator, B: Allocator>(
     text: &mut Text<'_, A>,
     bench: &Bench<'b, B>,
 ) -> Result<(), AllocError>
-    ensures { OnOk result (text.new ≡ text.old ++ key_words (marked bench.now).start (key_of (marked bench.now).tree.below)) }
+    ensures { OnOk result (text.new ≡ text.old
+        ++ key_words (marked bench.now).start (key_of (marked bench.now).tree.below)) }
 {
     match move_context_at(bench, &[0]) {
         None => Ok(()),
@@ -71,7 +73,8 @@ fn put_place_caption<'a, 'b, A: Allocator, B: Allocator>(
     bench: &Bench<'b, B>,
     number: u32,
 ) -> Result<(), AllocError>
-    ensures { OnOk result (html.new ≡ html.old ++ place_caption number (marked bench.now).stipulation (marked bench.now).start
+    ensures { OnOk result (html.new ≡ html.old
+        ++ place_caption number (marked bench.now).stipulation (marked bench.now).start
         (known (tag_of (marked bench.now).tags tag.White)) (key_of (marked bench.now).tree.below)) }
 {
     let mut within = Html::new(alloc);
@@ -125,10 +128,13 @@ pub fn write_place<'a, 'b, A: Allocator, B: Allocator, W: Write>(
     number: u32,
     out: &mut W,
 ) -> Result<(), PageFault>
-    ensures ok { OnOk result ((text : List ℕ) × IsPlaceOf (plain_study (marked bench.now)) number text
+    ensures ok { OnOk result ((text : List ℕ)
+        × IsPlaceOf (plain_study (marked bench.now)) number text
         × Appends (W.contents out.old) (W.contents out.new) text) }
-    ensures formed { OnOk result ((text : List ℕ) × IsPlace number text × Appends (W.contents out.old) (W.contents out.new) text) }
-    ensures device { result ≡ Err PageFault.Device → (text : List ℕ) × IsPlaceOf (plain_study (marked bench.now)) number text
+    ensures formed { OnOk result ((text : List ℕ) × IsPlace number text
+        × Appends (W.contents out.old) (W.contents out.new) text) }
+    ensures device { result ≡ Err PageFault.Device → (text : List ℕ)
+        × IsPlaceOf (plain_study (marked bench.now)) number text
         × TakesPrefix (W.contents out.old) (W.contents out.new) text }
     ensures memory { result ≡ Err PageFault.OutOfMemory → out.new ≡ out.old }
 {

@@ -71,9 +71,12 @@ pub fn write_refusal<'a, A: Allocator, W: Write>(
     reason: &[u8],
     out: &mut W,
 ) -> Result<(), PageFault>
-    ensures ok { OnOk result (Appends (W.contents out.old) (W.contents out.new) (refusal_part line text.now name.now reason.now)) }
+    ensures ok { OnOk result
+        (Appends (W.contents out.old) (W.contents out.new)
+        (refusal_part line text.now name.now reason.now)) }
     ensures device { result ≡ Err PageFault.Device
-        → TakesPrefix (W.contents out.old) (W.contents out.new) (refusal_part line text.now name.now reason.now) }
+        → TakesPrefix (W.contents out.old) (W.contents out.new)
+        (refusal_part line text.now name.now reason.now) }
     ensures memory { result ≡ Err PageFault.OutOfMemory → out.new ≡ out.old }
 {
     let html = refusal_of(alloc, line, text, name, reason)?;
@@ -89,7 +92,8 @@ fn put_link<'a, 'b, A: Allocator, B: Allocator>(
     number: u32,
 ) -> Result<(), AllocError>
     ensures { OnOk result (html.new ≡ html.old
-        ++ inside (Element.Link number) (said (title_words (known (tag_of (marked bench.now).tags tag.Event))))) }
+        ++ inside (Element.Link number)
+        (said (title_words (known (tag_of (marked bench.now).tags tag.Event))))) }
 {
     let title = title_words(known_tag(bench, TagName::Event));
     put_words(alloc, html, Element::Link(number), title)
@@ -102,7 +106,8 @@ fn put_link_cell<'a, 'b, A: Allocator, B: Allocator>(
     number: u32,
 ) -> Result<(), AllocError>
     ensures { OnOk result (html.new ≡ html.old ++ inside Element.Cell
-        (inside (Element.Link number) (said (title_words (known (tag_of (marked bench.now).tags tag.Event)))))) }
+        (inside (Element.Link number)
+        (said (title_words (known (tag_of (marked bench.now).tags tag.Event)))))) }
 {
     let mut within = Html::new(alloc);
     put_link(alloc, &mut within, bench, number)?;
@@ -116,7 +121,8 @@ fn put_judged<'a, 'b, A: Allocator, B: Allocator>(
     bench: &Bench<'b, B>,
     time: u32,
 ) -> Result<(), AllocError>
-    ensures { OnOk result (html.new ≡ html.old ++ (inside Element.Cell (said (stipulation_text (marked bench.now).stipulation))
+    ensures { OnOk result (html.new ≡ html.old
+        ++ (inside Element.Cell (said (stipulation_text (marked bench.now).stipulation))
         ++ inside Element.Cell (said (stamp_words (judgement_of (marked bench.now) time).stamp)))) }
 {
     let mut stipulation = Text::new(alloc);
@@ -218,8 +224,10 @@ pub fn write_summary<'a, A: Allocator, W: Write>(
     rows: &Html<'_, A>,
     out: &mut W,
 ) -> Result<(), PageFault>
-    ensures ok { OnOk result (Appends (W.contents out.old) (W.contents out.new) (summary_part rows.now)) }
-    ensures device { result ≡ Err PageFault.Device → TakesPrefix (W.contents out.old) (W.contents out.new) (summary_part rows.now) }
+    ensures ok { OnOk result
+        (Appends (W.contents out.old) (W.contents out.new) (summary_part rows.now)) }
+    ensures device { result ≡ Err PageFault.Device
+        → TakesPrefix (W.contents out.old) (W.contents out.new) (summary_part rows.now) }
     ensures memory { result ≡ Err PageFault.OutOfMemory → out.new ≡ out.old }
 {
     let html = summary_of(alloc, rows)?;

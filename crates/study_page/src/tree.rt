@@ -138,7 +138,8 @@ fn put_made<'t, 'a, 'b, A: Allocator, B: Allocator>(
     child: &MarkedChild<'t, 'b, B>,
 ) -> Result<(), AllocError>
     requires { is_legal start.now.position child.now.played ≡ true }
-    ensures { OnOk result (html.new ≡ html.old ++ made_words hero first start.now child.now.played child.now.node.label) }
+    ensures { OnOk result (html.new ≡ html.old
+        ++ made_words hero first start.now child.now.played child.now.node.label) }
 {
     let mark = child.node.mark();
     put_played(alloc, html, first, start, child.played, mark.on_move)?;
@@ -185,7 +186,8 @@ fn put_first<'t, 'a, 'b, A: Allocator, B: Allocator>(
     requires there { 0 < width here.now.node.below }
     requires playable { IsPlayable here.now.start.position here.now.node.below }
     ensures { (t : Twig AMark) → node_in here.now.node.below 0 [] ≡ Some t
-        → OnOk result (html.new ≡ html.old ++ made_words hero first here.now.start t.played t.label) }
+        → OnOk result (html.new ≡ html.old
+        ++ made_words hero first here.now.start t.played t.label) }
 {
     let Some(child) = here.node.child(0) else {
         unreachable!()
@@ -223,7 +225,11 @@ fn begin_variation<'t, 'a, 'b, A: Allocator, B: Allocator>(
     requires there { place < width here.now.node.below }
     requires playable { IsPlayable here.now.start.position here.now.node.below }
     ensures { IfOk result (λ v. (m : AMove) × ((node_in here.now.node.below place []
-        ≡ Some (record { played = m; label = v.value.reached.node.label; below = v.value.reached.node.below }))
+        ≡ Some (record {
+          played = m;
+          label = v.value.reached.node.label;
+          below = v.value.reached.node.below;
+        }))
         × (v.value.reached.start ≡ start_after here.now.start m)
         × (v.value.text ≡ made_words hero true here.now.start m v.value.reached.node.label))) }
 {
@@ -255,7 +261,8 @@ fn end_variation<'t, 'a, 'b, A: Allocator, B: Allocator>(
     written: Result<(), AllocError>,
 ) -> Result<(), AllocError>
     ensures written { OnOk result (IsOk written) }
-    ensures item { OnOk result (list.new ≡ list.old ++ inside Element.Item variation.entry.value.text) }
+    ensures item { OnOk result (list.new ≡ list.old
+        ++ inside Element.Item variation.entry.value.text) }
 {
     written?;
     list.put(Element::Item, &variation.text)
@@ -281,7 +288,8 @@ fn put_variations<'t, 'a, 'b, A: Allocator, B: Allocator>(
     here: &Reached<'t, 'b, B>,
 ) -> Result<(), AllocError>
     requires { IsPlayable here.now.start.position here.now.node.below }
-    ensures { OnOk result (html.new ≡ html.old ++ list_where (item_words hero here.now.start (others_of here.now.node.below))) }
+    ensures { OnOk result (html.new ≡ html.old
+        ++ list_where (item_words hero here.now.start (others_of here.now.node.below))) }
 {
     clear(alloc, list);
     for place in 1..here.node.width() {
@@ -313,7 +321,8 @@ fn put_line<'t, 'a, 'b, A: Allocator, B: Allocator>(
     here: &mut Reached<'t, 'b, B>,
 ) -> Result<(), AllocError>
     requires { IsPlayable here.old.start.position here.old.node.below }
-    ensures { OnOk result (html.new ≡ html.old ++ tree_words hero first here.old.start here.old.node.below) }
+    ensures { OnOk result (html.new ≡ html.old
+        ++ tree_words hero first here.old.start here.old.node.below) }
 {
     'plies: loop {
         let moves = here.node.width();

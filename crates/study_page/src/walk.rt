@@ -32,12 +32,19 @@ fn add_there<'a, 'b, A: Allocator, B: Allocator, V: Values>(
     ensures faults { parts.new.faults ≡ parts.old.faults }
     ensures time { parts.new.time_faults ≡ parts.old.time_faults }
     ensures duals { parts.new.duals ≡ parts.old.duals }
-    ensures tries { V.source.is_honest values.old → OnOk result (Grew (TryRows (marked bench.now) steps.now) parts.old.tries parts.new.tries) }
+    ensures tries { V.source.is_honest values.old
+        → OnOk result
+        (Grew (TryRows (marked bench.now) steps.now) parts.old.tries parts.new.tries) }
     ensures zugzwangs { V.source.is_honest values.old
-        → OnOk result (Grew (ZugzwangRows (marked bench.now) steps.now) parts.old.zugzwangs parts.new.zugzwangs) }
-    ensures defences { V.source.is_honest values.old → OnOk result (Grew (DefenceRows (marked bench.now) steps.now) parts.old.defences parts.new.defences) }
-    ensures ends { V.source.is_honest values.old → OnOk result (Grew (EndRows (marked bench.now) steps.now) parts.old.ends parts.new.ends) }
-    ensures asked { HasAsked (within (marked bench.now).start.position V.source) values.old result values.new }
+        → OnOk result
+        (Grew (ZugzwangRows (marked bench.now) steps.now) parts.old.zugzwangs parts.new.zugzwangs) }
+    ensures defences { V.source.is_honest values.old
+        → OnOk result
+        (Grew (DefenceRows (marked bench.now) steps.now) parts.old.defences parts.new.defences) }
+    ensures ends { V.source.is_honest values.old
+        → OnOk result (Grew (EndRows (marked bench.now) steps.now) parts.old.ends parts.new.ends) }
+    ensures asked { HasAsked (within (marked bench.now).start.position V.source)
+        values.old result values.new }
 {
     let first = bench.start();
     room.line.clear();
@@ -58,15 +65,28 @@ fn add_node_section<'a, 'b, A: Allocator, B: Allocator, V: Values>(
     values: &mut V,
 ) -> Result<(), TextFault>
     requires { IsTrue (has_spot (marked bench.now).tree steps.now) }
-    ensures faults { V.source.is_honest values.old → OnOk result (Grew (FaultItems (marked bench.now) steps.now) parts.old.faults parts.new.faults) }
-    ensures time { V.source.is_honest values.old → OnOk result (Rose (IsTimeFault (marked bench.now) steps.now) parts.old.time_faults parts.new.time_faults) }
-    ensures duals { V.source.is_honest values.old → OnOk result (Grew (Cards (marked bench.now) steps.now) parts.old.duals parts.new.duals) }
-    ensures tries { V.source.is_honest values.old → OnOk result (Grew (TryRows (marked bench.now) steps.now) parts.old.tries parts.new.tries) }
+    ensures faults { V.source.is_honest values.old
+        → OnOk result
+        (Grew (FaultItems (marked bench.now) steps.now) parts.old.faults parts.new.faults) }
+    ensures time { V.source.is_honest values.old
+        → OnOk result
+        (Rose (IsTimeFault (marked bench.now) steps.now)
+        parts.old.time_faults parts.new.time_faults) }
+    ensures duals { V.source.is_honest values.old
+        → OnOk result (Grew (Cards (marked bench.now) steps.now) parts.old.duals parts.new.duals) }
+    ensures tries { V.source.is_honest values.old
+        → OnOk result
+        (Grew (TryRows (marked bench.now) steps.now) parts.old.tries parts.new.tries) }
     ensures zugzwangs { V.source.is_honest values.old
-        → OnOk result (Grew (ZugzwangRows (marked bench.now) steps.now) parts.old.zugzwangs parts.new.zugzwangs) }
-    ensures defences { V.source.is_honest values.old → OnOk result (Grew (DefenceRows (marked bench.now) steps.now) parts.old.defences parts.new.defences) }
-    ensures ends { V.source.is_honest values.old → OnOk result (Grew (EndRows (marked bench.now) steps.now) parts.old.ends parts.new.ends) }
-    ensures asked { HasAsked (within (marked bench.now).start.position V.source) values.old result values.new }
+        → OnOk result
+        (Grew (ZugzwangRows (marked bench.now) steps.now) parts.old.zugzwangs parts.new.zugzwangs) }
+    ensures defences { V.source.is_honest values.old
+        → OnOk result
+        (Grew (DefenceRows (marked bench.now) steps.now) parts.old.defences parts.new.defences) }
+    ensures ends { V.source.is_honest values.old
+        → OnOk result (Grew (EndRows (marked bench.now) steps.now) parts.old.ends parts.new.ends) }
+    ensures asked { HasAsked (within (marked bench.now).start.position V.source)
+        values.old result values.new }
 {
     add_move(alloc, parts, bench, steps, room, values)?;
     add_there(alloc, parts, bench, steps, &mut room.before, values)
@@ -81,26 +101,46 @@ pub fn add_section_below<'a, 'b, A: Allocator, B: Allocator, V: Values>(
     room: &mut MoveContext,
     values: &mut V,
 ) -> Result<(), TextFault>
+    // Many clauses: one for each part of the page, and those of the probes.
     requires { IsTrue (has_spot (marked bench.now).tree steps.old.items) }
-    ensures faults { V.source.is_honest values.old → OnOk result (Grew (LinesOfEach (FaultItems (marked bench.now))
-        (steps.old.items ∷ paths_from steps.old.items 0 (below_at (marked bench.now).tree.below steps.old.items))) parts.old.faults parts.new.faults) }
-    ensures time { V.source.is_honest values.old → OnOk result (Rose (SumOfEach (IsTimeFault (marked bench.now))
-        (steps.old.items ∷ paths_from steps.old.items 0 (below_at (marked bench.now).tree.below steps.old.items)))
+    ensures faults { V.source.is_honest values.old
+        → OnOk result (Grew (LinesOfEach (FaultItems (marked bench.now))
+        (steps.old.items
+        ∷ paths_from steps.old.items 0 (below_at (marked bench.now).tree.below steps.old.items)))
+        parts.old.faults parts.new.faults) }
+    ensures time { V.source.is_honest values.old
+        → OnOk result (Rose (SumOfEach (IsTimeFault (marked bench.now))
+        (steps.old.items
+        ∷ paths_from steps.old.items 0 (below_at (marked bench.now).tree.below steps.old.items)))
         parts.old.time_faults parts.new.time_faults) }
-    ensures duals { V.source.is_honest values.old → OnOk result (Grew (LinesOfEach (Cards (marked bench.now))
-        (steps.old.items ∷ paths_from steps.old.items 0 (below_at (marked bench.now).tree.below steps.old.items))) parts.old.duals parts.new.duals) }
-    ensures tries { V.source.is_honest values.old → OnOk result (Grew (LinesOfEach (TryRows (marked bench.now))
-        (steps.old.items ∷ paths_from steps.old.items 0 (below_at (marked bench.now).tree.below steps.old.items))) parts.old.tries parts.new.tries) }
-    ensures zugzwangs { V.source.is_honest values.old → OnOk result (Grew (LinesOfEach (ZugzwangRows (marked bench.now))
-        (steps.old.items ∷ paths_from steps.old.items 0 (below_at (marked bench.now).tree.below steps.old.items)))
+    ensures duals { V.source.is_honest values.old
+        → OnOk result (Grew (LinesOfEach (Cards (marked bench.now))
+        (steps.old.items
+        ∷ paths_from steps.old.items 0 (below_at (marked bench.now).tree.below steps.old.items)))
+        parts.old.duals parts.new.duals) }
+    ensures tries { V.source.is_honest values.old
+        → OnOk result (Grew (LinesOfEach (TryRows (marked bench.now))
+        (steps.old.items
+        ∷ paths_from steps.old.items 0 (below_at (marked bench.now).tree.below steps.old.items)))
+        parts.old.tries parts.new.tries) }
+    ensures zugzwangs { V.source.is_honest values.old
+        → OnOk result (Grew (LinesOfEach (ZugzwangRows (marked bench.now))
+        (steps.old.items
+        ∷ paths_from steps.old.items 0 (below_at (marked bench.now).tree.below steps.old.items)))
         parts.old.zugzwangs parts.new.zugzwangs) }
-    ensures defences { V.source.is_honest values.old → OnOk result (Grew (LinesOfEach (DefenceRows (marked bench.now))
-        (steps.old.items ∷ paths_from steps.old.items 0 (below_at (marked bench.now).tree.below steps.old.items)))
+    ensures defences { V.source.is_honest values.old
+        → OnOk result (Grew (LinesOfEach (DefenceRows (marked bench.now))
+        (steps.old.items
+        ∷ paths_from steps.old.items 0 (below_at (marked bench.now).tree.below steps.old.items)))
         parts.old.defences parts.new.defences) }
-    ensures ends { V.source.is_honest values.old → OnOk result (Grew (LinesOfEach (EndRows (marked bench.now))
-        (steps.old.items ∷ paths_from steps.old.items 0 (below_at (marked bench.now).tree.below steps.old.items))) parts.old.ends parts.new.ends) }
+    ensures ends { V.source.is_honest values.old
+        → OnOk result (Grew (LinesOfEach (EndRows (marked bench.now))
+        (steps.old.items
+        ∷ paths_from steps.old.items 0 (below_at (marked bench.now).tree.below steps.old.items)))
+        parts.old.ends parts.new.ends) }
     ensures path { OnOk result (steps.new.items ≡ steps.old.items) }
-    ensures asked { HasAsked (within (marked bench.now).start.position V.source) values.old result values.new }
+    ensures asked { HasAsked (within (marked bench.now).start.position V.source)
+        values.old result values.new }
 {
     add_node_section(alloc, parts, bench, steps.as_slice(), room, values)?;
     let count = child_count(bench, steps.as_slice());

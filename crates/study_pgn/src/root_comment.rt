@@ -61,7 +61,8 @@ fn add_verdict<A: Allocator>(
     first: Side,
     root: Mark,
 ) -> Result<(), AllocError>
-    ensures { (s : Study AMark) → s.stipulation ≡ stipulation → s.start.position.to_move ≡ first → s.tree.label ≡ root
+    ensures { (s : Study AMark) → s.stipulation ≡ stipulation
+        → s.start.position.to_move ≡ first → s.tree.label ≡ root
         → OnOk result (text.new ≡ text.old ++ verdict_text (verdict s)) }
 {
     if !meets_stipulation(stipulation.goal, stipulation.hero == first, root.value) {
@@ -82,7 +83,8 @@ pub fn add_opening_words<A: Allocator>(
     first: Side,
     root: Mark,
 ) -> Result<(), AllocError>
-    ensures { (s : Study AMark) → s.stipulation ≡ stipulation → s.start.position.to_move ≡ first → s.tree.label ≡ root
+    ensures { (s : Study AMark) → s.stipulation ≡ stipulation
+        → s.start.position.to_move ≡ first → s.tree.label ≡ root
         → OnOk result (text.new ≡ text.old ++ opening_words s) }
 {
     text.add(side_name(stipulation.hero))?;
@@ -101,7 +103,8 @@ pub fn add_root_comment<A: Allocator>(
     first: Side,
     root: Mark,
 ) -> Result<(), AllocError>
-    ensures { (s : Study AMark) → s.stipulation ≡ stipulation → s.start.position.to_move ≡ first → s.tree.label ≡ root
+    ensures { (s : Study AMark) → s.stipulation ≡ stipulation
+        → s.start.position.to_move ≡ first → s.tree.label ≡ root
         → OnOk result (text.new ≡ text.old ++ opening_text s) }
 {
     text.add(b"{")?;

@@ -68,8 +68,10 @@ pub fn write_pgn<'a, 'b, A: Allocator, B: Allocator, W: Write>(
     bench: &Bench<'b, B>,
     out: &mut W,
 ) -> Result<(), PgnFault>
-    ensures ok { OnOk result (Appends (W.contents out.old) (W.contents out.new) (pgn_text (marked bench.now))) }
-    ensures device { result ≡ Err PgnFault.Device → TakesPrefix (W.contents out.old) (W.contents out.new) (pgn_text (marked bench.now)) }
+    ensures ok { OnOk result
+        (Appends (W.contents out.old) (W.contents out.new) (pgn_text (marked bench.now))) }
+    ensures device { result ≡ Err PgnFault.Device
+        → TakesPrefix (W.contents out.old) (W.contents out.new) (pgn_text (marked bench.now)) }
     ensures memory { result ≡ Err PgnFault.OutOfMemory → out.new ≡ out.old }
 {
     let text = pgn_text(alloc, bench)?;

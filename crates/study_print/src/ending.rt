@@ -18,8 +18,10 @@ fn write_entries<'s, S: Allocator, W: Write>(
     rows: &Html<'_, S>,
     out: &mut W,
 ) -> Result<(), PageFault>
-    ensures ok { OnOk result (Appends (W.contents out.old) (W.contents out.new) (summary_text count rows.now)) }
-    ensures device { result ≡ Err PageFault.Device → TakesPrefix (W.contents out.old) (W.contents out.new) (summary_text count rows.now) }
+    ensures ok { OnOk result
+        (Appends (W.contents out.old) (W.contents out.new) (summary_text count rows.now)) }
+    ensures device { result ≡ Err PageFault.Device
+        → TakesPrefix (W.contents out.old) (W.contents out.new) (summary_text count rows.now) }
     ensures memory { result ≡ Err PageFault.OutOfMemory → out.new ≡ out.old }
 {
     match count {
@@ -35,8 +37,10 @@ fn write_end<'s, S: Allocator, W: Write>(
     rows: &Html<'_, S>,
     out: &mut W,
 ) -> Result<(), PageFault>
-    ensures ok { OnOk result (Appends (W.contents out.old) (W.contents out.new) (end_text count rows.now)) }
-    ensures device { result ≡ Err PageFault.Device → TakesPrefix (W.contents out.old) (W.contents out.new) (end_text count rows.now) }
+    ensures ok { OnOk result
+        (Appends (W.contents out.old) (W.contents out.new) (end_text count rows.now)) }
+    ensures device { result ≡ Err PageFault.Device
+        → TakesPrefix (W.contents out.old) (W.contents out.new) (end_text count rows.now) }
     ensures memory { result ≡ Err PageFault.OutOfMemory → out.new ≡ out.old }
 {
     write_entries(alloc, count, rows, out)?;
@@ -64,7 +68,8 @@ pub fn write_ending<'s, S: Allocator, W: Write>(
     ran: Result<Summary, RunFault>,
     out: &mut W,
 ) -> Result<Summary, RunFault>
-    ensures { IsEnded (end_text count rows.now) (W.contents out.old) (W.contents out.new) ran result }
+    ensures { IsEnded (end_text count rows.now) (W.contents out.old)
+        (W.contents out.new) ran result }
 {
     if writer_failed(&ran) {
         return ran;

@@ -30,14 +30,19 @@ pub fn follow_pages<'a, R: Read, W: Write, P: PageSource, A: Allocator, N: Watch
     watch: N,
     tables: Tables<'a, P, A>,
 ) -> Result<Summary, RunFault>
-    ensures file { (classes : List AClass) → tables_honest P.honest tables.entry → ((c : AClass) → tables_held tables.entry c ≡ is_among classes c)
+    ensures file { (classes : List AClass) → tables_honest P.honest tables.entry
+        → ((c : AClass) → tables_held tables.entry c ≡ is_among classes c)
         → IfSome (R.remaining script.old)
-        (λ bytes. IsFile (over_tables classes (are_paged tables.entry)) bytes (R.remaining script.new)
+        (λ bytes.
+        IsFile (over_tables classes (are_paged tables.entry)) bytes (R.remaining script.new)
         (W.contents out.old) (W.contents out.new) result) }
-    ensures shape { IfSome (R.remaining script.old) (λ bytes. FileShape bytes (R.remaining script.new) result) }
+    ensures shape { IfSome (R.remaining script.old) (λ bytes.
+        FileShape bytes (R.remaining script.new) result) }
     ensures fits { IfSome (R.remaining script.old)
-        (λ bytes. FileFits bytes (R.remaining script.new) (W.contents out.old) (W.contents out.new) result) }
-    ensures whole { IfSome (R.remaining script.old) (λ bytes. IsWholeUnlessCut (W.contents out.old) (W.contents out.new) result) }
+        (λ bytes.
+        FileFits bytes (R.remaining script.new) (W.contents out.old) (W.contents out.new) result) }
+    ensures whole { IfSome (R.remaining script.old) (λ bytes.
+        IsWholeUnlessCut (W.contents out.old) (W.contents out.new) result) }
 {
     let mut store = NoFiles::new();
     follow_pages_over(alloc, script, out, watch, tables, &mut store)
@@ -52,14 +57,21 @@ pub fn follow_pages_over<'a, R: Read, W: Write, S: TableStore, A: Allocator, N: 
     tables: Tables<'a, S::Pages, A>,
     store: &mut S,
 ) -> Result<Summary, RunFault>
-    ensures file { (first : State) → SessionHolds S.Pages.honest S.Pages.gives (HonestOn none_trusted S.honest) S.files S.headers S.faults
+    ensures file { (first : State)
+        → SessionHolds S.Pages.honest S.Pages.gives
+        (HonestOn none_trusted S.honest) S.files S.headers S.faults
         Empty tables.entry store.old first
         → IfSome (R.remaining script.old)
-        (λ bytes. IsFile first bytes (R.remaining script.new) (W.contents out.old) (W.contents out.new) result) }
-    ensures shape { IfSome (R.remaining script.old) (λ bytes. FileShape bytes (R.remaining script.new) result) }
+        (λ bytes.
+        IsFile first bytes (R.remaining script.new) (W.contents out.old)
+        (W.contents out.new) result) }
+    ensures shape { IfSome (R.remaining script.old) (λ bytes.
+        FileShape bytes (R.remaining script.new) result) }
     ensures fits { IfSome (R.remaining script.old)
-        (λ bytes. FileFits bytes (R.remaining script.new) (W.contents out.old) (W.contents out.new) result) }
-    ensures whole { IfSome (R.remaining script.old) (λ bytes. IsWholeUnlessCut (W.contents out.old) (W.contents out.new) result) }
+        (λ bytes.
+        FileFits bytes (R.remaining script.new) (W.contents out.old) (W.contents out.new) result) }
+    ensures whole { IfSome (R.remaining script.old) (λ bytes.
+        IsWholeUnlessCut (W.contents out.old) (W.contents out.new) result) }
 {
     if write_opening(out).is_err() {
         return Err(RunFault::WriteDevice);

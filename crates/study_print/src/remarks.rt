@@ -33,8 +33,10 @@ fn write_left_out<'a, A: Allocator, W: Write>(
     line: &[u8],
     out: &mut W,
 ) -> Result<(), PageFault>
-    ensures ok { OnOk result (Appends (W.contents out.old) (W.contents out.new) (left_out_part line.now)) }
-    ensures device { result ≡ Err PageFault.Device → TakesPrefix (W.contents out.old) (W.contents out.new) (left_out_part line.now) }
+    ensures ok { OnOk result
+        (Appends (W.contents out.old) (W.contents out.new) (left_out_part line.now)) }
+    ensures device { result ≡ Err PageFault.Device
+        → TakesPrefix (W.contents out.old) (W.contents out.new) (left_out_part line.now) }
     ensures memory { result ≡ Err PageFault.OutOfMemory → out.new ≡ out.old }
 {
     let html = left_out_of(alloc, line)?;
@@ -144,8 +146,10 @@ fn write_original<'a, A: Allocator, W: Write>(
     line: &[u8],
     out: &mut W,
 ) -> Result<(), PageFault>
-    ensures ok { OnOk result (Appends (W.contents out.old) (W.contents out.new) (original_part line.now)) }
-    ensures device { result ≡ Err PageFault.Device → TakesPrefix (W.contents out.old) (W.contents out.new) (original_part line.now) }
+    ensures ok { OnOk result
+        (Appends (W.contents out.old) (W.contents out.new) (original_part line.now)) }
+    ensures device { result ≡ Err PageFault.Device
+        → TakesPrefix (W.contents out.old) (W.contents out.new) (original_part line.now) }
     ensures memory { result ≡ Err PageFault.OutOfMemory → out.new ≡ out.old }
 {
     let mut text = Text::new(alloc);
@@ -159,8 +163,10 @@ fn write_paragraph<'a, A: Allocator, W: Write>(
     line: &[u8],
     out: &mut W,
 ) -> Result<(), PageFault>
-    ensures ok { OnOk result (Appends (W.contents out.old) (W.contents out.new) (remark_text line.now)) }
-    ensures device { result ≡ Err PageFault.Device → TakesPrefix (W.contents out.old) (W.contents out.new) (remark_text line.now) }
+    ensures ok { OnOk result
+        (Appends (W.contents out.old) (W.contents out.new) (remark_text line.now)) }
+    ensures device { result ≡ Err PageFault.Device
+        → TakesPrefix (W.contents out.old) (W.contents out.new) (remark_text line.now) }
     ensures memory { result ≡ Err PageFault.OutOfMemory → out.new ≡ out.old }
 {
     if is_left_out(line) {
@@ -175,8 +181,10 @@ pub fn write_remark<'a, A: Allocator, W: Write>(
     line: &[u8],
     out: &mut W,
 ) -> Result<(), WriteFault>
-    ensures ok { OnOk result (Appends (W.contents out.old) (W.contents out.new) (remark_text line.now)) }
-    ensures device { result ≡ Err WriteFault.Device → TakesPrefix (W.contents out.old) (W.contents out.new) (remark_text line.now) }
+    ensures ok { OnOk result
+        (Appends (W.contents out.old) (W.contents out.new) (remark_text line.now)) }
+    ensures device { result ≡ Err WriteFault.Device
+        → TakesPrefix (W.contents out.old) (W.contents out.new) (remark_text line.now) }
     ensures memory { result ≡ Err WriteFault.OutOfMemory → out.new ≡ out.old }
 {
     match write_paragraph(alloc, line, out) {

@@ -28,7 +28,12 @@ pub struct FailingValues<V: Values> {
 impl<V: Values> FailingValues<V> {
     /// Values with one failing probe, counted from 0. Nothing has been probed yet.
     pub fn new(values: V, fails_at: u64) -> Self
-        ensures { result ≡ record { values = values; asked = 0; fails_at = Some fails_at; failures = 0 } }
+        ensures { result ≡ record {
+          values = values;
+          asked = 0;
+          fails_at = Some fails_at;
+          failures = 0;
+        } }
     {
         FailingValues {
             values,
@@ -45,29 +50,39 @@ impl<V: Values> Values for FailingValues<V> {
     ghost source = { failing_source V.source };
 
     fn value(&mut self, p: &Position) -> Result<Value, ProbeFault>
+        // Many clauses: those of `Values`, in the terms of these tables, and what only these tables promise.
         ensures game { V.source.is_honest self.old.values → IfOk result (IsValueOf p.now) }
         ensures no_damage { V.source.is_honest self.old.values → IfErr result IsNotDamage }
-        ensures stays_honest { V.source.is_honest self.old.values → V.source.is_honest self.new.values }
+        ensures stays_honest { V.source.is_honest self.old.values
+            → V.source.is_honest self.new.values }
         ensures given { IsFailingAnswer V.source self.old p.now result }
-        ensures failed_so { (c : AClass) (f : ASourceFault) → IsOf c p.now → IsErrOf result (ProbeFault.TableRead f)
+        ensures failed_so { (c : AClass) (f : ASourceFault) → IsOf c p.now
+            → IsErrOf result (ProbeFault.TableRead f)
             → (f ≡ Device) ⊎ V.source.may_fail self.old.values c f }
-        ensures fails_as_before { (c : AClass) (f : ASourceFault) → (f ≡ Device) ⊎ V.source.may_fail self.new.values c f
+        ensures fails_as_before { (c : AClass) (f : ASourceFault) → (f ≡ Device)
+            ⊎ V.source.may_fail self.new.values c f
             → (f ≡ Device) ⊎ V.source.may_fail self.old.values c f }
-        ensures no_table { (c : AClass) → IsErrOf result (ProbeFault.NoTable c) ↔ (IsOf c p.now × (V.source.held self.old.values c ≡ false)) }
+        ensures no_table { (c : AClass) → IsErrOf result (ProbeFault.NoTable c)
+            ↔ (IsOf c p.now × (V.source.held self.old.values c ≡ false)) }
         ensures damaged { (c : AClass) (n : ℕ) → IsErrOf result (ProbeFault.PageDamaged c n)
             → IsOf c p.now × (n ≡ page_number p.now) }
-        ensures same_tables { (c : AClass) → V.source.held self.new.values c ≡ V.source.held self.old.values c }
+        ensures same_tables { (c : AClass)
+            → V.source.held self.new.values c ≡ V.source.held self.old.values c }
         ensures asked { self.new.asked ≡ counted self.old.asked }
         ensures failures { self.new.failures ≡ faults_after self.old.failures result }
-        ensures fails { FailsNext V.source self.old p.now → result ≡ Err (ProbeFault.TableRead SourceFault.Device) }
+        ensures fails { FailsNext V.source self.old p.now
+            → result ≡ Err (ProbeFault.TableRead SourceFault.Device) }
         ensures not_asked { FailsNext V.source self.old p.now → self.new.values ≡ self.old.values }
         ensures same { self.new.fails_at ≡ self.old.fails_at }
 
         // Any other probe is passed to the values, once, and returns an answer that they may give.
-        ensures passed { (FailsNext V.source self.old p.now → ⊥) → V.source.gives self.old.values p.now result }
-        ensures asked_on { (FailsNext V.source self.old p.now → ⊥) → V.source.asked_of self.new.values ≡ counted (V.source.asked_of self.old.values) }
+        ensures passed { (FailsNext V.source self.old p.now → ⊥)
+            → V.source.gives self.old.values p.now result }
+        ensures asked_on { (FailsNext V.source self.old p.now → ⊥)
+            → V.source.asked_of self.new.values ≡ counted (V.source.asked_of self.old.values) }
         ensures failures_on { (FailsNext V.source self.old p.now → ⊥)
-            → V.source.failed_of self.new.values ≡ faults_after (V.source.failed_of self.old.values) result }
+            → V.source.failed_of self.new.values
+            ≡ faults_after (V.source.failed_of self.old.values) result }
     {
         let number = self.asked;
         self.asked = self.asked.saturating_add(1);

@@ -50,7 +50,8 @@ pub fn page_key(class: Class, cell: u32) -> PageKey
 
 /// The cells of the last used page, if it is this one: they are found without a hash, and no link of the list is written.
 fn latest_cells<'p, 'a, A: Allocator>(pages: &'p Pages<'a, A>, key: PageKey) -> Option<&'p [u8]>
-    ensures { IfSome result (λ cells. (v : _) × (older : _) × (pages.now.entries ≡ (key, v) ∷ older) × (v.items ≡ cells.now)) }
+    ensures { IfSome result (λ cells. (v : _) × (older : _)
+        × (pages.now.entries ≡ (key, v) ∷ older) × (v.items ≡ cells.now)) }
 {
     match pages.peek_mru() {
         Some((latest, cells)) if *latest == key => Some(cells.as_slice()),
@@ -70,7 +71,8 @@ pub fn cached_cell<'a, A: Allocator>(
     key: PageKey,
     at: usize,
 ) -> Option<u8>
-    ensures found { IfSome result (λ x. (v : _) × Contains pages.old.entries (key, v) × (x ≡ slice_index v.items at)) }
+    ensures found { IfSome result (λ x. (v : _) × Contains pages.old.entries (key, v)
+        × (x ≡ slice_index v.items at)) }
     ensures fewer { (e : _) → Contains pages.new.entries e → Contains pages.old.entries e }
     ensures room { pages.new.cap ≡ pages.old.cap }
     ensures value { result ≡ cell_at (λ v. v.items) at (lookup (same_key key) pages.old.entries) }
@@ -90,9 +92,11 @@ pub fn cache_page<'a, A: Allocator>(
     key: PageKey,
     page: &[u8; PAGE_BYTES],
 ) -> Result<(), AllocError>
-    ensures more { (e : _) → Contains pages.new.entries e → Contains pages.old.entries e ⊎ ((e.0 ≡ key) × (e.1.items ≡ take 4096 page.now)) }
+    ensures more { (e : _) → Contains pages.new.entries e → Contains pages.old.entries e
+        ⊎ ((e.0 ≡ key) × (e.1.items ≡ take 4096 page.now)) }
     ensures room { pages.new.cap ≡ pages.old.cap }
-    ensures kept { OnOk result ((v : _) × (v.items ≡ take 4096 page.now) × (pages.new.entries ≡ put_entries same_key pages.old key v)) }
+    ensures kept { OnOk result ((v : _) × (v.items ≡ take 4096 page.now)
+        × (pages.new.entries ≡ put_entries same_key pages.old key v)) }
     ensures same { OnErr result (pages.new.entries ≡ pages.old.entries) }
 {
     let copy = Vec::from_slice(alloc, &page[..PAGE_CELLS])?;

@@ -74,7 +74,8 @@ impl<'a, S: PageSource, A: Allocator> PagedTables<'a, S, A> {
     pub fn new(alloc: &'a A, pages: u16) -> Result<Self, AllocError>
         requires some { 1 ≤ pages }
         requires few { pages ≤ 4096 }
-        ensures { IfOk result (λ w. w ≡ record { sources = []; kept = []; room = pages; asked = 0; failed = 0 }) }
+        ensures { IfOk result (λ w.
+            w ≡ record { sources = []; kept = []; room = pages; asked = 0; failed = 0 }) }
     {
         let Some(room) = NonZeroUsize::new(pages as usize) else {
             unreachable!()
@@ -91,29 +92,40 @@ impl<'a, S: PageSource, A: Allocator> PagedTables<'a, S, A> {
     /// Adds a source of the table of a class; the classes that it needs may be missing. A source that is refused is dropped.
     pub fn add(&mut self, class: Class, mut source: S) -> Result<(), PagedFault>
         ensures fault { (told : Result (List ℕ) ASourceFault)
-            × (is_some (held_of self.old.sources class) ≡ false → MayAnswer S.gives S.honest source told)
-            × IsRefusedBy (paged_fault (is_some (held_of self.old.sources class)) class told) result }
+            × (is_some (held_of self.old.sources class) ≡ false
+            → MayAnswer S.gives S.honest source told)
+            × IsRefusedBy
+            (paged_fault (is_some (held_of self.old.sources class)) class told) result }
         ensures added { OnOk result (
             (h : AHeld S) × IsHeaderOf h.header class
-            × ((t : Seen) (v : ℕ) → IsVersionOf t.class v → S.honest source t v → h.header.version ≡ v)
+            × ((t : Seen) (v : ℕ) → IsVersionOf t.class v
+            → S.honest source t v → h.header.version ≡ v)
             × AreHonestAlike S.honest source h.source × GiveAlike S.gives source h.source
             × (S.failed h.source ≡ S.failed source)
-            × (self.new ≡ record self.old { sources = slice_set (places_for_classes self.old.sources) (class_number class) (Some h) })
+            × (self.new ≡ record self.old {
+              sources = slice_set (places_for_classes self.old.sources)
+                  (class_number class) (Some h);
+            })
             × (S.asked h.source ≡ counted (S.asked source))
             ) }
         ensures same { OnErr result (self.new ≡ self.old) }
-        ensures takes_no_memory { ¬ (length self.old.sources ≡ 0) → IsErrOf result PagedFault.OutOfMemory → ⊥ }
+        ensures takes_no_memory { ¬ (length self.old.sources ≡ 0)
+            → IsErrOf result PagedFault.OutOfMemory → ⊥ }
 
         // Each class has a place from the first source on.
         ensures places { OnOk result (length self.new.sources ≡ 36) }
 
         // If a source is honest for a table, its header is never refused, and its class is the table's.
-        ensures header { (t : Seen) (v : ℕ) (e : AFileFault) → IsVersionOf t.class v → S.honest source t v
+        ensures header { (t : Seen) (v : ℕ) (e : AFileFault)
+            → IsVersionOf t.class v → S.honest source t v
             → IsErrOf result (PagedFault.Header e) → ⊥ }
-        ensures other { (t : Seen) (v : ℕ) (d : AClass) → IsVersionOf t.class v → S.honest source t v
+        ensures other { (t : Seen) (v : ℕ) (d : AClass)
+            → IsVersionOf t.class v → S.honest source t v
             → IsErrOf result (PagedFault.OtherClass d) → d ≡ t.class }
-        ensures own { (t : Seen) (v : ℕ) → IsVersionOf t.class v → S.honest source t v → OnOk result (t.class ≡ class) }
-        ensures honest { (v : ℕ) → IsVersionOf class v → SourcesAreRight S.honest self.old.sources → GivesRight S.honest source v class
+        ensures own { (t : Seen) (v : ℕ) → IsVersionOf t.class v → S.honest source t v
+            → OnOk result (t.class ≡ class) }
+        ensures honest { (v : ℕ) → IsVersionOf class v → SourcesAreRight S.honest self.old.sources
+            → GivesRight S.honest source v class
             → OnOk result (SourcesAreRight S.honest self.new.sources) }
     {
         if self.holds(class) {
@@ -164,39 +176,55 @@ fn probe_paged<'a, S: PageSource, A: Allocator>(
     alloc: &'a A,
     p: &Position,
 ) -> Result<Value, ProbeFault>
+    // Many clauses: those of `Values`, in the terms of these tables, and what only these tables promise.
     requires kept { IsKept S.honest (λ v. v.items) sources.old.items pages.old.entries }
     requires given { AreGiven S.gives (λ v. v.items) sources.old.items pages.old.entries }
     ensures kept { IsKept S.honest (λ v. v.items) sources.new.items pages.new.entries }
     ensures given { AreGiven S.gives (λ v. v.items) sources.new.items pages.new.entries }
     ensures put { (c : AClass) (h : AHeld S) → IsOf c p.now → held_of sources.old.items c ≡ Some h
-        → PutsOnly (λ k v. IsPageFor S.gives c h (index_of p.now) k v.items) pages.old.entries pages.new.entries }
+        → PutsOnly (λ k v. IsPageFor S.gives c h (index_of p.now) k v.items)
+        pages.old.entries pages.new.entries }
     ensures refused { OnErr result (PutsNone pages.old.entries pages.new.entries) }
-    ensures alike { (c : AClass) (h k : AHeld S) → held_of sources.old.items c ≡ Some h → held_of sources.new.items c ≡ Some k
+    ensures alike { (c : AClass) (h k : AHeld S) → held_of sources.old.items c ≡ Some h
+        → held_of sources.new.items c ≡ Some k
         → GiveAlike S.gives h.source k.source }
-    ensures unread { (c : AClass) (h : AHeld S) (f : ASourceFault) → IsOf c p.now → held_of sources.old.items c ≡ Some h
-        → IsErrOf result (ProbeFault.TableRead f) → S.gives h.source (of_page (page_number p.now)) (Err f) }
-    ensures inside { (c : AClass) (f : ASourceFault) → IsOf c p.now → IsErrOf result (ProbeFault.TableRead f) → page_number p.now < pages_of c }
+    ensures unread { (c : AClass) (h : AHeld S) (f : ASourceFault) → IsOf c p.now
+        → held_of sources.old.items c ≡ Some h
+        → IsErrOf result (ProbeFault.TableRead f)
+        → S.gives h.source (of_page (page_number p.now)) (Err f) }
+    ensures inside { (c : AClass) (f : ASourceFault) → IsOf c p.now
+        → IsErrOf result (ProbeFault.TableRead f) → page_number p.now < pages_of c }
     ensures not_whole { (c : AClass) (h : AHeld S) (n : ℕ) → held_of sources.old.items c ≡ Some h
         → IsErrOf result (ProbeFault.PageDamaged c n) → HasBadPage S.gives h n }
     ensures room { pages.new.cap ≡ pages.old.cap }
-    ensures sources { (c : AClass) → IsSameSource S.honest (held_of sources.old.items c) (held_of sources.new.items c) }
-    ensures no_table { (c : AClass) → IsErrOf result (ProbeFault.NoTable c) ↔ (IsOf c p.now × (held_of sources.old.items c ≡ None)) }
-    ensures told { (c : AClass) (h : AHeld S) (t : Seen) → IsOf c p.now → held_of sources.old.items c ≡ Some h
+    ensures sources { (c : AClass)
+        → IsSameSource S.honest (held_of sources.old.items c) (held_of sources.new.items c) }
+    ensures no_table { (c : AClass) → IsErrOf result (ProbeFault.NoTable c)
+        ↔ (IsOf c p.now × (held_of sources.old.items c ≡ None)) }
+    ensures told { (c : AClass) (h : AHeld S) (t : Seen) → IsOf c p.now
+        → held_of sources.old.items c ≡ Some h
         → S.honest h.source t h.header.version → t.class ≡ c
         → IfOk result (λ v. v ≡ value_of (slice_index t.cells (index_of p.now))) }
-    ensures whole { (c : AClass) (h : AHeld S) (t : Seen) (n : ℕ) → IsOf c p.now → held_of sources.old.items c ≡ Some h
+    ensures whole { (c : AClass) (h : AHeld S) (t : Seen) (n : ℕ) → IsOf c p.now
+        → held_of sources.old.items c ≡ Some h
         → S.honest h.source t h.header.version → t.class ≡ c → IsComplete t
         → IsErrOf result (ProbeFault.PageDamaged c n) → ⊥ }
-    ensures damaged { (c : AClass) (n : ℕ) → IsErrOf result (ProbeFault.PageDamaged c n) → IsOf c p.now × (n ≡ page_number p.now) }
+    ensures damaged { (c : AClass) (n : ℕ) → IsErrOf result (ProbeFault.PageDamaged c n)
+        → IsOf c p.now × (n ≡ page_number p.now) }
     ensures read { (c : AClass) (h : AHeld S) → IsOf c p.now → held_of sources.old.items c ≡ Some h
         → IfOk result (IsReadFrom S.gives h (index_of p.now)) }
-    ensures failed { (c : AClass) (h k : AHeld S) → IsOf c p.now → held_of sources.old.items c ≡ Some h → held_of sources.new.items c ≡ Some k
+    ensures failed { (c : AClass) (h k : AHeld S) → IsOf c p.now
+        → held_of sources.old.items c ≡ Some h → held_of sources.new.items c ≡ Some k
         → S.failed k.source ≡ failed_after (S.failed h.source) result }
-    ensures once { (c : AClass) (h k : AHeld S) → IsOf c p.now → held_of sources.old.items c ≡ Some h → held_of sources.new.items c ≡ Some k
-        → kept_cell (λ v. v.items) pages.old.entries c (index_of p.now) ≡ None → S.asked k.source ≡ counted (S.asked h.source) }
-    ensures others { (c : AClass) → (IsOf c p.now → ⊥) → held_of sources.new.items c ≡ held_of sources.old.items c }
+    ensures once { (c : AClass) (h k : AHeld S) → IsOf c p.now
+        → held_of sources.old.items c ≡ Some h → held_of sources.new.items c ≡ Some k
+        → kept_cell (λ v. v.items) pages.old.entries c (index_of p.now) ≡ None
+        → S.asked k.source ≡ counted (S.asked h.source) }
+    ensures others { (c : AClass) → (IsOf c p.now → ⊥)
+        → held_of sources.new.items c ≡ held_of sources.old.items c }
     ensures again { (c : AClass) → IsOf c p.now
-        → IsToldAgain (kept_cell (λ v. v.items) pages.old.entries c (index_of p.now)) result sources.old.items sources.new.items }
+        → IsToldAgain (kept_cell (λ v. v.items) pages.old.entries c (index_of p.now)) result
+        sources.old.items sources.new.items }
     ensures game { SourcesAreRight S.honest sources.old.items → IfOk result (IsValueOf p.now) }
 {
     let _men = p.men();
@@ -215,57 +243,77 @@ impl<'a, S: PageSource, A: Allocator> Values for PagedTables<'a, S, A> {
     ghost source = { paged_source S.honest S.gives };
 
     fn value(&mut self, p: &Position) -> Result<Value, ProbeFault>
+        // Many clauses: those of `Values`, in the terms of these tables, and what only these tables promise.
         ensures game { SourcesAreRight S.honest self.old.sources → IfOk result (IsValueOf p.now) }
         ensures no_damage { SourcesAreRight S.honest self.old.sources → IfErr result IsNotDamage }
-        ensures stays_honest { SourcesAreRight S.honest self.old.sources → SourcesAreRight S.honest self.new.sources }
+        ensures stays_honest { SourcesAreRight S.honest self.old.sources
+            → SourcesAreRight S.honest self.new.sources }
         ensures given { IsPagedAnswer S.gives self.old.sources p.now result }
-        ensures failed_so { (c : AClass) (f : ASourceFault) → IsOf c p.now → IsErrOf result (ProbeFault.TableRead f)
+        ensures failed_so { (c : AClass) (f : ASourceFault) → IsOf c p.now
+            → IsErrOf result (ProbeFault.TableRead f)
             → MayFail S.gives (held_of self.old.sources c) c f }
-        ensures fails_as_before { (c : AClass) (f : ASourceFault) → MayFail S.gives (held_of self.new.sources c) c f
+        ensures fails_as_before { (c : AClass) (f : ASourceFault)
+            → MayFail S.gives (held_of self.new.sources c) c f
             → MayFail S.gives (held_of self.old.sources c) c f }
-        ensures no_table { (c : AClass) → IsErrOf result (ProbeFault.NoTable c) ↔ (IsOf c p.now × (is_some (held_of self.old.sources c) ≡ false)) }
-        ensures same_tables { (c : AClass) → is_some (held_of self.new.sources c) ≡ is_some (held_of self.old.sources c) }
+        ensures no_table { (c : AClass) → IsErrOf result (ProbeFault.NoTable c)
+            ↔ (IsOf c p.now × (is_some (held_of self.old.sources c) ≡ false)) }
+        ensures same_tables { (c : AClass)
+            → is_some (held_of self.new.sources c) ≡ is_some (held_of self.old.sources c) }
         ensures asked { self.new.asked ≡ counted self.old.asked }
         ensures failures { self.new.failed ≡ faults_after self.old.failed result }
 
         // If a source is honest for a table of the class, an answer is the table's, and no page is damaged.
-        ensures told { (c : AClass) (h : AHeld S) (t : Seen) → IsOf c p.now → held_of self.old.sources c ≡ Some h
+        ensures told { (c : AClass) (h : AHeld S) (t : Seen) → IsOf c p.now
+            → held_of self.old.sources c ≡ Some h
             → S.honest h.source t h.header.version → t.class ≡ c
             → IfOk result (λ v. v ≡ value_of (slice_index t.cells (index_of p.now))) }
-        ensures whole { (c : AClass) (h : AHeld S) (t : Seen) (n : ℕ) → IsOf c p.now → held_of self.old.sources c ≡ Some h
+        ensures whole { (c : AClass) (h : AHeld S) (t : Seen) (n : ℕ) → IsOf c p.now
+            → held_of self.old.sources c ≡ Some h
             → S.honest h.source t h.header.version → t.class ≡ c → IsComplete t
             → IsErrOf result (ProbeFault.PageDamaged c n) → ⊥ }
-        ensures damaged { (c : AClass) (n : ℕ) → IsErrOf result (ProbeFault.PageDamaged c n) → IsOf c p.now × (n ≡ page_number p.now) }
+        ensures damaged { (c : AClass) (n : ℕ) → IsErrOf result (ProbeFault.PageDamaged c n)
+            → IsOf c p.now × (n ≡ page_number p.now) }
 
         // Whatever the source, an answer is in a page that it may return and that passes its check; a page is damaged if the source may return one that does
         // not; and the reported fault is one that it may return.
-        ensures read { (c : AClass) (h : AHeld S) → IsOf c p.now → held_of self.old.sources c ≡ Some h
+        ensures read { (c : AClass) (h : AHeld S) → IsOf c p.now
+            → held_of self.old.sources c ≡ Some h
             → IfOk result (IsReadFrom S.gives h (index_of p.now)) }
         ensures not_whole { (c : AClass) (h : AHeld S) (n : ℕ) → held_of self.old.sources c ≡ Some h
             → IsErrOf result (ProbeFault.PageDamaged c n) → HasBadPage S.gives h n }
-        ensures unread { (c : AClass) (h : AHeld S) (f : ASourceFault) → IsOf c p.now → held_of self.old.sources c ≡ Some h
-            → IsErrOf result (ProbeFault.TableRead f) → S.gives h.source (of_page (page_number p.now)) (Err f) }
+        ensures unread { (c : AClass) (h : AHeld S) (f : ASourceFault) → IsOf c p.now
+            → held_of self.old.sources c ≡ Some h
+            → IsErrOf result (ProbeFault.TableRead f)
+            → S.gives h.source (of_page (page_number p.now)) (Err f) }
 
         // A page that is cached is the requested one, as the source may return it; after a refusal no page is.
-        ensures put { (c : AClass) (h : AHeld S) → IsOf c p.now → held_of self.old.sources c ≡ Some h
+        ensures put { (c : AClass) (h : AHeld S) → IsOf c p.now
+            → held_of self.old.sources c ≡ Some h
             → PutsOnly (IsPageFor S.gives c h (index_of p.now)) self.old.kept self.new.kept }
         ensures refused { OnErr result (PutsNone self.old.kept self.new.kept) }
 
         // The sources stay; that of the class fails once more exactly if a table is not read.
-        ensures sources { (c : AClass) → IsSameSource S.honest (held_of self.old.sources c) (held_of self.new.sources c) }
-        ensures alike { (c : AClass) (h k : AHeld S) → held_of self.old.sources c ≡ Some h → held_of self.new.sources c ≡ Some k
+        ensures sources { (c : AClass)
+            → IsSameSource S.honest (held_of self.old.sources c) (held_of self.new.sources c) }
+        ensures alike { (c : AClass) (h k : AHeld S) → held_of self.old.sources c ≡ Some h
+            → held_of self.new.sources c ≡ Some k
             → GiveAlike S.gives h.source k.source }
-        ensures failed { (c : AClass) (h k : AHeld S) → IsOf c p.now → held_of self.old.sources c ≡ Some h → held_of self.new.sources c ≡ Some k
+        ensures failed { (c : AClass) (h k : AHeld S) → IsOf c p.now
+            → held_of self.old.sources c ≡ Some h → held_of self.new.sources c ≡ Some k
             → S.failed k.source ≡ failed_after (S.failed h.source) result }
-        ensures others { (c : AClass) → (IsOf c p.now → ⊥) → held_of self.new.sources c ≡ held_of self.old.sources c }
+        ensures others { (c : AClass) → (IsOf c p.now → ⊥)
+            → held_of self.new.sources c ≡ held_of self.old.sources c }
         ensures room { self.new.room ≡ self.old.room }
         ensures few { length self.new.kept ≤ self.new.room }
 
         // A cell of a cached page is read without its source; for any other the source is read once.
         ensures again { (c : AClass) → IsOf c p.now
-            → IsToldAgain (kept_cell (λ cells. cells) self.old.kept c (index_of p.now)) result self.old.sources self.new.sources }
-        ensures once { (c : AClass) (h k : AHeld S) → IsOf c p.now → held_of self.old.sources c ≡ Some h → held_of self.new.sources c ≡ Some k
-            → kept_cell (λ cells. cells) self.old.kept c (index_of p.now) ≡ None → S.asked k.source ≡ counted (S.asked h.source) }
+            → IsToldAgain (kept_cell (λ cells. cells) self.old.kept c (index_of p.now)) result
+            self.old.sources self.new.sources }
+        ensures once { (c : AClass) (h k : AHeld S) → IsOf c p.now
+            → held_of self.old.sources c ≡ Some h → held_of self.new.sources c ≡ Some k
+            → kept_cell (λ cells. cells) self.old.kept c (index_of p.now) ≡ None
+            → S.asked k.source ≡ counted (S.asked h.source) }
     {
         self.asked = self.asked.saturating_add(1);
         let answer = probe_paged(&mut self.sources, &mut self.kept, self.alloc, p);
@@ -298,17 +346,24 @@ fn read_page<'a, S: PageSource, A: Allocator>(
     into: &mut [u8; PAGE_CELLS],
 ) -> Result<(), ProbeFault>
     requires number { number < pages_of class }
-    requires headers { (c : AClass) (h : AHeld S) → held_of sources.old.items c ≡ Some h → IsHeaderOf h.header c }
+    requires headers { (c : AClass) (h : AHeld S)
+        → held_of sources.old.items c ≡ Some h → IsHeaderOf h.header c }
     ensures asked { IsAskedOnly S.gives S.honest class sources.old.items sources.new.items }
-    ensures told { (h : AHeld S) (t : Seen) → held_of sources.old.items class ≡ Some h → S.honest h.source t h.header.version → t.class ≡ class
+    ensures told { (h : AHeld S) (t : Seen) → held_of sources.old.items class ≡ Some h
+        → S.honest h.source t h.header.version → t.class ≡ class
         → OnOk result (into.new ≡ cells_on_page t number) }
-    ensures whole { (h : AHeld S) (t : Seen) → held_of sources.old.items class ≡ Some h → S.honest h.source t h.header.version → t.class ≡ class
+    ensures whole { (h : AHeld S) (t : Seen) → held_of sources.old.items class ≡ Some h
+        → S.honest h.source t h.header.version → t.class ≡ class
         → IsComplete t → (c : AClass) (n : ℕ) → IsErrOf result (ProbeFault.PageDamaged c n) → ⊥ }
-    ensures checked { (h : AHeld S) → held_of sources.old.items class ≡ Some h → OnOk result (IsGivenPage S.gives h number into.new) }
-    ensures unread { (h : AHeld S) (f : ASourceFault) → held_of sources.old.items class ≡ Some h → IsErrOf result (ProbeFault.TableRead f)
+    ensures checked { (h : AHeld S) → held_of sources.old.items class ≡ Some h
+        → OnOk result (IsGivenPage S.gives h number into.new) }
+    ensures unread { (h : AHeld S) (f : ASourceFault) → held_of sources.old.items class ≡ Some h
+        → IsErrOf result (ProbeFault.TableRead f)
         → S.gives h.source (of_page number) (Err f) }
-    ensures no_table { (c : AClass) → IsErrOf result (ProbeFault.NoTable c) ↔ ((c ≡ class) × (held_of sources.old.items class ≡ None)) }
-    ensures damaged { (c : AClass) (n : ℕ) → IsErrOf result (ProbeFault.PageDamaged c n) → (c ≡ class) × (n ≡ number) }
+    ensures no_table { (c : AClass) → IsErrOf result (ProbeFault.NoTable c)
+        ↔ ((c ≡ class) × (held_of sources.old.items class ≡ None)) }
+    ensures damaged { (c : AClass) (n : ℕ) → IsErrOf result (ProbeFault.PageDamaged c n)
+        → (c ≡ class) × (n ≡ number) }
 {
     let at = class.number() as usize;
     if sources.len() <= at {

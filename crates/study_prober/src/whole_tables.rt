@@ -56,13 +56,17 @@ impl<'a, A: Allocator> WholeTables<'a, A> {
 
     /// Adds a table whose class is not loaded and whose needs are; any other table is returned with the reason.
     pub fn add(&mut self, table: Table<'a, A>) -> Result<(), AddRefused<'a, A>>
-        ensures fault { MatchOption (add_fault self.old.tables table.entry.class) (IsOk result) (λ fault. IsErrAnd result (λ e. e.fault ≡ fault)) }
+        ensures fault { MatchOption (add_fault self.old.tables table.entry.class) (IsOk result)
+            (λ fault. IsErrAnd result (λ e. e.fault ≡ fault)) }
         ensures added { OnOk result (
-            self.new ≡ record self.old { tables = slice_set self.old.tables (class_number table.entry.class) (Some table.entry) }
+            self.new ≡ record self.old {
+              tables = slice_set self.old.tables (class_number table.entry.class) (Some table.entry);
+            }
             ) }
         ensures same { OnErr result (self.new ≡ self.old) }
         ensures handed_back { IfErr result (λ e. e.table ≡ table.entry) }
-        ensures honest { TablesAreRight self.old.tables → IsRight table.entry → TablesAreRight self.new.tables }
+        ensures honest { TablesAreRight self.old.tables → IsRight table.entry
+            → TablesAreRight self.new.tables }
     {
         self.tables.add(table)
     }
@@ -72,16 +76,20 @@ impl<'a, A: Allocator> Values for WholeTables<'a, A> {
     ghost source = { whole_source };
 
     fn value(&mut self, p: &Position) -> Result<Value, ProbeFault>
+        // Many clauses: those of `Values`, in the terms of these tables, and what only these tables promise.
         ensures game { TablesAreRight self.old.tables → IfOk result (IsValueOf p.now) }
         ensures no_damage { TablesAreRight self.old.tables → IfErr result IsNotDamage }
         ensures stays_honest { TablesAreRight self.old.tables → TablesAreRight self.new.tables }
         ensures given { IsCellAnswer self.old.tables p.now result }
-        ensures failed_so { (c : AClass) (f : ASourceFault) → IsOf c p.now → IsErrOf result (ProbeFault.TableRead f) → ⊥ }
+        ensures failed_so { (c : AClass) (f : ASourceFault) → IsOf c p.now
+            → IsErrOf result (ProbeFault.TableRead f) → ⊥ }
         ensures fails_as_before { (c : AClass) (f : ASourceFault) → ⊥ → ⊥ }
-        ensures no_table { (c : AClass) → IsErrOf result (ProbeFault.NoTable c) ↔ (IsOf c p.now × (is_some (table_of self.old.tables c) ≡ false)) }
+        ensures no_table { (c : AClass) → IsErrOf result (ProbeFault.NoTable c)
+            ↔ (IsOf c p.now × (is_some (table_of self.old.tables c) ≡ false)) }
         ensures damaged { (c : AClass) (n : ℕ) → IsErrOf result (ProbeFault.PageDamaged c n)
             → IsOf c p.now × (n ≡ page_number p.now) }
-        ensures same_tables { (c : AClass) → is_some (table_of self.new.tables c) ≡ is_some (table_of self.old.tables c) }
+        ensures same_tables { (c : AClass)
+            → is_some (table_of self.new.tables c) ≡ is_some (table_of self.old.tables c) }
         ensures asked { self.new.asked ≡ counted self.old.asked }
         ensures failures { 0 ≡ faults_after 0 result }
         ensures told { (c : AClass) (t : Seen) → IsOf c p.now → table_of self.old.tables c ≡ Some t

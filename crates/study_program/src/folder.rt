@@ -143,7 +143,8 @@ fn read_at<F: Read + Seek>(file: &mut F, start: u64, into: &mut [u8]) -> Result<
 fn fill<R: Read>(input: &mut R, buf: &mut [u8]) -> Result<(), SourceFault>
     ensures len { length buf.new ≡ length buf.old }
     ensures ok { OnOk result (Consumes (R.remaining input.old) (R.remaining input.new) buf.new) }
-    ensures fault { IfErr result (λ e. (e ≡ Device) ⊎ ((e ≡ Short) × IsShort (R.remaining input.old) (length buf.old))) }
+    ensures fault { IfErr result (λ e. (e ≡ Device)
+        ⊎ ((e ≡ Short) × IsShort (R.remaining input.old) (length buf.old))) }
 {
     let mut filled = 0usize;
     while filled < buf.len() {

@@ -84,7 +84,9 @@ pub fn answer_script<F: Files, R: Read, W: Write, E: Write, A: Allocator>(
     out: &mut W,
     errors: &mut E,
 ) -> u8
-    ensures { EndsBy (HasRun (is_some options.now.pages) options.now.separate (R.remaining script.old) (R.remaining script.new)
+    ensures { EndsBy
+        (HasRun (is_some options.now.pages) options.now.separate
+        (R.remaining script.old) (R.remaining script.new)
         (W.contents out.old) (W.contents out.new))
         result (E.contents errors.old) (E.contents errors.new) }
 {
@@ -115,7 +117,8 @@ pub fn run_over_files<F: Files, R: Read, W: Write, A: Allocator>(
     script: &mut R,
     out: &mut W,
 ) -> Result<Summary, RunFault>
-    ensures { HasRun (is_some options.now.pages) options.now.separate (R.remaining script.old) (R.remaining script.new)
+    ensures { HasRun (is_some options.now.pages) options.now.separate
+        (R.remaining script.old) (R.remaining script.new)
         (W.contents out.old) (W.contents out.new) result }
 {
     let Ok(mut store) = FolderStore::new(files, alloc, options.tables) else {

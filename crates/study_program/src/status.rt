@@ -37,7 +37,8 @@ pub fn status_without_options(error: &Error, printed: bool) -> u8
 /// Reports why a run stopped, in a line of its own: `studybench: LineTooLong 3`.
 pub fn put_stop<W: Write>(out: &mut W, fault: RunFault) -> Result<(), DeviceFailed>
     ensures ok { OnOk result (Appends (W.contents out.old) (W.contents out.new) (stop_text fault)) }
-    ensures err { OnErr result (TakesPrefix (W.contents out.old) (W.contents out.new) (stop_text fault)) }
+    ensures err { OnErr result
+        (TakesPrefix (W.contents out.old) (W.contents out.new) (stop_text fault)) }
 {
     match fault {
         RunFault::ReadDevice => write_text(out, b"studybench: ReadDevice\n"),
@@ -49,8 +50,12 @@ pub fn put_stop<W: Write>(out: &mut W, fault: RunFault) -> Result<(), DeviceFail
 }
 
 fn put_too_long<W: Write>(out: &mut W, line: u32) -> Result<(), DeviceFailed>
-    ensures ok { OnOk result (Appends (W.contents out.old) (W.contents out.new) (codes "studybench: LineTooLong " ++ (decimal line ++ 10 ∷ []))) }
-    ensures err { OnErr result (TakesPrefix (W.contents out.old) (W.contents out.new) (codes "studybench: LineTooLong " ++ (decimal line ++ 10 ∷ []))) }
+    ensures ok { OnOk result
+        (Appends (W.contents out.old) (W.contents out.new)
+        (codes "studybench: LineTooLong " ++ (decimal line ++ 10 ∷ []))) }
+    ensures err { OnErr result
+        (TakesPrefix (W.contents out.old) (W.contents out.new)
+        (codes "studybench: LineTooLong " ++ (decimal line ++ 10 ∷ []))) }
 {
     let mut buffer = Buffer::new();
     put_line(
@@ -61,8 +66,11 @@ fn put_too_long<W: Write>(out: &mut W, line: u32) -> Result<(), DeviceFailed>
 }
 
 fn put_line<W: Write>(out: &mut W, front: &[u8], back: &[u8]) -> Result<(), DeviceFailed>
-    ensures ok { OnOk result (Appends (W.contents out.old) (W.contents out.new) (front.now ++ (back.now ++ 10 ∷ []))) }
-    ensures err { OnErr result (TakesPrefix (W.contents out.old) (W.contents out.new) (front.now ++ (back.now ++ 10 ∷ []))) }
+    ensures ok { OnOk result
+        (Appends (W.contents out.old) (W.contents out.new) (front.now ++ (back.now ++ 10 ∷ []))) }
+    ensures err { OnErr result
+        (TakesPrefix (W.contents out.old) (W.contents out.new)
+        (front.now ++ (back.now ++ 10 ∷ []))) }
 {
     write_text(out, front)?;
     write_text(out, back)?;

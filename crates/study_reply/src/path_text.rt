@@ -12,8 +12,10 @@ use study_text::{DeviceFailed, write_text};
 
 /// Writes a path, without leading zeros.
 pub fn put_path<W: Write>(out: &mut W, steps: &[u16]) -> Result<(), DeviceFailed>
-    ensures ok { OnOk result (Appends (W.contents out.old) (W.contents out.new) (path_text steps.now)) }
-    ensures err { OnErr result (TakesPrefix (W.contents out.old) (W.contents out.new) (path_text steps.now)) }
+    ensures ok { OnOk result
+        (Appends (W.contents out.old) (W.contents out.new) (path_text steps.now)) }
+    ensures err { OnErr result
+        (TakesPrefix (W.contents out.old) (W.contents out.new) (path_text steps.now)) }
 {
     let Some((first, rest)) = steps.split_first() else {
         return write_text(out, b"root");
@@ -25,15 +27,18 @@ pub fn put_path<W: Write>(out: &mut W, steps: &[u16]) -> Result<(), DeviceFailed
 /// Writes a place.
 pub fn put_place<W: Write>(out: &mut W, place: u16) -> Result<(), DeviceFailed>
     ensures ok { OnOk result (Appends (W.contents out.old) (W.contents out.new) (decimal place)) }
-    ensures err { OnErr result (TakesPrefix (W.contents out.old) (W.contents out.new) (decimal place)) }
+    ensures err { OnErr result
+        (TakesPrefix (W.contents out.old) (W.contents out.new) (decimal place)) }
 {
     let mut buffer = Buffer::new();
     write_text(out, buffer.format(place).as_bytes())
 }
 
 fn put_more<W: Write>(out: &mut W, steps: &[u16]) -> Result<(), DeviceFailed>
-    ensures ok { OnOk result (Appends (W.contents out.old) (W.contents out.new) (more_places steps.now)) }
-    ensures err { OnErr result (TakesPrefix (W.contents out.old) (W.contents out.new) (more_places steps.now)) }
+    ensures ok { OnOk result
+        (Appends (W.contents out.old) (W.contents out.new) (more_places steps.now)) }
+    ensures err { OnErr result
+        (TakesPrefix (W.contents out.old) (W.contents out.new) (more_places steps.now)) }
 {
     for place in steps {
         put_next(out, *place)?;
@@ -43,8 +48,10 @@ fn put_more<W: Write>(out: &mut W, steps: &[u16]) -> Result<(), DeviceFailed>
 
 /// A place after a point.
 fn put_next<W: Write>(out: &mut W, place: u16) -> Result<(), DeviceFailed>
-    ensures ok { OnOk result (Appends (W.contents out.old) (W.contents out.new) (46 ∷ decimal place)) }
-    ensures err { OnErr result (TakesPrefix (W.contents out.old) (W.contents out.new) (46 ∷ decimal place)) }
+    ensures ok { OnOk result
+        (Appends (W.contents out.old) (W.contents out.new) (46 ∷ decimal place)) }
+    ensures err { OnErr result
+        (TakesPrefix (W.contents out.old) (W.contents out.new) (46 ∷ decimal place)) }
 {
     write_text(out, b".")?;
     put_place(out, place)
@@ -52,8 +59,11 @@ fn put_next<W: Write>(out: &mut W, place: u16) -> Result<(), DeviceFailed>
 
 /// Writes the path of a child.
 pub fn put_child<W: Write>(out: &mut W, steps: &[u16], place: u16) -> Result<(), DeviceFailed>
-    ensures ok { OnOk result (Appends (W.contents out.old) (W.contents out.new) (path_text (steps.now ++ place ∷ []))) }
-    ensures err { OnErr result (TakesPrefix (W.contents out.old) (W.contents out.new) (path_text (steps.now ++ place ∷ []))) }
+    ensures ok { OnOk result
+        (Appends (W.contents out.old) (W.contents out.new) (path_text (steps.now ++ place ∷ []))) }
+    ensures err { OnErr result
+        (TakesPrefix (W.contents out.old) (W.contents out.new)
+        (path_text (steps.now ++ place ∷ []))) }
 {
     let Some((first, rest)) = steps.split_first() else {
         return put_place(out, place);
@@ -65,8 +75,10 @@ pub fn put_child<W: Write>(out: &mut W, steps: &[u16], place: u16) -> Result<(),
 
 /// Writes the path of a node after it moved up by one place.
 pub fn put_promoted_path<W: Write>(out: &mut W, steps: &[u16]) -> Result<(), DeviceFailed>
-    ensures ok { OnOk result (Appends (W.contents out.old) (W.contents out.new) (path_text (raised steps.now))) }
-    ensures err { OnErr result (TakesPrefix (W.contents out.old) (W.contents out.new) (path_text (raised steps.now))) }
+    ensures ok { OnOk result
+        (Appends (W.contents out.old) (W.contents out.new) (path_text (raised steps.now))) }
+    ensures err { OnErr result
+        (TakesPrefix (W.contents out.old) (W.contents out.new) (path_text (raised steps.now))) }
 {
     let Some((last, front)) = steps.split_last() else {
         return put_path(out, steps);
@@ -76,8 +88,12 @@ pub fn put_promoted_path<W: Write>(out: &mut W, steps: &[u16]) -> Result<(), Dev
 
 /// Writes words, a path and a line feed.
 pub fn put_node<W: Write>(out: &mut W, front: &[u8], steps: &[u16]) -> Result<(), DeviceFailed>
-    ensures ok { OnOk result (Appends (W.contents out.old) (W.contents out.new) (reply_line front.now (path_text steps.now))) }
-    ensures err { OnErr result (TakesPrefix (W.contents out.old) (W.contents out.new) (reply_line front.now (path_text steps.now))) }
+    ensures ok { OnOk result
+        (Appends (W.contents out.old) (W.contents out.new)
+        (reply_line front.now (path_text steps.now))) }
+    ensures err { OnErr result
+        (TakesPrefix (W.contents out.old) (W.contents out.new)
+        (reply_line front.now (path_text steps.now))) }
 {
     write_text(out, front)?;
     put_path(out, steps)?;
@@ -86,8 +102,12 @@ pub fn put_node<W: Write>(out: &mut W, front: &[u8], steps: &[u16]) -> Result<()
 
 /// Writes the reply to `promote`.
 pub fn put_promoted<W: Write>(out: &mut W, steps: &[u16]) -> Result<(), DeviceFailed>
-    ensures ok { OnOk result (Appends (W.contents out.old) (W.contents out.new) (reply_line (codes "promote ") (path_text (raised steps.now)))) }
-    ensures err { OnErr result (TakesPrefix (W.contents out.old) (W.contents out.new) (reply_line (codes "promote ") (path_text (raised steps.now)))) }
+    ensures ok { OnOk result
+        (Appends (W.contents out.old) (W.contents out.new)
+        (reply_line (codes "promote ") (path_text (raised steps.now)))) }
+    ensures err { OnErr result
+        (TakesPrefix (W.contents out.old) (W.contents out.new)
+        (reply_line (codes "promote ") (path_text (raised steps.now)))) }
 {
     write_text(out, b"promote ")?;
     put_promoted_path(out, steps)?;

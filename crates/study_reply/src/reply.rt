@@ -57,8 +57,10 @@ pub fn write_reply<'a, W: Write, A: Allocator>(
     out: &mut W,
     answer: Answer<'a, A>,
 ) -> Result<bool, DeviceFailed>
-    ensures ok { OnOk result (Appends (W.contents out.old) (W.contents out.new) (answer_text answer.entry)) }
-    ensures err { OnErr result (TakesPrefix (W.contents out.old) (W.contents out.new) (answer_text answer.entry)) }
+    ensures ok { OnOk result
+        (Appends (W.contents out.old) (W.contents out.new) (answer_text answer.entry)) }
+    ensures err { OnErr result
+        (TakesPrefix (W.contents out.old) (W.contents out.new) (answer_text answer.entry)) }
     ensures refused { IfOk result (λ refused. refused ≡ is_err answer.entry) }
 {
     match answer {
@@ -77,8 +79,12 @@ fn put_refused<'a, W: Write, A: Allocator>(
     out: &mut W,
     refused: LineRefusal<'a, A>,
 ) -> Result<(), DeviceFailed>
-    ensures ok { OnOk result (Appends (W.contents out.old) (W.contents out.new) (reply_line (codes "error ") (refused_words refused.entry))) }
-    ensures err { OnErr result (TakesPrefix (W.contents out.old) (W.contents out.new) (reply_line (codes "error ") (refused_words refused.entry))) }
+    ensures ok { OnOk result
+        (Appends (W.contents out.old) (W.contents out.new)
+        (reply_line (codes "error ") (refused_words refused.entry))) }
+    ensures err { OnErr result
+        (TakesPrefix (W.contents out.old) (W.contents out.new)
+        (reply_line (codes "error ") (refused_words refused.entry))) }
 {
     match refused {
         LineRefusal::Line(refusal) => write_refusal(out, refusal),
@@ -90,8 +96,10 @@ fn put_reply<'a, W: Write, A: Allocator>(
     out: &mut W,
     reply: Reply<'a, A>,
 ) -> Result<(), DeviceFailed>
-    ensures ok { OnOk result (Appends (W.contents out.old) (W.contents out.new) (reply_text reply.entry)) }
-    ensures err { OnErr result (TakesPrefix (W.contents out.old) (W.contents out.new) (reply_text reply.entry)) }
+    ensures ok { OnOk result
+        (Appends (W.contents out.old) (W.contents out.new) (reply_text reply.entry)) }
+    ensures err { OnErr result
+        (TakesPrefix (W.contents out.old) (W.contents out.new) (reply_text reply.entry)) }
 {
     match reply {
         Reply::Position(start) => put_start(out, b"position ", &start),
@@ -114,8 +122,12 @@ fn put_reply<'a, W: Write, A: Allocator>(
 
 /// A word, and a start as FEN.
 fn put_start<W: Write>(out: &mut W, word: &[u8], start: &Start) -> Result<(), DeviceFailed>
-    ensures ok { OnOk result (Appends (W.contents out.old) (W.contents out.new) (reply_line word.now (fen_text start.now))) }
-    ensures err { OnErr result (TakesPrefix (W.contents out.old) (W.contents out.new) (reply_line word.now (fen_text start.now))) }
+    ensures ok { OnOk result
+        (Appends (W.contents out.old) (W.contents out.new)
+        (reply_line word.now (fen_text start.now))) }
+    ensures err { OnErr result
+        (TakesPrefix (W.contents out.old) (W.contents out.new)
+        (reply_line word.now (fen_text start.now))) }
 {
     let text = write_fen(start);
     put_line(out, word, text.as_str().as_bytes())
@@ -128,8 +140,12 @@ fn put_inserted<W: Write>(
     place: u16,
     san: &[u8],
 ) -> Result<(), DeviceFailed>
-    ensures ok { OnOk result (Appends (W.contents out.old) (W.contents out.new) (insert_text (steps.now ++ place ∷ []) san.now)) }
-    ensures err { OnErr result (TakesPrefix (W.contents out.old) (W.contents out.new) (insert_text (steps.now ++ place ∷ []) san.now)) }
+    ensures ok { OnOk result
+        (Appends (W.contents out.old) (W.contents out.new)
+        (insert_text (steps.now ++ place ∷ []) san.now)) }
+    ensures err { OnErr result
+        (TakesPrefix (W.contents out.old) (W.contents out.new)
+        (insert_text (steps.now ++ place ∷ []) san.now)) }
 {
     write_text(out, b"insert ")?;
     put_child(out, steps, place)?;

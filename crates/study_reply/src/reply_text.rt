@@ -27,8 +27,10 @@ use study_values::{ProbeFault, Value};
 
 /// Writes words and a line feed.
 pub fn put_line<W: Write>(out: &mut W, front: &[u8], back: &[u8]) -> Result<(), DeviceFailed>
-    ensures ok { OnOk result (Appends (W.contents out.old) (W.contents out.new) (reply_line front.now back.now)) }
-    ensures err { OnErr result (TakesPrefix (W.contents out.old) (W.contents out.new) (reply_line front.now back.now)) }
+    ensures ok { OnOk result
+        (Appends (W.contents out.old) (W.contents out.new) (reply_line front.now back.now)) }
+    ensures err { OnErr result
+        (TakesPrefix (W.contents out.old) (W.contents out.new) (reply_line front.now back.now)) }
 {
     write_text(out, front)?;
     write_text(out, back)?;
@@ -37,8 +39,12 @@ pub fn put_line<W: Write>(out: &mut W, front: &[u8], back: &[u8]) -> Result<(), 
 
 /// Writes the reply to a refused line.
 pub fn write_refusal<W: Write>(out: &mut W, refusal: Refusal) -> Result<(), DeviceFailed>
-    ensures ok { OnOk result (Appends (W.contents out.old) (W.contents out.new) (reply_line (codes "error ") (words_of refusal))) }
-    ensures err { OnErr result (TakesPrefix (W.contents out.old) (W.contents out.new) (reply_line (codes "error ") (words_of refusal))) }
+    ensures ok { OnOk result
+        (Appends (W.contents out.old) (W.contents out.new)
+        (reply_line (codes "error ") (words_of refusal))) }
+    ensures err { OnErr result
+        (TakesPrefix (W.contents out.old) (W.contents out.new)
+        (reply_line (codes "error ") (words_of refusal))) }
 {
     write_text(out, b"error ")?;
     put_words(out, refusal)?;
@@ -48,16 +54,20 @@ pub fn write_refusal<W: Write>(out: &mut W, refusal: Refusal) -> Result<(), Devi
 /// A refusal in words.
 #[tactic(auto, unfolding(crate::specs::Names::words_of))]
 fn put_words<W: Write>(out: &mut W, refusal: Refusal) -> Result<(), DeviceFailed>
-    ensures ok { OnOk result (Appends (W.contents out.old) (W.contents out.new) (words_of refusal)) }
-    ensures err { OnErr result (TakesPrefix (W.contents out.old) (W.contents out.new) (words_of refusal)) }
+    ensures ok { OnOk result
+        (Appends (W.contents out.old) (W.contents out.new) (words_of refusal)) }
+    ensures err { OnErr result
+        (TakesPrefix (W.contents out.old) (W.contents out.new) (words_of refusal)) }
 {
     write_text(out, refusal.name())?;
     put_argument(out, refusal.argument())
 }
 
 fn put_argument<W: Write>(out: &mut W, argument: Argument) -> Result<(), DeviceFailed>
-    ensures ok { OnOk result (Appends (W.contents out.old) (W.contents out.new) (argument_text argument)) }
-    ensures err { OnErr result (TakesPrefix (W.contents out.old) (W.contents out.new) (argument_text argument)) }
+    ensures ok { OnOk result
+        (Appends (W.contents out.old) (W.contents out.new) (argument_text argument)) }
+    ensures err { OnErr result
+        (TakesPrefix (W.contents out.old) (W.contents out.new) (argument_text argument)) }
 {
     match argument {
         Argument::None => write_text(out, b""),
@@ -71,8 +81,10 @@ fn put_argument<W: Write>(out: &mut W, argument: Argument) -> Result<(), DeviceF
 
 /// Writes the legal moves of a position, or why there are none.
 pub fn write_moves<W: Write>(out: &mut W, p: &Position) -> Result<(), DeviceFailed>
-    ensures ok { OnOk result (Appends (W.contents out.old) (W.contents out.new) (moves_text p.now)) }
-    ensures err { OnErr result (TakesPrefix (W.contents out.old) (W.contents out.new) (moves_text p.now)) }
+    ensures ok { OnOk result
+        (Appends (W.contents out.old) (W.contents out.new) (moves_text p.now)) }
+    ensures err { OnErr result
+        (TakesPrefix (W.contents out.old) (W.contents out.new) (moves_text p.now)) }
 {
     let moves = legal_moves(p);
     put_list(out, p, moves.as_slice())
@@ -80,8 +92,10 @@ pub fn write_moves<W: Write>(out: &mut W, p: &Position) -> Result<(), DeviceFail
 
 fn put_list<W: Write>(out: &mut W, p: &Position, moves: &[Move]) -> Result<(), DeviceFailed>
     requires { All (λ m. is_legal p.now m ≡ true) moves.now }
-    ensures ok { OnOk result (Appends (W.contents out.old) (W.contents out.new) (list_text p.now moves.now)) }
-    ensures err { OnErr result (TakesPrefix (W.contents out.old) (W.contents out.new) (list_text p.now moves.now)) }
+    ensures ok { OnOk result
+        (Appends (W.contents out.old) (W.contents out.new) (list_text p.now moves.now)) }
+    ensures err { OnErr result
+        (TakesPrefix (W.contents out.old) (W.contents out.new) (list_text p.now moves.now)) }
 {
     if moves.is_empty() {
         return put_no_moves(out, p);
@@ -93,8 +107,10 @@ fn put_list<W: Write>(out: &mut W, p: &Position, moves: &[Move]) -> Result<(), D
 }
 
 fn put_no_moves<W: Write>(out: &mut W, p: &Position) -> Result<(), DeviceFailed>
-    ensures ok { OnOk result (Appends (W.contents out.old) (W.contents out.new) (list_text p.now [])) }
-    ensures err { OnErr result (TakesPrefix (W.contents out.old) (W.contents out.new) (list_text p.now [])) }
+    ensures ok { OnOk result
+        (Appends (W.contents out.old) (W.contents out.new) (list_text p.now [])) }
+    ensures err { OnErr result
+        (TakesPrefix (W.contents out.old) (W.contents out.new) (list_text p.now [])) }
 {
     if in_check(p) {
         write_text(out, b"moves 0 mate\n")
@@ -105,7 +121,8 @@ fn put_no_moves<W: Write>(out: &mut W, p: &Position) -> Result<(), DeviceFailed>
 
 fn put_number<W: Write>(out: &mut W, number: usize) -> Result<(), DeviceFailed>
     ensures ok { OnOk result (Appends (W.contents out.old) (W.contents out.new) (decimal number)) }
-    ensures err { OnErr result (TakesPrefix (W.contents out.old) (W.contents out.new) (decimal number)) }
+    ensures err { OnErr result
+        (TakesPrefix (W.contents out.old) (W.contents out.new) (decimal number)) }
 {
     let mut buffer = Buffer::new();
     write_text(out, buffer.format(number).as_bytes())
@@ -113,8 +130,10 @@ fn put_number<W: Write>(out: &mut W, number: usize) -> Result<(), DeviceFailed>
 
 fn put_moves<W: Write>(out: &mut W, p: &Position, moves: &[Move]) -> Result<(), DeviceFailed>
     requires { All (λ m. is_legal p.now m ≡ true) moves.now }
-    ensures ok { OnOk result (Appends (W.contents out.old) (W.contents out.new) (moves_listed p.now moves.now)) }
-    ensures err { OnErr result (TakesPrefix (W.contents out.old) (W.contents out.new) (moves_listed p.now moves.now)) }
+    ensures ok { OnOk result
+        (Appends (W.contents out.old) (W.contents out.new) (moves_listed p.now moves.now)) }
+    ensures err { OnErr result
+        (TakesPrefix (W.contents out.old) (W.contents out.new) (moves_listed p.now moves.now)) }
 {
     for m in moves {
         put_move(out, p, *m)?;
@@ -125,8 +144,10 @@ fn put_moves<W: Write>(out: &mut W, p: &Position, moves: &[Move]) -> Result<(), 
 /// A move after a space.
 fn put_move<W: Write>(out: &mut W, p: &Position, m: Move) -> Result<(), DeviceFailed>
     requires { is_legal p.now m ≡ true }
-    ensures ok { OnOk result (Appends (W.contents out.old) (W.contents out.new) (32 ∷ move_text p.now m)) }
-    ensures err { OnErr result (TakesPrefix (W.contents out.old) (W.contents out.new) (32 ∷ move_text p.now m)) }
+    ensures ok { OnOk result
+        (Appends (W.contents out.old) (W.contents out.new) (32 ∷ move_text p.now m)) }
+    ensures err { OnErr result
+        (TakesPrefix (W.contents out.old) (W.contents out.new) (32 ∷ move_text p.now m)) }
 {
     write_text(out, b" ")?;
     let text = write_san(p, m);
@@ -135,8 +156,10 @@ fn put_move<W: Write>(out: &mut W, p: &Position, m: Move) -> Result<(), DeviceFa
 
 /// Writes in how many moves the side to move forces mate.
 pub fn put_solution<W: Write>(out: &mut W, plies: Option<u8>) -> Result<(), DeviceFailed>
-    ensures ok { OnOk result (Appends (W.contents out.old) (W.contents out.new) (solve_text plies)) }
-    ensures err { OnErr result (TakesPrefix (W.contents out.old) (W.contents out.new) (solve_text plies)) }
+    ensures ok { OnOk result
+        (Appends (W.contents out.old) (W.contents out.new) (solve_text plies)) }
+    ensures err { OnErr result
+        (TakesPrefix (W.contents out.old) (W.contents out.new) (solve_text plies)) }
 {
     let Some(plies) = plies else {
         return write_text(out, b"solve none\n");
@@ -150,8 +173,12 @@ pub fn refuse_edit<'a, W: Write, A: Allocator>(
     out: &mut W,
     refusal: EditRefusal<'a, A>,
 ) -> Result<(), DeviceFailed>
-    ensures ok { OnOk result (Appends (W.contents out.old) (W.contents out.new) (reply_line (codes "error ") (edit_words refusal.entry))) }
-    ensures err { OnErr result (TakesPrefix (W.contents out.old) (W.contents out.new) (reply_line (codes "error ") (edit_words refusal.entry))) }
+    ensures ok { OnOk result
+        (Appends (W.contents out.old) (W.contents out.new)
+        (reply_line (codes "error ") (edit_words refusal.entry))) }
+    ensures err { OnErr result
+        (TakesPrefix (W.contents out.old) (W.contents out.new)
+        (reply_line (codes "error ") (edit_words refusal.entry))) }
 {
     match refusal {
         EditRefusal::NoSuchNode => write_refusal(out, Refusal::NoSuchNode),
@@ -193,8 +220,10 @@ fn refuse_shift<W: Write>(out: &mut W, steps: &[u16]) -> Result<(), DeviceFailed
 
 /// Writes a stipulation.
 pub fn put_stipulation<W: Write>(out: &mut W, stipulation: Stipulation) -> Result<(), DeviceFailed>
-    ensures ok { OnOk result (Appends (W.contents out.old) (W.contents out.new) (stipulation_words stipulation)) }
-    ensures err { OnErr result (TakesPrefix (W.contents out.old) (W.contents out.new) (stipulation_words stipulation)) }
+    ensures ok { OnOk result
+        (Appends (W.contents out.old) (W.contents out.new) (stipulation_words stipulation)) }
+    ensures err { OnErr result
+        (TakesPrefix (W.contents out.old) (W.contents out.new) (stipulation_words stipulation)) }
 {
     write_text(out, b"stipulate ")?;
     put_side(out, stipulation.hero)?;
@@ -205,7 +234,8 @@ pub fn put_stipulation<W: Write>(out: &mut W, stipulation: Stipulation) -> Resul
 
 fn put_side<W: Write>(out: &mut W, side: Side) -> Result<(), DeviceFailed>
     ensures ok { OnOk result (Appends (W.contents out.old) (W.contents out.new) (side_word side)) }
-    ensures err { OnErr result (TakesPrefix (W.contents out.old) (W.contents out.new) (side_word side)) }
+    ensures err { OnErr result
+        (TakesPrefix (W.contents out.old) (W.contents out.new) (side_word side)) }
 {
     match side {
         Side::White => write_text(out, b"White"),
@@ -215,7 +245,8 @@ fn put_side<W: Write>(out: &mut W, side: Side) -> Result<(), DeviceFailed>
 
 fn put_goal<W: Write>(out: &mut W, goal: Goal) -> Result<(), DeviceFailed>
     ensures ok { OnOk result (Appends (W.contents out.old) (W.contents out.new) (goal_words goal)) }
-    ensures err { OnErr result (TakesPrefix (W.contents out.old) (W.contents out.new) (goal_words goal)) }
+    ensures err { OnErr result
+        (TakesPrefix (W.contents out.old) (W.contents out.new) (goal_words goal)) }
 {
     match goal {
         Goal::Win => write_text(out, b"win"),
@@ -226,8 +257,10 @@ fn put_goal<W: Write>(out: &mut W, goal: Goal) -> Result<(), DeviceFailed>
 
 /// Writes the mark of a node.
 pub fn put_mark<W: Write>(out: &mut W, steps: &[u16], mark: &Mark) -> Result<(), DeviceFailed>
-    ensures ok { OnOk result (Appends (W.contents out.old) (W.contents out.new) (mark_text steps.now mark.now)) }
-    ensures err { OnErr result (TakesPrefix (W.contents out.old) (W.contents out.new) (mark_text steps.now mark.now)) }
+    ensures ok { OnOk result
+        (Appends (W.contents out.old) (W.contents out.new) (mark_text steps.now mark.now)) }
+    ensures err { OnErr result
+        (TakesPrefix (W.contents out.old) (W.contents out.new) (mark_text steps.now mark.now)) }
 {
     write_text(out, b"mark ")?;
     put_path(out, steps)?;
@@ -241,8 +274,10 @@ pub fn put_mark<W: Write>(out: &mut W, steps: &[u16], mark: &Mark) -> Result<(),
 }
 
 fn put_value<W: Write>(out: &mut W, value: Value) -> Result<(), DeviceFailed>
-    ensures ok { OnOk result (Appends (W.contents out.old) (W.contents out.new) (value_words value)) }
-    ensures err { OnErr result (TakesPrefix (W.contents out.old) (W.contents out.new) (value_words value)) }
+    ensures ok { OnOk result
+        (Appends (W.contents out.old) (W.contents out.new) (value_words value)) }
+    ensures err { OnErr result
+        (TakesPrefix (W.contents out.old) (W.contents out.new) (value_words value)) }
 {
     match value {
         Value::Win(n) => put_counted(out, b"win ", n as usize),
@@ -252,8 +287,10 @@ fn put_value<W: Write>(out: &mut W, value: Value) -> Result<(), DeviceFailed>
 }
 
 fn put_on_move<W: Write>(out: &mut W, mark: Option<MoveMark>) -> Result<(), DeviceFailed>
-    ensures ok { OnOk result (Appends (W.contents out.old) (W.contents out.new) (on_move_text mark)) }
-    ensures err { OnErr result (TakesPrefix (W.contents out.old) (W.contents out.new) (on_move_text mark)) }
+    ensures ok { OnOk result
+        (Appends (W.contents out.old) (W.contents out.new) (on_move_text mark)) }
+    ensures err { OnErr result
+        (TakesPrefix (W.contents out.old) (W.contents out.new) (on_move_text mark)) }
 {
     match mark {
         None => write_text(out, b"-"),
@@ -267,8 +304,10 @@ fn put_on_move<W: Write>(out: &mut W, mark: Option<MoveMark>) -> Result<(), Devi
 
 /// A word, and a number after it.
 fn put_counted<W: Write>(out: &mut W, word: &[u8], number: usize) -> Result<(), DeviceFailed>
-    ensures ok { OnOk result (Appends (W.contents out.old) (W.contents out.new) (word.now ++ decimal number)) }
-    ensures err { OnErr result (TakesPrefix (W.contents out.old) (W.contents out.new) (word.now ++ decimal number)) }
+    ensures ok { OnOk result
+        (Appends (W.contents out.old) (W.contents out.new) (word.now ++ decimal number)) }
+    ensures err { OnErr result
+        (TakesPrefix (W.contents out.old) (W.contents out.new) (word.now ++ decimal number)) }
 {
     write_text(out, word)?;
     put_number(out, number)

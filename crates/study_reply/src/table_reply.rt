@@ -26,8 +26,10 @@ pub enum TableReply {
 
 /// Writes the reply to a command of a class.
 pub fn put_table_reply<W: Write>(out: &mut W, reply: TableReply) -> Result<(), DeviceFailed>
-    ensures ok { OnOk result (Appends (W.contents out.old) (W.contents out.new) (table_text reply)) }
-    ensures err { OnErr result (TakesPrefix (W.contents out.old) (W.contents out.new) (table_text reply)) }
+    ensures ok { OnOk result
+        (Appends (W.contents out.old) (W.contents out.new) (table_text reply)) }
+    ensures err { OnErr result
+        (TakesPrefix (W.contents out.old) (W.contents out.new) (table_text reply)) }
 {
     match reply {
         TableReply::Built(class, win) => put_built(out, class, win),
@@ -39,8 +41,10 @@ pub fn put_table_reply<W: Write>(out: &mut W, reply: TableReply) -> Result<(), D
 
 /// With the deepest win in plies.
 fn put_built<W: Write>(out: &mut W, class: Class, win: Option<u8>) -> Result<(), DeviceFailed>
-    ensures ok { OnOk result (Appends (W.contents out.old) (W.contents out.new) (built_text class win)) }
-    ensures err { OnErr result (TakesPrefix (W.contents out.old) (W.contents out.new) (built_text class win)) }
+    ensures ok { OnOk result
+        (Appends (W.contents out.old) (W.contents out.new) (built_text class win)) }
+    ensures err { OnErr result
+        (TakesPrefix (W.contents out.old) (W.contents out.new) (built_text class win)) }
 {
     let mut number = Buffer::new();
     let mut plies = Buffer::new();
@@ -64,10 +68,12 @@ fn put_counts<W: Write>(
 ) -> Result<(), DeviceFailed>
     ensures ok { OnOk result
         (Appends (W.contents out.old) (W.contents out.new)
-        (codes "built " ++ (name.now ++ (codes " cells " ++ (cells.now ++ reply_line (codes " win ") win.now))))) }
+        (codes "built "
+        ++ (name.now ++ (codes " cells " ++ (cells.now ++ reply_line (codes " win ") win.now))))) }
     ensures err { OnErr result
         (TakesPrefix (W.contents out.old) (W.contents out.new)
-        (codes "built " ++ (name.now ++ (codes " cells " ++ (cells.now ++ reply_line (codes " win ") win.now))))) }
+        (codes "built "
+        ++ (name.now ++ (codes " cells " ++ (cells.now ++ reply_line (codes " win ") win.now))))) }
 {
     write_text(out, b"built ")?;
     write_text(out, name)?;
@@ -84,8 +90,12 @@ fn put_size<W: Write>(
     label: &[u8],
     number: u32,
 ) -> Result<(), DeviceFailed>
-    ensures ok { OnOk result (Appends (W.contents out.old) (W.contents out.new) (word.now ++ (name_of class ++ reply_line label.now (decimal number)))) }
-    ensures err { OnErr result (TakesPrefix (W.contents out.old) (W.contents out.new) (word.now ++ (name_of class ++ reply_line label.now (decimal number)))) }
+    ensures ok { OnOk result
+        (Appends (W.contents out.old) (W.contents out.new)
+        (word.now ++ (name_of class ++ reply_line label.now (decimal number)))) }
+    ensures err { OnErr result
+        (TakesPrefix (W.contents out.old) (W.contents out.new)
+        (word.now ++ (name_of class ++ reply_line label.now (decimal number)))) }
 {
     let mut buffer = Buffer::new();
     put_words(
@@ -104,8 +114,12 @@ fn put_words<W: Write>(
     label: &[u8],
     number: &[u8],
 ) -> Result<(), DeviceFailed>
-    ensures ok { OnOk result (Appends (W.contents out.old) (W.contents out.new) (word.now ++ (name.now ++ reply_line label.now number.now))) }
-    ensures err { OnErr result (TakesPrefix (W.contents out.old) (W.contents out.new) (word.now ++ (name.now ++ reply_line label.now number.now))) }
+    ensures ok { OnOk result
+        (Appends (W.contents out.old) (W.contents out.new)
+        (word.now ++ (name.now ++ reply_line label.now number.now))) }
+    ensures err { OnErr result
+        (TakesPrefix (W.contents out.old) (W.contents out.new)
+        (word.now ++ (name.now ++ reply_line label.now number.now))) }
 {
     write_text(out, word)?;
     write_text(out, name)?;
@@ -113,8 +127,12 @@ fn put_words<W: Write>(
 }
 
 fn put_verdict<W: Write>(out: &mut W, class: Class, right: bool) -> Result<(), DeviceFailed>
-    ensures ok { OnOk result (Appends (W.contents out.old) (W.contents out.new) (table_text (TableReply.Verified class right))) }
-    ensures err { OnErr result (TakesPrefix (W.contents out.old) (W.contents out.new) (table_text (TableReply.Verified class right))) }
+    ensures ok { OnOk result
+        (Appends (W.contents out.old) (W.contents out.new)
+        (table_text (TableReply.Verified class right))) }
+    ensures err { OnErr result
+        (TakesPrefix (W.contents out.old) (W.contents out.new)
+        (table_text (TableReply.Verified class right))) }
 {
     let name = class.name().as_bytes();
     if right {
@@ -130,8 +148,11 @@ fn put_named<W: Write>(
     name: &[u8],
     end: &[u8],
 ) -> Result<(), DeviceFailed>
-    ensures ok { OnOk result (Appends (W.contents out.old) (W.contents out.new) (word.now ++ (name.now ++ end.now))) }
-    ensures err { OnErr result (TakesPrefix (W.contents out.old) (W.contents out.new) (word.now ++ (name.now ++ end.now))) }
+    ensures ok { OnOk result
+        (Appends (W.contents out.old) (W.contents out.new) (word.now ++ (name.now ++ end.now))) }
+    ensures err { OnErr result
+        (TakesPrefix (W.contents out.old) (W.contents out.new)
+        (word.now ++ (name.now ++ end.now))) }
 {
     write_text(out, word)?;
     write_text(out, name)?;

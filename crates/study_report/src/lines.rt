@@ -77,8 +77,10 @@ pub fn refusal_words(reply: &[u8]) -> &[u8]
 }
 
 fn put_refusal<W: Write>(out: &mut W, number: u32, reply: &[u8]) -> Result<(), DeviceFailed>
-    ensures ok { OnOk result (Appends (W.contents out.old) (W.contents out.new) (refusal_line number reply.now)) }
-    ensures err { OnErr result (TakesPrefix (W.contents out.old) (W.contents out.new) (refusal_line number reply.now)) }
+    ensures ok { OnOk result
+        (Appends (W.contents out.old) (W.contents out.new) (refusal_line number reply.now)) }
+    ensures err { OnErr result
+        (TakesPrefix (W.contents out.old) (W.contents out.new) (refusal_line number reply.now)) }
 {
     write_text(out, b"refused ")?;
     let mut buffer = Buffer::new();

@@ -65,17 +65,27 @@ pub trait Report {
         number: u32,
         out: &mut W,
     ) -> Result<(), ReviewFault>
-        ensures told { V.source.is_honest values.old → IsKeptRight bench.now → OnOk result ((text : List ℕ)
-            × tells (plain_study (marked bench.now)) number text × Appends (W.contents out.old) (W.contents out.new) text) }
-        ensures formed { OnOk result ((text : List ℕ) × form number text × Appends (W.contents out.old) (W.contents out.new) text) }
-        ensures device { V.source.is_honest values.old → IsKeptRight bench.now → result ≡ Err ReviewFault.Device → (text : List ℕ)
-            × tells (plain_study (marked bench.now)) number text × TakesPrefix (W.contents out.old) (W.contents out.new) text }
+        ensures told { V.source.is_honest values.old → IsKeptRight bench.now
+            → OnOk result ((text : List ℕ)
+            × tells (plain_study (marked bench.now)) number text
+            × Appends (W.contents out.old) (W.contents out.new) text) }
+        ensures formed { OnOk result ((text : List ℕ) × form number text
+            × Appends (W.contents out.old) (W.contents out.new) text) }
+        ensures device { V.source.is_honest values.old → IsKeptRight bench.now
+            → result ≡ Err ReviewFault.Device → (text : List ℕ)
+            × tells (plain_study (marked bench.now)) number text
+            × TakesPrefix (W.contents out.old) (W.contents out.new) text }
         ensures memory { result ≡ Err ReviewFault.OutOfMemory → out.new ≡ out.old }
-        ensures untold { (fault : AProbeFault) → result ≡ Err (ReviewFault.Values fault) → out.new ≡ out.old }
-        ensures listed { (told : List Entry) → V.source.is_honest values.old → IsKeptRight bench.now → lists self.old told
-            → OnOk result (lists self.new (told ++ study_entry (plain_study (marked bench.now)) number ∷ [])) }
-        ensures unlisted { (told : List Entry) → lists self.old told → OnErr result (lists self.new told) }
-        ensures asked { HasReviewed (within (marked bench.now).start.position V.source) values.old result values.new };
+        ensures untold { (fault : AProbeFault)
+            → result ≡ Err (ReviewFault.Values fault) → out.new ≡ out.old }
+        ensures listed { (told : List Entry) → V.source.is_honest values.old
+            → IsKeptRight bench.now → lists self.old told
+            → OnOk result
+            (lists self.new (told ++ study_entry (plain_study (marked bench.now)) number ∷ [])) }
+        ensures unlisted { (told : List Entry) → lists self.old told
+            → OnErr result (lists self.new told) }
+        ensures asked { HasReviewed (within (marked bench.now).start.position V.source)
+            values.old result values.new };
 
     /// Reports a refused line: its number, its bytes, and the script's reply to it.
     fn add_refusal<'a, A: Allocator, W: Write>(
@@ -86,8 +96,12 @@ pub trait Report {
         reply: &[u8],
         out: &mut W,
     ) -> Result<(), WriteFault>
-        ensures told { OnOk result (Appends (W.contents out.old) (W.contents out.new) (refusal number line.now reply.now)) }
-        ensures device { result ≡ Err WriteFault.Device → TakesPrefix (W.contents out.old) (W.contents out.new) (refusal number line.now reply.now) }
+        ensures told { OnOk result
+            (Appends (W.contents out.old) (W.contents out.new)
+            (refusal number line.now reply.now)) }
+        ensures device { result ≡ Err WriteFault.Device
+            → TakesPrefix (W.contents out.old) (W.contents out.new)
+            (refusal number line.now reply.now) }
         ensures memory { result ≡ Err WriteFault.OutOfMemory → out.new ≡ out.old }
         ensures listed { (told : List Entry) → lists self.old told → lists self.new told };
 
@@ -98,9 +112,13 @@ pub trait Report {
         line: &[u8],
         out: &mut W,
     ) -> Result<(), WriteFault>
-        ensures told { OnOk result (Appends (W.contents out.old) (W.contents out.new) (remark line.now)) }
-        ensures device { result ≡ Err WriteFault.Device → TakesPrefix (W.contents out.old) (W.contents out.new) (remark line.now) }
+        ensures told { OnOk result
+            (Appends (W.contents out.old) (W.contents out.new) (remark line.now)) }
+        ensures device { result ≡ Err WriteFault.Device
+            → TakesPrefix (W.contents out.old) (W.contents out.new) (remark line.now) }
         ensures memory { result ≡ Err WriteFault.OutOfMemory → out.new ≡ out.old }
-        ensures listed { (told : List Entry) → lists self.old told → OnOk result (lists self.new (told ++ games_in line.now)) }
-        ensures unlisted { (told : List Entry) → lists self.old told → OnErr result (lists self.new told) };
+        ensures listed { (told : List Entry) → lists self.old told
+            → OnOk result (lists self.new (told ++ games_in line.now)) }
+        ensures unlisted { (told : List Entry) → lists self.old told
+            → OnErr result (lists self.new told) };
 }

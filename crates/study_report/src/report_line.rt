@@ -38,10 +38,12 @@ fn reply_in_memory<'a, 's, S: TableStore, A: Allocator>(
     line: &[u8],
 ) -> Result<LineReply<'a, A>, RunFault>
     ensures ok { (s : State) → IsTrusted none_trusted line.now
-        → SessionHolds S.Pages.honest S.Pages.gives (HonestOn none_trusted S.honest) S.files S.headers S.faults
+        → SessionHolds S.Pages.honest S.Pages.gives
+        (HonestOn none_trusted S.honest) S.files S.headers S.faults
         session.old.document session.old.tables session.old.store.now s
         → IfOk result (λ r. IsReplied s line.now
-        (SessionHolds S.Pages.honest S.Pages.gives (HonestOn none_trusted S.honest) S.files S.headers S.faults
+        (SessionHolds S.Pages.honest S.Pages.gives
+        (HonestOn none_trusted S.honest) S.files S.headers S.faults
         session.new.document session.new.tables session.new.store.now)
         r.text.taken.items r.refused) }
     ensures written { IfOk result (λ r. IsReplyPiece line.now r.text.taken.items r.refused) }
@@ -65,7 +67,8 @@ fn add_refusal<'a, A: Allocator, W: Write, T: Report>(
 ) -> Result<LineOutcome, RunFault>
     ensures ok { IfOk result (λ told. (told ≡ LineOutcome.Refusal)
         × Appends (W.contents out.old) (W.contents out.new) (T.refusal number line.now reply.now)) }
-    ensures err { IfErr result (StopsIn (T.refusal number line.now reply.now) (W.contents out.old) (W.contents out.new)) }
+    ensures err { IfErr result
+        (StopsIn (T.refusal number line.now reply.now) (W.contents out.old) (W.contents out.new)) }
     ensures listed { (told : List Entry) → T.lists report.old told → T.lists report.new told }
     ensures stops { IfErr result (λ e. (e ≡ WriteDevice) ⊎ (e ≡ OutOfMemory)) }
 {
@@ -86,8 +89,10 @@ fn refuse_line<'a, A: Allocator, W: Write, T: Report>(
     out: &mut W,
 ) -> Result<LineOutcome, RunFault>
     ensures ok { IfOk result (λ told. (told ≡ LineOutcome.Refusal)
-        × Appends (W.contents out.old) (W.contents out.new) (T.refusal number line.now (reply_line (codes "error ") (words_of refusal)))) }
-    ensures err { IfErr result (StopsIn (T.refusal number line.now (reply_line (codes "error ") (words_of refusal)))
+        × Appends (W.contents out.old) (W.contents out.new)
+        (T.refusal number line.now (reply_line (codes "error ") (words_of refusal)))) }
+    ensures err { IfErr result
+        (StopsIn (T.refusal number line.now (reply_line (codes "error ") (words_of refusal)))
         (W.contents out.old) (W.contents out.new)) }
     ensures listed { (told : List Entry) → T.lists report.old told → T.lists report.new told }
     ensures stops { IfErr result (λ e. (e ≡ WriteDevice) ⊎ (e ≡ OutOfMemory)) }
@@ -106,11 +111,14 @@ fn add_remark<'a, A: Allocator, W: Write, T: Report>(
     line: &[u8],
     out: &mut W,
 ) -> Result<LineOutcome, RunFault>
-    ensures ok { IfOk result (λ told. (told ≡ LineOutcome.Nothing) × Appends (W.contents out.old) (W.contents out.new) (T.remark line.now)) }
-    ensures err { IfErr result (StopsIn (T.remark line.now) (W.contents out.old) (W.contents out.new)) }
+    ensures ok { IfOk result (λ told. (told ≡ LineOutcome.Nothing)
+        × Appends (W.contents out.old) (W.contents out.new) (T.remark line.now)) }
+    ensures err { IfErr result
+        (StopsIn (T.remark line.now) (W.contents out.old) (W.contents out.new)) }
     ensures listed { (told : List Entry) → T.lists report.old told
         → IfOk result (λ t. T.lists report.new (told ++ games_in line.now)) }
-    ensures unlisted { (told : List Entry) → T.lists report.old told → IfErr result (λ e. T.lists report.new told) }
+    ensures unlisted { (told : List Entry) → T.lists report.old told
+        → IfErr result (λ e. T.lists report.new told) }
     ensures stops { IfErr result (λ e. (e ≡ WriteDevice) ⊎ (e ≡ OutOfMemory)) }
 {
     match report.add_remark(alloc, line, out) {
@@ -129,21 +137,28 @@ fn answer_silently<'a, 's, S: TableStore, A: Allocator, W: Write, T: Report>(
     out: &mut W,
 ) -> Result<LineOutcome, RunFault>
     ensures ok { (p : Point) → IsTrusted none_trusted line.now →
-        SessionHolds S.Pages.honest S.Pages.gives (HonestOn none_trusted S.honest) S.files S.headers S.faults
+        SessionHolds S.Pages.honest S.Pages.gives
+        (HonestOn none_trusted S.honest) S.files S.headers S.faults
         session.old.document session.old.tables session.old.store.now p.state
         → number ≡ suc p.lines
         → IfOk result (Adds (IsAddedAs T.tells T.refusal T.remark LineKind.Checked p line.now)
-        (SessionHolds S.Pages.honest S.Pages.gives (HonestOn none_trusted S.honest) S.files S.headers S.faults
+        (SessionHolds S.Pages.honest S.Pages.gives
+        (HonestOn none_trusted S.honest) S.files S.headers S.faults
         session.new.document session.new.tables session.new.store.now)
         (W.contents out.old) (W.contents out.new)) }
     ensures err { (p : Point) → IsTrusted none_trusted line.now →
-        SessionHolds S.Pages.honest S.Pages.gives (HonestOn none_trusted S.honest) S.files S.headers S.faults
+        SessionHolds S.Pages.honest S.Pages.gives
+        (HonestOn none_trusted S.honest) S.files S.headers S.faults
         session.old.document session.old.tables session.old.store.now p.state
         → number ≡ suc p.lines
-        → IfErr result (Stops (IsAddedAs T.tells T.refusal T.remark LineKind.Checked p line.now) (W.contents out.old) (W.contents out.new)) }
+        → IfErr result
+        (Stops (IsAddedAs T.tells T.refusal T.remark LineKind.Checked p line.now)
+        (W.contents out.old) (W.contents out.new)) }
     ensures listed { (told : List Entry) → T.lists report.old told → T.lists report.new told }
     ensures told_none { IfOk result (λ t. study_count t ≡ 0) }
-    ensures written { (next : ℕ) → IfOk result (WritesPart (IsPartAs T.form T.refusal T.remark LineKind.Checked number next line.now)
+    ensures written { (next : ℕ)
+        → IfOk result
+        (WritesPart (IsPartAs T.form T.refusal T.remark LineKind.Checked number next line.now)
         (W.contents out.old) (W.contents out.new)) }
     ensures stops { IfErr result (λ e. (e ≡ WriteDevice) ⊎ (e ≡ OutOfMemory)) }
 {
@@ -166,17 +181,27 @@ fn report_study<'a, P: PageSource, A: Allocator, W: Write, T: Report>(
     out: &mut W,
 ) -> Result<LineOutcome, RunFault>
     requires few { at.studies < 100000 }
-    ensures ok { (p : Point) (s : State) (plain : PlainStudy) → Holds P.honest P.gives document.now tables.old s → s.document ≡ study plain
+    ensures ok { (p : Point) (s : State) (plain : PlainStudy)
+        → Holds P.honest P.gives document.now tables.old s → s.document ≡ study plain
         → IsAt p at
-        → IfOk result (Adds (IsStudyTold T.tells T.refusal T.remark p s line.now) (λ t. (t ≡ s) × Holds P.honest P.gives document.now tables.new t)
+        → IfOk result (Adds (IsStudyTold T.tells T.refusal T.remark p s line.now) (λ t. (t ≡ s)
+        × Holds P.honest P.gives document.now tables.new t)
         (W.contents out.old) (W.contents out.new)) }
-    ensures err { (p : Point) (s : State) (plain : PlainStudy) → Holds P.honest P.gives document.now tables.old s → s.document ≡ study plain
+    ensures err { (p : Point) (s : State) (plain : PlainStudy)
+        → Holds P.honest P.gives document.now tables.old s → s.document ≡ study plain
         → IsAt p at
-        → IfErr result (Stops (IsStudyTold T.tells T.refusal T.remark p s line.now) (W.contents out.old) (W.contents out.new)) }
-    ensures listed { (s : State) (told : List Entry) → Holds P.honest P.gives document.now tables.old s → T.lists report.old told
-        → IfOk result (λ t. T.lists report.new (told ++ listed_in line.now t s.document (at.studies + 1))) }
-    ensures unlisted { (told : List Entry) → T.lists report.old told → IfErr result (λ e. T.lists report.new told) }
-    ensures written { IfOk result (WritesPart (IsPartAs T.form T.refusal T.remark LineKind.Study at.line (at.studies + 1) line.now)
+        → IfErr result
+        (Stops (IsStudyTold T.tells T.refusal T.remark p s line.now)
+        (W.contents out.old) (W.contents out.new)) }
+    ensures listed { (s : State) (told : List Entry)
+        → Holds P.honest P.gives document.now tables.old s → T.lists report.old told
+        → IfOk result (λ t.
+        T.lists report.new (told ++ listed_in line.now t s.document (at.studies + 1))) }
+    ensures unlisted { (told : List Entry) → T.lists report.old told
+        → IfErr result (λ e. T.lists report.new told) }
+    ensures written { IfOk result
+        (WritesPart
+        (IsPartAs T.form T.refusal T.remark LineKind.Study at.line (at.studies + 1) line.now)
         (W.contents out.old) (W.contents out.new)) }
     ensures stops { IfErr result (λ e. (e ≡ WriteDevice) ⊎ (e ≡ OutOfMemory)) }
 {
@@ -205,25 +230,36 @@ fn add_pgn<'a, 's, S: TableStore, A: Allocator, W: Write, T: Report>(
 ) -> Result<LineOutcome, RunFault>
     requires few { at.studies < 100000 }
     ensures ok { (p : Point) → line_kind line.now ≡ LineKind.Study →
-        SessionHolds S.Pages.honest S.Pages.gives (HonestOn none_trusted S.honest) S.files S.headers S.faults
+        SessionHolds S.Pages.honest S.Pages.gives
+        (HonestOn none_trusted S.honest) S.files S.headers S.faults
         session.old.document session.old.tables session.old.store.now p.state
         → IsAt p at
         → IfOk result (Adds (IsAddedAs T.tells T.refusal T.remark LineKind.Study p line.now)
-        (SessionHolds S.Pages.honest S.Pages.gives (HonestOn none_trusted S.honest) S.files S.headers S.faults
+        (SessionHolds S.Pages.honest S.Pages.gives
+        (HonestOn none_trusted S.honest) S.files S.headers S.faults
         session.new.document session.new.tables session.new.store.now)
         (W.contents out.old) (W.contents out.new)) }
     ensures err { (p : Point) → line_kind line.now ≡ LineKind.Study →
-        SessionHolds S.Pages.honest S.Pages.gives (HonestOn none_trusted S.honest) S.files S.headers S.faults
+        SessionHolds S.Pages.honest S.Pages.gives
+        (HonestOn none_trusted S.honest) S.files S.headers S.faults
         session.old.document session.old.tables session.old.store.now p.state
         → IsAt p at
-        → IfErr result (Stops (IsAddedAs T.tells T.refusal T.remark LineKind.Study p line.now) (W.contents out.old) (W.contents out.new)) }
+        → IfErr result
+        (Stops (IsAddedAs T.tells T.refusal T.remark LineKind.Study p line.now)
+        (W.contents out.old) (W.contents out.new)) }
     ensures listed { (p : Point) (told : List Entry) → line_kind line.now ≡ LineKind.Study →
-        SessionHolds S.Pages.honest S.Pages.gives (HonestOn none_trusted S.honest) S.files S.headers S.faults
+        SessionHolds S.Pages.honest S.Pages.gives
+        (HonestOn none_trusted S.honest) S.files S.headers S.faults
         session.old.document session.old.tables session.old.store.now p.state
         → T.lists report.old told
-        → IfOk result (λ t. T.lists report.new (told ++ listed_in line.now t (document_seen session.new.document) (at.studies + 1))) }
-    ensures unlisted { (told : List Entry) → T.lists report.old told → IfErr result (λ e. T.lists report.new told) }
-    ensures written { IfOk result (WritesPart (IsPartAs T.form T.refusal T.remark LineKind.Study at.line (at.studies + 1) line.now)
+        → IfOk result (λ t.
+        T.lists report.new
+        (told ++ listed_in line.now t (document_seen session.new.document) (at.studies + 1))) }
+    ensures unlisted { (told : List Entry) → T.lists report.old told
+        → IfErr result (λ e. T.lists report.new told) }
+    ensures written { IfOk result
+        (WritesPart
+        (IsPartAs T.form T.refusal T.remark LineKind.Study at.line (at.studies + 1) line.now)
         (W.contents out.old) (W.contents out.new)) }
     ensures stops { IfErr result (λ e. (e ≡ WriteDevice) ⊎ (e ≡ OutOfMemory)) }
 {
@@ -254,25 +290,35 @@ pub fn add_line<'a, 's, S: TableStore, A: Allocator, W: Write, T: Report>(
 ) -> Result<LineOutcome, RunFault>
     requires few { at.studies < 100000 }
     ensures ok { (p : Point) →
-        SessionHolds S.Pages.honest S.Pages.gives (HonestOn none_trusted S.honest) S.files S.headers S.faults
+        SessionHolds S.Pages.honest S.Pages.gives
+        (HonestOn none_trusted S.honest) S.files S.headers S.faults
         session.old.document session.old.tables session.old.store.now p.state
         → IsAt p at
         → IfOk result (Adds (IsAdded T.tells T.refusal T.remark p line.now)
-        (SessionHolds S.Pages.honest S.Pages.gives (HonestOn none_trusted S.honest) S.files S.headers S.faults
+        (SessionHolds S.Pages.honest S.Pages.gives
+        (HonestOn none_trusted S.honest) S.files S.headers S.faults
         session.new.document session.new.tables session.new.store.now)
         (W.contents out.old) (W.contents out.new)) }
     ensures err { (p : Point) →
-        SessionHolds S.Pages.honest S.Pages.gives (HonestOn none_trusted S.honest) S.files S.headers S.faults
+        SessionHolds S.Pages.honest S.Pages.gives
+        (HonestOn none_trusted S.honest) S.files S.headers S.faults
         session.old.document session.old.tables session.old.store.now p.state
         → IsAt p at
-        → IfErr result (Stops (IsAdded T.tells T.refusal T.remark p line.now) (W.contents out.old) (W.contents out.new)) }
+        → IfErr result
+        (Stops (IsAdded T.tells T.refusal T.remark p line.now)
+        (W.contents out.old) (W.contents out.new)) }
     ensures listed { (p : Point) (told : List Entry) →
-        SessionHolds S.Pages.honest S.Pages.gives (HonestOn none_trusted S.honest) S.files S.headers S.faults
+        SessionHolds S.Pages.honest S.Pages.gives
+        (HonestOn none_trusted S.honest) S.files S.headers S.faults
         session.old.document session.old.tables session.old.store.now p.state
         → T.lists report.old told
-        → IfOk result (λ t. T.lists report.new (told ++ listed_in line.now t (document_seen session.new.document) (at.studies + 1))) }
-    ensures unlisted { (told : List Entry) → T.lists report.old told → IfErr result (λ e. T.lists report.new told) }
-    ensures written { IfOk result (WritesPart (IsPart T.form T.refusal T.remark at.line (at.studies + 1) line.now)
+        → IfOk result (λ t.
+        T.lists report.new
+        (told ++ listed_in line.now t (document_seen session.new.document) (at.studies + 1))) }
+    ensures unlisted { (told : List Entry) → T.lists report.old told
+        → IfErr result (λ e. T.lists report.new told) }
+    ensures written { IfOk result
+        (WritesPart (IsPart T.form T.refusal T.remark at.line (at.studies + 1) line.now)
         (W.contents out.old) (W.contents out.new)) }
     ensures stops { IfErr result (λ e. (e ≡ WriteDevice) ⊎ (e ≡ OutOfMemory)) }
 {

@@ -29,29 +29,47 @@ pub fn follow<'a, 's, R: Read, W: Write, S: TableStore, A: Allocator, T: Report>
     report: &mut T,
     session: &mut Session<'a, 's, S, A>,
 ) -> Result<Summary, RunFault>
-    ensures outcome { (first : State) → SessionHolds S.Pages.honest S.Pages.gives (HonestOn none_trusted S.honest) S.files S.headers S.faults
+    ensures outcome { (first : State)
+        → SessionHolds S.Pages.honest S.Pages.gives
+        (HonestOn none_trusted S.honest) S.files S.headers S.faults
         session.old.document session.old.tables
         session.old.store.now first
         → IfSome (R.remaining script.old)
-        (λ bytes. Outcome T.tells T.refusal T.remark first bytes (R.remaining script.new) (W.contents out.old) (W.contents out.new) result) }
-    ensures after { (first : State) → SessionHolds S.Pages.honest S.Pages.gives (HonestOn none_trusted S.honest) S.files S.headers S.faults
+        (λ bytes.
+        Outcome T.tells T.refusal T.remark first bytes (R.remaining script.new) (W.contents out.old)
+        (W.contents out.new) result) }
+    ensures after { (first : State)
+        → SessionHolds S.Pages.honest S.Pages.gives
+        (HonestOn none_trusted S.honest) S.files S.headers S.faults
         session.old.document session.old.tables
         session.old.store.now first
-        → OnOk result (IfSome (R.remaining script.old) (λ bytes. IsFollowed T.tells T.refusal T.remark first bytes (W.contents out.old) (W.contents out.new)
-        (SessionHolds S.Pages.honest S.Pages.gives (HonestOn none_trusted S.honest) S.files S.headers S.faults
+        → OnOk result (IfSome (R.remaining script.old) (λ bytes.
+        IsFollowed T.tells T.refusal T.remark first bytes (W.contents out.old) (W.contents out.new)
+        (SessionHolds S.Pages.honest S.Pages.gives
+        (HonestOn none_trusted S.honest) S.files S.headers S.faults
         session.new.document session.new.tables session.new.store.now))) }
-    ensures listed { (first : State) (told : List Entry) → SessionHolds S.Pages.honest S.Pages.gives (HonestOn none_trusted S.honest)
-        S.files S.headers S.faults session.old.document session.old.tables session.old.store.now first
+    ensures listed { (first : State) (told : List Entry)
+        → SessionHolds S.Pages.honest S.Pages.gives (HonestOn none_trusted S.honest)
+        S.files S.headers S.faults session.old.document session.old.tables
+        session.old.store.now first
         → T.lists report.old told
-        → OnOk result (IfSome (R.remaining script.old) (λ bytes. AreListed T.tells T.refusal T.remark first bytes (W.contents out.old) (W.contents out.new)
+        → OnOk result (IfSome (R.remaining script.old) (λ bytes.
+        AreListed T.tells T.refusal T.remark first bytes (W.contents out.old) (W.contents out.new)
         (λ more. T.lists report.new (told ++ more)))) }
-    ensures listed_before { (first : State) (told : List Entry) → SessionHolds S.Pages.honest S.Pages.gives (HonestOn none_trusted S.honest)
-        S.files S.headers S.faults session.old.document session.old.tables session.old.store.now first
+    ensures listed_before { (first : State) (told : List Entry)
+        → SessionHolds S.Pages.honest S.Pages.gives (HonestOn none_trusted S.honest)
+        S.files S.headers S.faults session.old.document session.old.tables
+        session.old.store.now first
         → T.lists report.old told
-        → IfErr result (λ fault. IfSome (R.remaining script.old) (λ bytes. AreListedBefore T.tells T.refusal T.remark first bytes
-        (W.contents out.old) (W.contents out.new) (λ more. T.lists report.new (told ++ more)) fault)) }
-    ensures shape { IfSome (R.remaining script.old) (λ bytes. Shape bytes (R.remaining script.new) result) }
-    ensures fits { IfSome (R.remaining script.old) (λ bytes. Fits T.form T.refusal T.remark bytes (R.remaining script.new)
+        → IfErr result (λ fault.
+        IfSome (R.remaining script.old) (λ bytes.
+        AreListedBefore T.tells T.refusal T.remark first bytes
+        (W.contents out.old) (W.contents out.new) (λ more.
+        T.lists report.new (told ++ more)) fault)) }
+    ensures shape { IfSome (R.remaining script.old) (λ bytes.
+        Shape bytes (R.remaining script.new) result) }
+    ensures fits { IfSome (R.remaining script.old) (λ bytes.
+        Fits T.form T.refusal T.remark bytes (R.remaining script.new)
         (W.contents out.old) (W.contents out.new) result) }
 {
     let mut refused = 0u32;
@@ -93,21 +111,32 @@ pub fn follow_script<'a, R: Read, W: Write, P: PageSource, A: Allocator, T: Repo
     report: &mut T,
     tables: Tables<'a, P, A>,
 ) -> Result<Summary, RunFault>
-    ensures outcome { (classes : List AClass) → tables_honest P.honest tables.entry → ((c : AClass) → tables_held tables.entry c ≡ is_among classes c)
+    ensures outcome { (classes : List AClass) → tables_honest P.honest tables.entry
+        → ((c : AClass) → tables_held tables.entry c ≡ is_among classes c)
         → IfSome (R.remaining script.old)
-        (λ bytes. Outcome T.tells T.refusal T.remark (over_tables classes (are_paged tables.entry)) bytes (R.remaining script.new)
+        (λ bytes.
+        Outcome T.tells T.refusal T.remark
+        (over_tables classes (are_paged tables.entry)) bytes (R.remaining script.new)
         (W.contents out.old) (W.contents out.new) result) }
-    ensures listed { (classes : List AClass) (told : List Entry) → tables_honest P.honest tables.entry
+    ensures listed { (classes : List AClass) (told : List Entry)
+        → tables_honest P.honest tables.entry
         → ((c : AClass) → tables_held tables.entry c ≡ is_among classes c) → T.lists report.old told
-        → OnOk result (IfSome (R.remaining script.old) (λ bytes. AreListed T.tells T.refusal T.remark (over_tables classes (are_paged tables.entry)) bytes
+        → OnOk result (IfSome (R.remaining script.old) (λ bytes.
+        AreListed T.tells T.refusal T.remark (over_tables classes (are_paged tables.entry)) bytes
         (W.contents out.old) (W.contents out.new) (λ more. T.lists report.new (told ++ more)))) }
-    ensures listed_before { (classes : List AClass) (told : List Entry) → tables_honest P.honest tables.entry
+    ensures listed_before { (classes : List AClass) (told : List Entry)
+        → tables_honest P.honest tables.entry
         → ((c : AClass) → tables_held tables.entry c ≡ is_among classes c) → T.lists report.old told
-        → IfErr result (λ fault. IfSome (R.remaining script.old) (λ bytes. AreListedBefore T.tells T.refusal T.remark (over_tables classes (are_paged
+        → IfErr result (λ fault.
+        IfSome (R.remaining script.old) (λ bytes.
+        AreListedBefore T.tells T.refusal T.remark (over_tables classes (are_paged
         tables.entry))
-        bytes (W.contents out.old) (W.contents out.new) (λ more. T.lists report.new (told ++ more)) fault)) }
-    ensures shape { IfSome (R.remaining script.old) (λ bytes. Shape bytes (R.remaining script.new) result) }
-    ensures fits { IfSome (R.remaining script.old) (λ bytes. Fits T.form T.refusal T.remark bytes (R.remaining script.new)
+        bytes (W.contents out.old) (W.contents out.new) (λ more.
+        T.lists report.new (told ++ more)) fault)) }
+    ensures shape { IfSome (R.remaining script.old) (λ bytes.
+        Shape bytes (R.remaining script.new) result) }
+    ensures fits { IfSome (R.remaining script.old) (λ bytes.
+        Fits T.form T.refusal T.remark bytes (R.remaining script.new)
         (W.contents out.old) (W.contents out.new) result) }
 {
     let mut store = NoFiles::new();
@@ -123,22 +152,34 @@ pub fn follow_over<'a, R: Read, W: Write, S: TableStore, A: Allocator, T: Report
     tables: Tables<'a, S::Pages, A>,
     store: &mut S,
 ) -> Result<Summary, RunFault>
-    ensures outcome { (first : State) → SessionHolds S.Pages.honest S.Pages.gives (HonestOn none_trusted S.honest) S.files S.headers S.faults
+    ensures outcome { (first : State)
+        → SessionHolds S.Pages.honest S.Pages.gives
+        (HonestOn none_trusted S.honest) S.files S.headers S.faults
         Document.Empty tables.entry store.old first
         → IfSome (R.remaining script.old)
-        (λ bytes. Outcome T.tells T.refusal T.remark first bytes (R.remaining script.new) (W.contents out.old) (W.contents out.new) result) }
-    ensures listed { (first : State) (told : List Entry) → SessionHolds S.Pages.honest S.Pages.gives (HonestOn none_trusted S.honest)
+        (λ bytes.
+        Outcome T.tells T.refusal T.remark first bytes (R.remaining script.new) (W.contents out.old)
+        (W.contents out.new) result) }
+    ensures listed { (first : State) (told : List Entry)
+        → SessionHolds S.Pages.honest S.Pages.gives (HonestOn none_trusted S.honest)
         S.files S.headers S.faults Document.Empty tables.entry store.old first
         → T.lists report.old told
-        → OnOk result (IfSome (R.remaining script.old) (λ bytes. AreListed T.tells T.refusal T.remark first bytes (W.contents out.old) (W.contents out.new)
+        → OnOk result (IfSome (R.remaining script.old) (λ bytes.
+        AreListed T.tells T.refusal T.remark first bytes (W.contents out.old) (W.contents out.new)
         (λ more. T.lists report.new (told ++ more)))) }
-    ensures listed_before { (first : State) (told : List Entry) → SessionHolds S.Pages.honest S.Pages.gives (HonestOn none_trusted S.honest)
+    ensures listed_before { (first : State) (told : List Entry)
+        → SessionHolds S.Pages.honest S.Pages.gives (HonestOn none_trusted S.honest)
         S.files S.headers S.faults Document.Empty tables.entry store.old first
         → T.lists report.old told
-        → IfErr result (λ fault. IfSome (R.remaining script.old) (λ bytes. AreListedBefore T.tells T.refusal T.remark first bytes
-        (W.contents out.old) (W.contents out.new) (λ more. T.lists report.new (told ++ more)) fault)) }
-    ensures shape { IfSome (R.remaining script.old) (λ bytes. Shape bytes (R.remaining script.new) result) }
-    ensures fits { IfSome (R.remaining script.old) (λ bytes. Fits T.form T.refusal T.remark bytes (R.remaining script.new)
+        → IfErr result (λ fault.
+        IfSome (R.remaining script.old) (λ bytes.
+        AreListedBefore T.tells T.refusal T.remark first bytes
+        (W.contents out.old) (W.contents out.new) (λ more.
+        T.lists report.new (told ++ more)) fault)) }
+    ensures shape { IfSome (R.remaining script.old) (λ bytes.
+        Shape bytes (R.remaining script.new) result) }
+    ensures fits { IfSome (R.remaining script.old) (λ bytes.
+        Fits T.form T.refusal T.remark bytes (R.remaining script.new)
         (W.contents out.old) (W.contents out.new) result) }
 {
     let Ok(mut line) = Line::new(alloc) else {

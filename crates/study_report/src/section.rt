@@ -31,21 +31,34 @@ pub fn add_study<'a, P: PageSource, A: Allocator, W: Write, T: Report>(
     number: u32,
     out: &mut W,
 ) -> Result<(), ReviewFault>
-    ensures told { tables_honest P.honest tables.old → IsKeptRight bench.now → OnOk result ((text : List ℕ)
-        × T.tells (plain_study (marked bench.now)) number text × Appends (W.contents out.old) (W.contents out.new) text) }
-    ensures formed { OnOk result ((text : List ℕ) × T.form number text × Appends (W.contents out.old) (W.contents out.new) text) }
-    ensures device { tables_honest P.honest tables.old → IsKeptRight bench.now → result ≡ Err ReviewFault.Device → (text : List ℕ)
-        × T.tells (plain_study (marked bench.now)) number text × TakesPrefix (W.contents out.old) (W.contents out.new) text }
+    // Many clauses: what is reported, why nothing is, and what stays of the tables.
+    ensures told { tables_honest P.honest tables.old → IsKeptRight bench.now
+        → OnOk result ((text : List ℕ)
+        × T.tells (plain_study (marked bench.now)) number text
+        × Appends (W.contents out.old) (W.contents out.new) text) }
+    ensures formed { OnOk result ((text : List ℕ) × T.form number text
+        × Appends (W.contents out.old) (W.contents out.new) text) }
+    ensures device { tables_honest P.honest tables.old → IsKeptRight bench.now
+        → result ≡ Err ReviewFault.Device → (text : List ℕ)
+        × T.tells (plain_study (marked bench.now)) number text
+        × TakesPrefix (W.contents out.old) (W.contents out.new) text }
     ensures memory { result ≡ Err ReviewFault.OutOfMemory → out.new ≡ out.old }
-    ensures untold { (fault : AProbeFault) → result ≡ Err (ReviewFault.Values fault) → out.new ≡ out.old }
-    ensures listed { (told : List Entry) → tables_honest P.honest tables.old → IsKeptRight bench.now → T.lists report.old told
-        → OnOk result (T.lists report.new (told ++ study_entry (plain_study (marked bench.now)) number ∷ [])) }
-    ensures unlisted { (told : List Entry) → T.lists report.old told → OnErr result (T.lists report.new told) }
-    ensures why { (fault : AProbeFault) → tables_honest P.honest tables.old → result ≡ Err (ReviewFault.Values fault)
-        → IsUntoldBy (tables_held tables.old) (are_paged tables.old) (tables_may_fail P.gives tables.old) (marked bench.now).start.position fault }
+    ensures untold { (fault : AProbeFault)
+        → result ≡ Err (ReviewFault.Values fault) → out.new ≡ out.old }
+    ensures listed { (told : List Entry) → tables_honest P.honest tables.old
+        → IsKeptRight bench.now → T.lists report.old told
+        → OnOk result
+        (T.lists report.new (told ++ study_entry (plain_study (marked bench.now)) number ∷ [])) }
+    ensures unlisted { (told : List Entry) → T.lists report.old told
+        → OnErr result (T.lists report.new told) }
+    ensures why { (fault : AProbeFault) → tables_honest P.honest tables.old
+        → result ≡ Err (ReviewFault.Values fault)
+        → IsUntoldBy (tables_held tables.old) (are_paged tables.old)
+        (tables_may_fail P.gives tables.old) (marked bench.now).start.position fault }
     ensures honest { tables_honest P.honest tables.old → tables_honest P.honest tables.new }
     ensures tables { (c : AClass) → tables_held tables.new c ≡ tables_held tables.old c }
-    ensures fails_as_before { (c : AClass) (f : ASourceFault) → tables_may_fail P.gives tables.new c f → tables_may_fail P.gives tables.old c f }
+    ensures fails_as_before { (c : AClass) (f : ASourceFault)
+        → tables_may_fail P.gives tables.new c f → tables_may_fail P.gives tables.old c f }
     ensures mode { are_paged tables.new ≡ are_paged tables.old }
 {
     let first = bench.start();
@@ -65,19 +78,27 @@ pub fn add_section<'a, P: PageSource, A: Allocator, W: Write, T: Report>(
     out: &mut W,
 ) -> Result<(), ReviewFault>
     ensures told { (s : State) → Holds P.honest P.gives document.now tables.old s
-        → OnOk result (IsSection T.tells s.document number (W.contents out.old) (W.contents out.new)) }
+        → OnOk result
+        (IsSection T.tells s.document number (W.contents out.old) (W.contents out.new)) }
     ensures formed { lacks_study (document_seen document.now) ≡ false
-        → OnOk result ((text : List ℕ) × T.form number text × Appends (W.contents out.old) (W.contents out.new) text) }
-    ensures device { (s : State) → Holds P.honest P.gives document.now tables.old s → result ≡ Err ReviewFault.Device
+        → OnOk result ((text : List ℕ) × T.form number text
+        × Appends (W.contents out.old) (W.contents out.new) text) }
+    ensures device { (s : State) → Holds P.honest P.gives document.now tables.old s
+        → result ≡ Err ReviewFault.Device
         → IsSectionPart T.tells s.document number (W.contents out.old) (W.contents out.new) }
     ensures memory { result ≡ Err ReviewFault.OutOfMemory → out.new ≡ out.old }
-    ensures untold { (fault : AProbeFault) → result ≡ Err (ReviewFault.Values fault) → out.new ≡ out.old }
-    ensures listed { (s : State) (told : List Entry) → Holds P.honest P.gives document.now tables.old s → T.lists report.old told
+    ensures untold { (fault : AProbeFault)
+        → result ≡ Err (ReviewFault.Values fault) → out.new ≡ out.old }
+    ensures listed { (s : State) (told : List Entry)
+        → Holds P.honest P.gives document.now tables.old s → T.lists report.old told
         → OnOk result (T.lists report.new (told ++ studies_on s.document number)) }
-    ensures unlisted { (told : List Entry) → T.lists report.old told → OnErr result (T.lists report.new told) }
-    ensures why { (s : State) (plain : PlainStudy) (fault : AProbeFault) → Holds P.honest P.gives document.now tables.old s → s.document ≡ study plain
+    ensures unlisted { (told : List Entry) → T.lists report.old told
+        → OnErr result (T.lists report.new told) }
+    ensures why { (s : State) (plain : PlainStudy) (fault : AProbeFault)
+        → Holds P.honest P.gives document.now tables.old s → s.document ≡ study plain
         → result ≡ Err (ReviewFault.Values fault) → IsUntoldIn s plain.start.position fault }
-    ensures holds { (s : State) → Holds P.honest P.gives document.now tables.old s → Holds P.honest P.gives document.now tables.new s }
+    ensures holds { (s : State) → Holds P.honest P.gives document.now tables.old s
+        → Holds P.honest P.gives document.now tables.new s }
 {
     match document {
         Document::Study(bench) => add_study(alloc, bench, tables, report, number, out),

@@ -89,7 +89,9 @@ pub fn report_script<F: Files, A: Allocator, R: Read, W: Write, E: Write>(
     out: &mut W,
     errors: &mut E,
 ) -> u8
-    ensures { EndsBy (IsReported options.now.form (R.remaining script.old) (R.remaining script.new) (W.contents out.old) (W.contents out.new))
+    ensures { EndsBy
+        (IsReported options.now.form (R.remaining script.old) (R.remaining script.new)
+        (W.contents out.old) (W.contents out.new))
         options.now.progress result (E.contents errors.old) (E.contents errors.new) }
 {
     let mut answer = report_over_files(files, alloc, options, script, out, errors);
@@ -120,8 +122,10 @@ fn report_over_files<F: Files, A: Allocator, R: Read, W: Write, E: Write>(
     out: &mut W,
     errors: &mut E,
 ) -> Result<Summary, RunFault>
-    ensures reported { HasReported options.now.form (R.remaining script.old) (R.remaining script.new) (W.contents out.old) (W.contents out.new) result }
-    ensures faults { options.now.progress ≡ false → AreFaultsOf class_list (E.contents errors.old) (E.contents errors.new) }
+    ensures reported { HasReported options.now.form (R.remaining script.old)
+        (R.remaining script.new) (W.contents out.old) (W.contents out.new) result }
+    ensures faults { options.now.progress ≡ false
+        → AreFaultsOf class_list (E.contents errors.old) (E.contents errors.new) }
 {
     let Ok(mut store) = FolderStore::new(files, alloc, options.tables) else {
         return Err(RunFault::OutOfMemory);

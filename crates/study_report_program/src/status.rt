@@ -12,7 +12,8 @@ use study_text::{DeviceFailed, write_text};
 /// Writes why a run stopped, in a line of its own: `studyreport: LineTooLong 3`.
 pub fn put_stop<W: Write>(out: &mut W, fault: RunFault) -> Result<(), DeviceFailed>
     ensures ok { OnOk result (Appends (W.contents out.old) (W.contents out.new) (stop_text fault)) }
-    ensures err { OnErr result (TakesPrefix (W.contents out.old) (W.contents out.new) (stop_text fault)) }
+    ensures err { OnErr result
+        (TakesPrefix (W.contents out.old) (W.contents out.new) (stop_text fault)) }
 {
     match fault {
         RunFault::ReadDevice => write_text(out, b"studyreport: ReadDevice\n"),
@@ -24,7 +25,9 @@ pub fn put_stop<W: Write>(out: &mut W, fault: RunFault) -> Result<(), DeviceFail
 }
 
 fn put_too_long<W: Write>(out: &mut W, line: u32) -> Result<(), DeviceFailed>
-    ensures ok { OnOk result (Appends (W.contents out.old) (W.contents out.new) (codes "studyreport: LineTooLong " ++ (decimal line ++ 10 ∷ []))) }
+    ensures ok { OnOk result
+        (Appends (W.contents out.old) (W.contents out.new)
+        (codes "studyreport: LineTooLong " ++ (decimal line ++ 10 ∷ []))) }
     ensures err { OnErr result (TakesPrefix (W.contents out.old) (W.contents out.new)
         (codes "studyreport: LineTooLong " ++ (decimal line ++ 10 ∷ []))) }
 {
@@ -37,8 +40,11 @@ fn put_too_long<W: Write>(out: &mut W, line: u32) -> Result<(), DeviceFailed>
 }
 
 fn put_line<W: Write>(out: &mut W, front: &[u8], back: &[u8]) -> Result<(), DeviceFailed>
-    ensures ok { OnOk result (Appends (W.contents out.old) (W.contents out.new) (front.now ++ (back.now ++ 10 ∷ []))) }
-    ensures err { OnErr result (TakesPrefix (W.contents out.old) (W.contents out.new) (front.now ++ (back.now ++ 10 ∷ []))) }
+    ensures ok { OnOk result
+        (Appends (W.contents out.old) (W.contents out.new) (front.now ++ (back.now ++ 10 ∷ []))) }
+    ensures err { OnErr result
+        (TakesPrefix (W.contents out.old) (W.contents out.new)
+        (front.now ++ (back.now ++ 10 ∷ []))) }
 {
     write_text(out, front)?;
     write_text(out, back)?;
@@ -47,16 +53,21 @@ fn put_line<W: Write>(out: &mut W, front: &[u8], back: &[u8]) -> Result<(), Devi
 
 /// Reports how many studies were printed, in a line of its own: `30 studies`.
 pub fn put_studies<W: Write>(out: &mut W, count: u32) -> Result<(), DeviceFailed>
-    ensures ok { OnOk result (Appends (W.contents out.old) (W.contents out.new) (decimal count ++ codes " studies\n")) }
-    ensures err { OnErr result (TakesPrefix (W.contents out.old) (W.contents out.new) (decimal count ++ codes " studies\n")) }
+    ensures ok { OnOk result
+        (Appends (W.contents out.old) (W.contents out.new) (decimal count ++ codes " studies\n")) }
+    ensures err { OnErr result
+        (TakesPrefix (W.contents out.old) (W.contents out.new)
+        (decimal count ++ codes " studies\n")) }
 {
     let mut buffer = Buffer::new();
     put_both(out, buffer.format(count).as_bytes(), b" studies\n")
 }
 
 fn put_both<W: Write>(out: &mut W, front: &[u8], back: &[u8]) -> Result<(), DeviceFailed>
-    ensures ok { OnOk result (Appends (W.contents out.old) (W.contents out.new) (front.now ++ back.now)) }
-    ensures err { OnErr result (TakesPrefix (W.contents out.old) (W.contents out.new) (front.now ++ back.now)) }
+    ensures ok { OnOk result
+        (Appends (W.contents out.old) (W.contents out.new) (front.now ++ back.now)) }
+    ensures err { OnErr result
+        (TakesPrefix (W.contents out.old) (W.contents out.new) (front.now ++ back.now)) }
 {
     write_text(out, front)?;
     write_text(out, back)

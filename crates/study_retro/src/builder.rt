@@ -43,10 +43,12 @@ pub fn build<'a, A: Allocator>(
     room: BuildRoom<'a, A>,
 ) -> Result<(Table<'a, A>, BuildReport), BuildFault>
     requires { room ≡ cells_of class }
-    ensures missing { (d : AClass) → IsErrOf result (BuildFault.MissingTable d) ↔ (first_missing tables.now (needs_of class) ≡ Some d) }
+    ensures missing { (d : AClass) → IsErrOf result (BuildFault.MissingTable d)
+        ↔ (first_missing tables.now (needs_of class) ≡ Some d) }
     ensures class { IfOk result (λ r. r.0.class ≡ class) }
     ensures right { NeedsAreRight tables.now class → IfOk result (λ r. IsRight r.0) }
-    ensures far { NeedsAreRight tables.now class → IsErrOf result BuildFault.DistanceTooLarge → HasFarPosition class }
+    ensures far { NeedsAreRight tables.now class
+        → IsErrOf result BuildFault.DistanceTooLarge → HasFarPosition class }
 
     // The report follows from the table.
     ensures cells { IfOk result (λ r. r.1.cells ≡ cells_of class) }

@@ -53,7 +53,8 @@ fn add_captures_of(at: &Position, man: &Man, list: &mut MoveList)
     requires only { (m : AMove) → Contains list.old.items m → is_legal at.now m ≡ true }
     ensures only { (m : AMove) → Contains list.new.items m → is_legal at.now m ≡ true }
     ensures kept { (m : AMove) → Contains list.old.items m → Contains list.new.items m }
-    ensures all { (other : AMan) → Contains at.now.men other → GoesWithoutPromotion at.now man.now other.at
+    ensures all { (other : AMan) → Contains at.now.men other
+        → GoesWithoutPromotion at.now man.now other.at
         → Contains list.new.items (move_to man.now other.at) }
     ensures few { array_vec_len list.new ≤ array_vec_len list.old + 4 }
 {
@@ -76,7 +77,8 @@ fn promotion_range(pawn: &Man) -> (u8, u8)
     requires { is_about_to_promote pawn.now ≡ true }
     ensures range { result.0 ≤ result.1 × result.1 ≤ 64 }
     ensures short { result.1 ≤ result.0 + 3 }
-    ensures all { (men : List AMan) (x : ℕ) → x < 64 → reaches_target men None pawn.now x ≡ true → result.0 ≤ x × x < result.1 }
+    ensures all { (men : List AMan) (x : ℕ) → x < 64 → reaches_target men None pawn.now x ≡ true
+        → result.0 ≤ x × x < result.1 }
 {
     let a = pawn.at.number();
     match pawn.side {
@@ -111,6 +113,7 @@ fn add_promotions_to(pawn: &Man, target: Square, list: &mut MoveList)
 
 /// Adds the promotions of a pawn of the side to move that is one step from its last rank.
 fn add_promotions_of(at: &Position, pawn: &Man, list: &mut MoveList)
+    // Many clauses: what the caller has already found of the numbers is required, fact by fact.
     requires room { array_vec_len list.old + 12 ≤ MAX_MOVES }
     requires tells { HasSafeTargets at.now at.now.men }
     requires pawn { Contains at.now.men pawn.now }
@@ -119,7 +122,8 @@ fn add_promotions_of(at: &Position, pawn: &Man, list: &mut MoveList)
     requires only { (m : AMove) → Contains list.old.items m → is_legal at.now m ≡ true }
     ensures only { (m : AMove) → Contains list.new.items m → is_legal at.now m ≡ true }
     ensures kept { (m : AMove) → Contains list.old.items m → Contains list.new.items m }
-    ensures all { (m : AMove) → m.origin ≡ pawn.now.at → is_legal at.now m ≡ true → Contains list.new.items m }
+    ensures all { (m : AMove) → m.origin ≡ pawn.now.at → is_legal at.now m ≡ true
+        → Contains list.new.items m }
     ensures few { array_vec_len list.new ≤ array_vec_len list.old + 12 }
 {
     let safe = safe_targets(at.men(), at.to_move(), pawn);
@@ -142,7 +146,8 @@ fn add_conversions_of(at: &Position, man: &Man, list: &mut MoveList)
     requires only { (m : AMove) → Contains list.old.items m → is_legal at.now m ≡ true }
     ensures only { (m : AMove) → Contains list.new.items m → is_legal at.now m ≡ true }
     ensures kept { (m : AMove) → Contains list.old.items m → Contains list.new.items m }
-    ensures all { (m : AMove) → m.origin ≡ man.now.at → is_legal at.now m ≡ true → (IsQuiet at.now m → ⊥) → Contains list.new.items m }
+    ensures all { (m : AMove) → m.origin ≡ man.now.at → is_legal at.now m ≡ true
+        → (IsQuiet at.now m → ⊥) → Contains list.new.items m }
     ensures few { array_vec_len list.new ≤ array_vec_len list.old + 12 }
 {
     if is_about_to_promote(man) {
@@ -156,7 +161,8 @@ fn add_conversions_of(at: &Position, man: &Man, list: &mut MoveList)
 pub fn captures_and_promotions(at: &Position) -> MoveList
     requires { HasSafeTargets at.now at.now.men }
     ensures only { (m : AMove) → Contains result.items m → is_legal at.now m ≡ true }
-    ensures all { (m : AMove) → is_legal at.now m ≡ true → (IsQuiet at.now m → ⊥) → Contains result.items m }
+    ensures all { (m : AMove) → is_legal at.now m ≡ true → (IsQuiet at.now m → ⊥)
+        → Contains result.items m }
 {
     let side = at.to_move();
     let mut list = ArrayVec::new();

@@ -115,7 +115,8 @@ fn has_passed(at: &Position) -> bool
 fn number_after(class: Class, number: u32, at: &Position, by: &Move) -> Option<u32>
     requires at { position_numbered class number ≡ Some at.now }
     requires by { is_legal at.now by.now ≡ true }
-    ensures { IfSome result (λ n. (has_legal_en_passant at.now ≡ false) × IsQuiet at.now by.now × (index_of (after at.now by.now) ≡ n)) }
+    ensures { IfSome result (λ n. (has_legal_en_passant at.now ≡ false) × IsQuiet at.now by.now
+        × (index_of (after at.now by.now) ≡ n)) }
 {
     if may_allow_en_passant(class, by.origin, by.target) || has_passed(at) {
         return None;

@@ -41,7 +41,8 @@ fn play_from<V: Values>(
     values: &mut V,
 ) -> Result<ArrayVec<EvaluatedMove, 20>, TextFault>
     requires { All (λ x. is_legal p.now x.played ≡ true) told.now }
-    ensures game { AreChosen (λ v. true) p.now (legal_list p.now) told.now → V.source.is_honest values.old → IfOk result (λ list.
+    ensures game { AreChosen (λ v. true) p.now (legal_list p.now) told.now
+        → V.source.is_honest values.old → IfOk result (λ list.
         IsBestPlay 20 p.now list.items) }
     ensures legal { IfOk result (λ list. ArePlayed p.now list.items) }
     ensures asked { HasAsked (within p.now V.source) values.old result values.new }
@@ -70,7 +71,8 @@ fn add_best<A: Allocator, V: Values>(
     values: &mut V,
 ) -> Result<(), TextFault>
     requires { All (λ x. is_legal p.now x.played ≡ true) told.now }
-    ensures text { AreChosen (λ v. true) p.now (legal_list p.now) told.now → V.source.is_honest values.old
+    ensures text { AreChosen (λ v. true) p.now (legal_list p.now) told.now
+        → V.source.is_honest values.old
         → OnOk result (Grew (IsPlay steps.now p.now value) text.old text.new) }
     ensures asked { HasAsked (within p.now V.source) values.old result values.new }
 {
@@ -91,7 +93,8 @@ pub fn add_best_play_or_draws<A: Allocator, V: Values>(
     requires legal { All (λ x. is_legal p.now x.played ≡ true) told.now }
     requires all { length told.now ≡ length (legal_list p.now) }
     requires few { length told.now < 2 ^ 32 }
-    ensures text { AreChosen (λ v. true) p.now (legal_list p.now) told.now → V.source.is_honest values.old
+    ensures text { AreChosen (λ v. true) p.now (legal_list p.now) told.now
+        → V.source.is_honest values.old
         → OnOk result (Grew (IsEnd steps.now p.now value) text.old text.new) }
     ensures asked { HasAsked (within p.now V.source) values.old result values.new }
 {

@@ -48,9 +48,12 @@ fn answers_among<V: Values>(
     requires depth { node.now.depth + 1 < 2 ^ 64 }
     requires legal { All (λ m. is_legal node.now.position.now m ≡ true) moves.now }
     requires few { length moves.now ≤ MAX_MOVES }
-    ensures game { V.source.is_honest values.old → IfOk result (λ y. AreAnswers node.now.aim.now node.now.depth node.now.position.now moves.now y) }
+    ensures game { V.source.is_honest values.old
+        → IfOk result (λ y.
+        AreAnswers node.now.aim.now node.now.depth node.now.position.now moves.now y) }
     ensures few { IfOk result (λ y. y.count ≤ length moves.now) }
-    ensures legal { IfOk result (λ y. IfSome y.only (λ m. is_legal node.now.position.now m ≡ true)) }
+    ensures legal { IfOk result (λ y.
+        IfSome y.only (λ m. is_legal node.now.position.now m ≡ true)) }
     ensures asked { HasAsked (within node.now.position.now V.source) values.old result values.new }
 {
     match moves.split_first() {
@@ -81,8 +84,10 @@ fn add_defence<A: Allocator, V: Values>(
 ) -> Result<(), TextFault>
     requires depth { node.now.depth + 2 < 2 ^ 64 }
     requires legal { is_legal node.now.position.now x.now.played ≡ true }
-    ensures text { V.source.is_honest values.old → OnOk result ((y : ADefence) × (y.played ≡ x.now.played) × (y.value ≡ x.now.value)
-        × IsAnswered node.now.aim.now (node.now.depth + 1) (after node.now.position.now x.now.played) y
+    ensures text { V.source.is_honest values.old
+        → OnOk result ((y : ADefence) × (y.played ≡ x.now.played) × (y.value ≡ x.now.value)
+        × IsAnswered node.now.aim.now (node.now.depth + 1)
+        (after node.now.position.now x.now.played) y
         × (text.new ≡ text.old ++ missing_line steps.now node.now.position.now y)) }
     ensures asked { HasAsked (within node.now.position.now V.source) values.old result values.new }
 {
@@ -115,7 +120,9 @@ pub fn add_defences<A: Allocator, V: Values>(
 ) -> Result<(), TextFault>
     requires depth { node.now.depth + 2 < 2 ^ 64 }
     requires legal { All (λ x. is_legal node.now.position.now x.played ≡ true) told.now }
-    ensures text { V.source.is_honest values.old → OnOk result (Grew (AreMissingLines steps.now node.now.aim.now node.now.depth node.now.position.now
+    ensures text { V.source.is_honest values.old
+        → OnOk result
+        (Grew (AreMissingLines steps.now node.now.aim.now node.now.depth node.now.position.now
         there.now told.now) text.old text.new) }
     ensures asked { HasAsked (within node.now.position.now V.source) values.old result values.new }
 {

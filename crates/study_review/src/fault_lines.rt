@@ -46,10 +46,13 @@ fn add_alternative<A: Allocator, V: Values>(
 ) -> Result<u16, TextFault>
     requires depth { step.now.before.depth + 1 < 2 ^ 64 }
     requires legal { is_legal step.now.before.position.now x.now.played ≡ true }
-    ensures text { V.source.is_honest values.old → IfOk result (λ n. Grew (AreAlsoLines step.now.steps.now step.now.before.aim.now
-        step.now.before.depth step.now.line.now step.now.before.position.now step.now.played (x.now ∷ []) n) text.old text.new) }
+    ensures text { V.source.is_honest values.old
+        → IfOk result (λ n. Grew (AreAlsoLines step.now.steps.now step.now.before.aim.now
+        step.now.before.depth step.now.line.now step.now.before.position.now step.now.played
+        (x.now ∷ []) n) text.old text.new) }
     ensures few { IfOk result (λ n. n ≤ 1) }
-    ensures asked { HasAsked (within step.now.before.position.now V.source) values.old result values.new }
+    ensures asked { HasAsked (within step.now.before.position.now V.source)
+        values.old result values.new }
 {
     let before = &step.before;
     if contains_move(&x.played, &[step.played]) || !holds(before.aim, before.depth + 1, x.value) {
@@ -80,10 +83,13 @@ pub fn add_alternatives<A: Allocator, V: Values>(
     requires depth { step.now.before.depth + 1 < 2 ^ 64 }
     requires legal { All (λ x. is_legal step.now.before.position.now x.played ≡ true) told.now }
     requires few { length told.now < 2 ^ 16 }
-    ensures text { V.source.is_honest values.old → IfOk result (λ n. Grew (AreAlsoLines step.now.steps.now step.now.before.aim.now
-        step.now.before.depth step.now.line.now step.now.before.position.now step.now.played told.now n) text.old text.new) }
+    ensures text { V.source.is_honest values.old
+        → IfOk result (λ n. Grew (AreAlsoLines step.now.steps.now step.now.before.aim.now
+        step.now.before.depth step.now.line.now step.now.before.position.now step.now.played
+        told.now n) text.old text.new) }
     ensures few { IfOk result (λ n. n ≤ length told.now) }
-    ensures asked { HasAsked (within step.now.before.position.now V.source) values.old result values.new }
+    ensures asked { HasAsked (within step.now.before.position.now V.source)
+        values.old result values.new }
 {
     match told.split_first() {
         None => Ok(0),
@@ -104,7 +110,8 @@ fn add_listed_dual<A: Allocator>(
     listed: bool,
 ) -> Result<(), AllocError>
     requires { is_legal step.now.before.position.now step.now.played ≡ true }
-    ensures { OnOk result (text.new ≡ text.old ++ (if listed then dual_line step.now.steps.now step.now.before.position.now
+    ensures { OnOk result (text.new ≡ text.old
+        ++ (if listed then dual_line step.now.steps.now step.now.before.position.now
         step.now.played value counts.0 counts.1 else [])) }
 {
     if !listed {
@@ -131,7 +138,9 @@ fn is_alternative(step: &StudyMove<'_>, x: &EvaluatedMove) -> bool
 fn count_alternatives(step: &StudyMove<'_>, told: &[EvaluatedMove]) -> u16
     requires depth { step.now.before.depth + 1 < 2 ^ 64 }
     requires few { length told.now < 2 ^ 16 }
-    ensures count { result ≡ length (besides step.now.before.aim.now step.now.before.depth (step.now.played ∷ []) told.now) }
+    ensures count { result
+        ≡ length (besides step.now.before.aim.now step.now.before.depth
+        (step.now.played ∷ []) told.now) }
     ensures few { result ≤ length told.now }
 {
     match told.split_first() {
@@ -159,18 +168,28 @@ fn add_dual_lines<'a, 'b, A: Allocator, B: Allocator, V: Values>(
     listed: bool,
     values: &mut V,
 ) -> Result<(), TextFault>
-    requires step { IsStep (marked bench.now) step.now.steps.now step.now.before.aim.now step.now.before.depth step.now.line.now
+    // Many clauses: one for each group of lines, and those of the probes.
+    requires step { IsStep (marked bench.now) step.now.steps.now step.now.before.aim.now
+        step.now.before.depth step.now.line.now
         step.now.before.position.now step.now.played }
     requires legal { is_legal step.now.before.position.now step.now.played ≡ true }
     requires depth { step.now.before.depth + 1 < 2 ^ 64 }
     requires value { value ≡ value_at (marked bench.now) step.now.steps.now }
     requires mark { mark_at (marked bench.now) step.now.steps.now ≡ Some (MoveMark.Dual others) }
     requires listed { listed ≡ is_solution_move (marked bench.now) step.now.steps.now }
-    ensures also { V.source.is_honest values.old → OnOk result (Grew (AlsoLines (marked bench.now) step.now.steps.now) draft.old.nodes draft.new.nodes) }
-    ensures fault { V.source.is_honest values.old → OnOk result (Grew (FaultLines (marked bench.now) step.now.steps.now) draft.old.faults draft.new.faults) }
-    ensures time { V.source.is_honest values.old → OnOk result (Rose (IsTimeFault (marked bench.now) step.now.steps.now) draft.old.time_faults
+    ensures also { V.source.is_honest values.old
+        → OnOk result
+        (Grew (AlsoLines (marked bench.now) step.now.steps.now) draft.old.nodes draft.new.nodes) }
+    ensures fault { V.source.is_honest values.old
+        → OnOk result
+        (Grew (FaultLines (marked bench.now) step.now.steps.now)
+        draft.old.faults draft.new.faults) }
+    ensures time { V.source.is_honest values.old
+        → OnOk result
+        (Rose (IsTimeFault (marked bench.now) step.now.steps.now) draft.old.time_faults
         draft.new.time_faults) }
-    ensures asked { HasAsked (within step.now.before.position.now V.source) values.old result values.new }
+    ensures asked { HasAsked (within step.now.before.position.now V.source)
+        values.old result values.new }
 {
     evaluate_legal_moves(step.before.position, values, &mut draft.told)?;
     let time = add_alternatives(&mut draft.nodes, step, draft.told.as_slice(), values)?;
@@ -192,13 +211,15 @@ fn add_listed_mistake<'b, A: Allocator, B: Allocator>(
     value: Value,
     listed: bool,
 ) -> Result<(), AllocError>
-    requires step { IsStep (marked bench.now) step.now.steps.now step.now.before.aim.now step.now.before.depth step.now.line.now
+    requires step { IsStep (marked bench.now) step.now.steps.now step.now.before.aim.now
+        step.now.before.depth step.now.line.now
         step.now.before.position.now step.now.played }
     requires legal { is_legal step.now.before.position.now step.now.played ≡ true }
     requires value { value ≡ value_at (marked bench.now) step.now.steps.now }
     requires mark { mark_at (marked bench.now) step.now.steps.now ≡ Some MoveMark.Mistake }
     requires listed { listed ≡ is_solution_move (marked bench.now) step.now.steps.now }
-    ensures { OnOk result (Grew (FaultLines (marked bench.now) step.now.steps.now) text.old text.new) }
+    ensures { OnOk result
+        (Grew (FaultLines (marked bench.now) step.now.steps.now) text.old text.new) }
 {
     if !listed {
         return Ok(());
@@ -225,18 +246,28 @@ pub fn add_move<'a, 'b, A: Allocator, B: Allocator, V: Values>(
     listed: bool,
     values: &mut V,
 ) -> Result<(), TextFault>
-    requires step { IsStep (marked bench.now) step.now.steps.now step.now.before.aim.now step.now.before.depth step.now.line.now
+    // Many clauses: one for each group of lines, and those of the probes.
+    requires step { IsStep (marked bench.now) step.now.steps.now step.now.before.aim.now
+        step.now.before.depth step.now.line.now
         step.now.before.position.now step.now.played }
     requires legal { is_legal step.now.before.position.now step.now.played ≡ true }
     requires depth { step.now.before.depth + 1 < 2 ^ 64 }
     requires value { mark.value ≡ value_at (marked bench.now) step.now.steps.now }
     requires mark { mark.on_move ≡ mark_at (marked bench.now) step.now.steps.now }
     requires listed { listed ≡ is_solution_move (marked bench.now) step.now.steps.now }
-    ensures also { V.source.is_honest values.old → OnOk result (Grew (AlsoLines (marked bench.now) step.now.steps.now) draft.old.nodes draft.new.nodes) }
-    ensures fault { V.source.is_honest values.old → OnOk result (Grew (FaultLines (marked bench.now) step.now.steps.now) draft.old.faults draft.new.faults) }
-    ensures time { V.source.is_honest values.old → OnOk result (Rose (IsTimeFault (marked bench.now) step.now.steps.now) draft.old.time_faults
+    ensures also { V.source.is_honest values.old
+        → OnOk result
+        (Grew (AlsoLines (marked bench.now) step.now.steps.now) draft.old.nodes draft.new.nodes) }
+    ensures fault { V.source.is_honest values.old
+        → OnOk result
+        (Grew (FaultLines (marked bench.now) step.now.steps.now)
+        draft.old.faults draft.new.faults) }
+    ensures time { V.source.is_honest values.old
+        → OnOk result
+        (Rose (IsTimeFault (marked bench.now) step.now.steps.now) draft.old.time_faults
         draft.new.time_faults) }
-    ensures asked { HasAsked (within step.now.before.position.now V.source) values.old result values.new }
+    ensures asked { HasAsked (within step.now.before.position.now V.source)
+        values.old result values.new }
 {
     match on_move(mark) {
         Some(MoveMark::Dual(others)) => {

@@ -88,7 +88,8 @@ pub fn add_refuted_lines<A: Allocator>(
     requires depth { node.now.depth + 1 < 2 ^ 64 }
     requires legal { All (λ x. is_legal node.now.position.now x.played ≡ true) told.now }
     ensures { OnOk result (text.new ≡ text.old
-        ++ flat_map (refuted_line steps.now node.now.position.now) (failing node.now.aim.now node.now.depth told.now)) }
+        ++ flat_map (refuted_line steps.now node.now.position.now)
+        (failing node.now.aim.now node.now.depth told.now)) }
 {
     for x in told {
         if !holds(node.aim, node.depth + 1, x.value) {
@@ -264,7 +265,8 @@ pub fn add_dual<A: Allocator>(
     counts: (u8, u16),
 ) -> Result<(), AllocError>
     requires { is_legal p.now x.now.played ≡ true }
-    ensures { OnOk result (text.new ≡ text.old ++ dual_line steps.now p.now x.now.played x.now.value counts.0 counts.1) }
+    ensures { OnOk result (text.new ≡ text.old
+        ++ dual_line steps.now p.now x.now.played x.now.value counts.0 counts.1) }
 {
     add_line_start(text, b"fault ", steps)?;
     add_told(text, p, x.played, x.value)?;
@@ -284,7 +286,8 @@ pub fn add_mistake<A: Allocator>(
     x: &EvaluatedMove,
 ) -> Result<(), AllocError>
     requires { is_legal p.now x.now.played ≡ true }
-    ensures { OnOk result (text.new ≡ text.old ++ mistake_line steps.now p.now x.now.played x.now.value) }
+    ensures { OnOk result (text.new ≡ text.old
+        ++ mistake_line steps.now p.now x.now.played x.now.value) }
 {
     add_line_start(text, b"fault ", steps)?;
     add_told(text, p, x.played, x.value)?;

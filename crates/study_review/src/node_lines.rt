@@ -62,7 +62,8 @@ fn add_refutations<A: Allocator>(
     requires legal { All (λ x. is_legal node.now.position.now x.played ≡ true) told.now }
     requires all { length told.now ≡ length (legal_list node.now.position.now) }
     ensures { OnOk result (text.new ≡ text.old
-        ++ refuted_text steps.now node.now.position.now (failing node.now.aim.now node.now.depth told.now)) }
+        ++ refuted_text steps.now node.now.position.now
+        (failing node.now.aim.now node.now.depth told.now)) }
 {
     if is_stalemate(node.position, told) {
         return add_stalemate(text, steps);
@@ -77,12 +78,15 @@ fn add_refuted<'b, A: Allocator, B: Allocator>(
     here: &ReviewNode<'_>,
     told: &[EvaluatedMove],
 ) -> Result<(), AllocError>
-    requires node { IsNodeAt (marked bench.now) here.now.steps.now here.now.node.aim.now here.now.node.depth here.now.node.position.now }
+    requires node { IsNodeAt (marked bench.now) here.now.steps.now here.now.node.aim.now
+        here.now.node.depth here.now.node.position.now }
     requires tried { here.now.tried ≡ is_try (marked bench.now) here.now.steps.now }
     requires legal { All (λ x. is_legal here.now.node.position.now x.played ≡ true) told.now }
     requires all { length told.now ≡ length (legal_list here.now.node.position.now) }
-    ensures { AreChosen (λ v. true) here.now.node.position.now (legal_list here.now.node.position.now) told.now
-        → OnOk result (Grew (RefutedLines (marked bench.now) here.now.steps.now) text.old text.new) }
+    ensures { AreChosen (λ v. true) here.now.node.position.now
+        (legal_list here.now.node.position.now) told.now
+        → OnOk result
+        (Grew (RefutedLines (marked bench.now) here.now.steps.now) text.old text.new) }
 {
     if !here.tried {
         return Ok(());
@@ -110,13 +114,19 @@ fn add_missing<'a, 'b, A: Allocator, B: Allocator, V: Values>(
     values: &mut V,
 ) -> Result<(), TextFault>
     requires found { IsTrue (has_spot (marked bench.now).tree here.now.steps.now) }
-    requires node { IsNodeAt (marked bench.now) here.now.steps.now here.now.node.aim.now here.now.node.depth here.now.node.position.now }
+    requires node { IsNodeAt (marked bench.now) here.now.steps.now here.now.node.aim.now
+        here.now.node.depth here.now.node.position.now }
     requires value { here.now.value ≡ value_at (marked bench.now) here.now.steps.now }
-    requires solution { here.now.solution ≡ in_solution (aim_of (marked bench.now)) 0 here.now.steps.now }
+    requires solution { here.now.solution
+        ≡ in_solution (aim_of (marked bench.now)) 0 here.now.steps.now }
     requires legal { All (λ x. is_legal here.now.node.position.now x.played ≡ true) told.now }
-    ensures text { AreChosen (λ v. true) here.now.node.position.now (legal_list here.now.node.position.now) told.now → V.source.is_honest values.old
-        → OnOk result (Grew (MissingLines (marked bench.now) here.now.steps.now) text.old text.new) }
-    ensures asked { HasAsked (within here.now.node.position.now V.source) values.old result values.new }
+    ensures text { AreChosen (λ v.
+        true) here.now.node.position.now (legal_list here.now.node.position.now) told.now
+        → V.source.is_honest values.old
+        → OnOk result
+        (Grew (MissingLines (marked bench.now) here.now.steps.now) text.old text.new) }
+    ensures asked { HasAsked (within here.now.node.position.now V.source)
+        values.old result values.new }
 {
     if !is_defended(here) {
         return Ok(());
@@ -142,15 +152,20 @@ fn add_end<'b, A: Allocator, B: Allocator, V: Values>(
     told: &[EvaluatedMove],
     values: &mut V,
 ) -> Result<(), TextFault>
-    requires node { IsNodeAt (marked bench.now) here.now.steps.now here.now.node.aim.now here.now.node.depth here.now.node.position.now }
+    requires node { IsNodeAt (marked bench.now) here.now.steps.now here.now.node.aim.now
+        here.now.node.depth here.now.node.position.now }
     requires value { here.now.value ≡ value_at (marked bench.now) here.now.steps.now }
-    requires children { here.now.children ≡ width (below_at (marked bench.now).tree.below here.now.steps.now) }
+    requires children { here.now.children
+        ≡ width (below_at (marked bench.now).tree.below here.now.steps.now) }
     requires legal { All (λ x. is_legal here.now.node.position.now x.played ≡ true) told.now }
     requires all { length told.now ≡ length (legal_list here.now.node.position.now) }
     requires few { length told.now < 2 ^ 32 }
-    ensures text { AreChosen (λ v. true) here.now.node.position.now (legal_list here.now.node.position.now) told.now → V.source.is_honest values.old
+    ensures text { AreChosen (λ v.
+        true) here.now.node.position.now (legal_list here.now.node.position.now) told.now
+        → V.source.is_honest values.old
         → OnOk result (Grew (EndLines (marked bench.now) here.now.steps.now) text.old text.new) }
-    ensures asked { HasAsked (within here.now.node.position.now V.source) values.old result values.new }
+    ensures asked { HasAsked (within here.now.node.position.now V.source)
+        values.old result values.new }
 {
     if !is_open_end(here, told) {
         return Ok(());
@@ -174,18 +189,25 @@ fn add_told<'a, 'b, A: Allocator, B: Allocator, V: Values>(
     told: &[EvaluatedMove],
     values: &mut V,
 ) -> Result<(), TextFault>
+    // Many clauses: one for each group of lines, and those of the probes.
     requires found { IsTrue (has_spot (marked bench.now).tree here.now.steps.now) }
-    requires node { IsNodeAt (marked bench.now) here.now.steps.now here.now.node.aim.now here.now.node.depth here.now.node.position.now }
+    requires node { IsNodeAt (marked bench.now) here.now.steps.now here.now.node.aim.now
+        here.now.node.depth here.now.node.position.now }
     requires value { here.now.value ≡ value_at (marked bench.now) here.now.steps.now }
-    requires children { here.now.children ≡ width (below_at (marked bench.now).tree.below here.now.steps.now) }
-    requires solution { here.now.solution ≡ in_solution (aim_of (marked bench.now)) 0 here.now.steps.now }
+    requires children { here.now.children
+        ≡ width (below_at (marked bench.now).tree.below here.now.steps.now) }
+    requires solution { here.now.solution
+        ≡ in_solution (aim_of (marked bench.now)) 0 here.now.steps.now }
     requires tried { here.now.tried ≡ is_try (marked bench.now) here.now.steps.now }
     requires legal { All (λ x. is_legal here.now.node.position.now x.played ≡ true) told.now }
     requires all { length told.now ≡ length (legal_list here.now.node.position.now) }
     requires few { length told.now < 2 ^ 32 }
-    ensures text { AreChosen (λ v. true) here.now.node.position.now (legal_list here.now.node.position.now) told.now → V.source.is_honest values.old
+    ensures text { AreChosen (λ v.
+        true) here.now.node.position.now (legal_list here.now.node.position.now) told.now
+        → V.source.is_honest values.old
         → OnOk result (Grew (OwnLines (marked bench.now) here.now.steps.now) text.old text.new) }
-    ensures asked { HasAsked (within here.now.node.position.now V.source) values.old result values.new }
+    ensures asked { HasAsked (within here.now.node.position.now V.source)
+        values.old result values.new }
 {
     add_refuted(text, bench, here, told)?;
     add_missing(alloc, text, bench, here, told, values)?;
@@ -202,13 +224,18 @@ fn add_node_lines<'a, 'b, A: Allocator, B: Allocator, V: Values>(
     values: &mut V,
 ) -> Result<(), TextFault>
     requires found { IsTrue (has_spot (marked bench.now).tree here.now.steps.now) }
-    requires node { IsNodeAt (marked bench.now) here.now.steps.now here.now.node.aim.now here.now.node.depth here.now.node.position.now }
+    requires node { IsNodeAt (marked bench.now) here.now.steps.now here.now.node.aim.now
+        here.now.node.depth here.now.node.position.now }
     requires value { here.now.value ≡ value_at (marked bench.now) here.now.steps.now }
-    requires children { here.now.children ≡ width (below_at (marked bench.now).tree.below here.now.steps.now) }
-    requires solution { here.now.solution ≡ in_solution (aim_of (marked bench.now)) 0 here.now.steps.now }
+    requires children { here.now.children
+        ≡ width (below_at (marked bench.now).tree.below here.now.steps.now) }
+    requires solution { here.now.solution
+        ≡ in_solution (aim_of (marked bench.now)) 0 here.now.steps.now }
     requires tried { here.now.tried ≡ is_try (marked bench.now) here.now.steps.now }
-    ensures text { V.source.is_honest values.old → OnOk result (Grew (OwnLines (marked bench.now) here.now.steps.now) text.old text.new) }
-    ensures asked { HasAsked (within here.now.node.position.now V.source) values.old result values.new }
+    ensures text { V.source.is_honest values.old
+        → OnOk result (Grew (OwnLines (marked bench.now) here.now.steps.now) text.old text.new) }
+    ensures asked { HasAsked (within here.now.node.position.now V.source)
+        values.old result values.new }
 {
     if here.children != 0 && !here.tried && !is_defended(here) {
         return Ok(());
@@ -223,9 +250,11 @@ fn add_zugzwang<A: Allocator, V: Values>(
     here: &ReviewNode<'_>,
     values: &mut V,
 ) -> Result<(), TextFault>
-    ensures text { V.source.is_honest values.old → OnOk result ((z : Option AZugzwang) × IsZugzwangOf here.now.node.position.now z
+    ensures text { V.source.is_honest values.old
+        → OnOk result ((z : Option AZugzwang) × IsZugzwangOf here.now.node.position.now z
         × (text.new ≡ text.old ++ zugzwang_line here.now.steps.now z)) }
-    ensures asked { HasAsked (within here.now.node.position.now V.source) values.old result values.new }
+    ensures asked { HasAsked (within here.now.node.position.now V.source)
+        values.old result values.new }
 {
     match zugzwang_at(here.node.position, values) {
         Err(fault) => Err(TextFault::Untold(fault)),
@@ -246,13 +275,18 @@ pub fn add_here<'a, 'b, A: Allocator, B: Allocator, V: Values>(
     values: &mut V,
 ) -> Result<(), TextFault>
     requires found { IsTrue (has_spot (marked bench.now).tree here.now.steps.now) }
-    requires node { IsNodeAt (marked bench.now) here.now.steps.now here.now.node.aim.now here.now.node.depth here.now.node.position.now }
+    requires node { IsNodeAt (marked bench.now) here.now.steps.now here.now.node.aim.now
+        here.now.node.depth here.now.node.position.now }
     requires value { here.now.value ≡ value_at (marked bench.now) here.now.steps.now }
-    requires children { here.now.children ≡ width (below_at (marked bench.now).tree.below here.now.steps.now) }
-    requires solution { here.now.solution ≡ in_solution (aim_of (marked bench.now)) 0 here.now.steps.now }
+    requires children { here.now.children
+        ≡ width (below_at (marked bench.now).tree.below here.now.steps.now) }
+    requires solution { here.now.solution
+        ≡ in_solution (aim_of (marked bench.now)) 0 here.now.steps.now }
     requires tried { here.now.tried ≡ is_try (marked bench.now) here.now.steps.now }
-    ensures text { V.source.is_honest values.old → OnOk result (Grew (HereLines (marked bench.now) here.now.steps.now) text.old text.new) }
-    ensures asked { HasAsked (within here.now.node.position.now V.source) values.old result values.new }
+    ensures text { V.source.is_honest values.old
+        → OnOk result (Grew (HereLines (marked bench.now) here.now.steps.now) text.old text.new) }
+    ensures asked { HasAsked (within here.now.node.position.now V.source)
+        values.old result values.new }
 {
     add_node_lines(alloc, text, bench, here, told, values)?;
     add_zugzwang(text, here, values)

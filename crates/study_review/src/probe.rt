@@ -37,9 +37,11 @@ fn push_evaluated<'a, A: Allocator, V: Values>(
     told: &mut Vec<EvaluatedMove, &'a A>,
 ) -> Result<(), TextFault>
     requires { is_legal p.now m.now ≡ true }
-    ensures game { V.source.is_honest values.old → OnOk result ((v : AValue) × IsValueOf (after p.now m.now) v
+    ensures game { V.source.is_honest values.old
+        → OnOk result ((v : AValue) × IsValueOf (after p.now m.now) v
         × (told.new.items ≡ told.old.items ++ (record { played = m.now; value = v }) ∷ [])) }
-    ensures legal { All (λ x. is_legal p.now x.played ≡ true) told.old.items → OnOk result (All (λ x. is_legal p.now x.played ≡ true) told.new.items) }
+    ensures legal { All (λ x. is_legal p.now x.played ≡ true) told.old.items
+        → OnOk result (All (λ x. is_legal p.now x.played ≡ true) told.new.items) }
     ensures len { OnOk result (vec_len told.new ≡ vec_len told.old + 1) }
     ensures asked { HasAsked (within p.now V.source) values.old result values.new }
 {
@@ -58,7 +60,8 @@ fn evaluate_moves<'a, A: Allocator, V: Values>(
 ) -> Result<(), TextFault>
     requires moves { All (λ m. is_legal p.now m ≡ true) moves.now }
     requires legal { All (λ x. is_legal p.now x.played ≡ true) told.old.items }
-    ensures game { V.source.is_honest values.old → OnOk result (AreTold p.now moves.now told.old.items told.new.items) }
+    ensures game { V.source.is_honest values.old
+        → OnOk result (AreTold p.now moves.now told.old.items told.new.items) }
     ensures legal { OnOk result (All (λ x. is_legal p.now x.played ≡ true) told.new.items) }
     ensures len { OnOk result (vec_len told.new ≡ vec_len told.old + length moves.now) }
     ensures asked { HasAsked (within p.now V.source) values.old result values.new }
@@ -78,7 +81,8 @@ pub fn evaluate_legal_moves<'a, A: Allocator, V: Values>(
     values: &mut V,
     told: &mut Vec<EvaluatedMove, &'a A>,
 ) -> Result<(), TextFault>
-    ensures game { V.source.is_honest values.old → OnOk result (AreChosen (λ v. true) p.now (legal_list p.now) told.new.items) }
+    ensures game { V.source.is_honest values.old
+        → OnOk result (AreChosen (λ v. true) p.now (legal_list p.now) told.new.items) }
     ensures legal { OnOk result (All (λ x. is_legal p.now x.played ≡ true) told.new.items) }
     ensures all { OnOk result (length told.new.items ≡ length (legal_list p.now)) }
     ensures few { OnOk result (length told.new.items ≤ MAX_MOVES) }

@@ -40,16 +40,25 @@ fn add_lines<'a, 'b, A: Allocator, B: Allocator, V: Values>(
     by: &MoveToNode,
     values: &mut V,
 ) -> Result<(), TextFault>
+    // Many clauses: one for each group of lines, and those of the probes.
     requires aim { aim.now ≡ aim_of (marked bench.now) }
     requires some { 0 < length steps.now }
     requires line { line.now ≡ line_to (marked bench.now) (parent_path steps.now) }
     requires before { IsStand (marked bench.now) (parent_path steps.now) stands.0.now }
     requires here { IsStand (marked bench.now) steps.now stands.1.now }
     requires by { arrival_of (spot_at (marked bench.now).tree steps.now) ≡ Some by.now }
-    ensures faults { V.source.is_honest values.old → OnOk result (Grew (FaultLines (marked bench.now) steps.now) draft.old.faults draft.new.faults) }
-    ensures time { V.source.is_honest values.old → OnOk result (Rose (IsTimeFault (marked bench.now) steps.now) draft.old.time_faults draft.new.time_faults) }
-    ensures nodes { V.source.is_honest values.old → OnOk result (Grew (NodeLines (marked bench.now) steps.now) draft.old.nodes draft.new.nodes) }
-    ensures asked { HasAsked (within (marked bench.now).start.position V.source) values.old result values.new }
+    ensures faults { V.source.is_honest values.old
+        → OnOk result
+        (Grew (FaultLines (marked bench.now) steps.now) draft.old.faults draft.new.faults) }
+    ensures time { V.source.is_honest values.old
+        → OnOk result
+        (Rose (IsTimeFault (marked bench.now) steps.now)
+        draft.old.time_faults draft.new.time_faults) }
+    ensures nodes { V.source.is_honest values.old
+        → OnOk result
+        (Grew (NodeLines (marked bench.now) steps.now) draft.old.nodes draft.new.nodes) }
+    ensures asked { HasAsked (within (marked bench.now).start.position V.source)
+        values.old result values.new }
 {
     let first = bench.start();
     let (before, here) = stands;
@@ -111,20 +120,31 @@ fn descend<'a, 'b, A: Allocator, B: Allocator, V: Values>(
     place: u16,
     values: &mut V,
 ) -> Result<(), TextFault>
+    // Many clauses: one for each group of lines, and those of the probes.
     requires aim { aim.now ≡ aim_of (marked bench.now) }
     requires line { trail.old.line.items ≡ line_to (marked bench.now) trail.old.steps.items }
     requires stands { IsAt (marked bench.now) trail.old.steps.items trail.old.stands.items }
     requires there { place < width (below_at (marked bench.now).tree.below trail.old.steps.items) }
     ensures steps { OnOk result (trail.new.steps.items ≡ trail.old.steps.items ++ place ∷ []) }
-    ensures line { OnOk result ((p : APosition) × (trail.new.line.items ≡ trail.old.line.items ++ p ∷ [])) }
-    ensures line_to { OnOk result (trail.new.line.items ≡ line_to (marked bench.now) trail.new.steps.items) }
-    ensures stands { OnOk result (WentTo (marked bench.now) trail.new.steps.items trail.old.stands.items trail.new.stands.items) }
-    ensures faults { V.source.is_honest values.old → OnOk result (Grew (FaultLines (marked bench.now) trail.new.steps.items) draft.old.faults
+    ensures line { OnOk result ((p : APosition)
+        × (trail.new.line.items ≡ trail.old.line.items ++ p ∷ [])) }
+    ensures line_to { OnOk result
+        (trail.new.line.items ≡ line_to (marked bench.now) trail.new.steps.items) }
+    ensures stands { OnOk result
+        (WentTo (marked bench.now) trail.new.steps.items
+        trail.old.stands.items trail.new.stands.items) }
+    ensures faults { V.source.is_honest values.old
+        → OnOk result (Grew (FaultLines (marked bench.now) trail.new.steps.items) draft.old.faults
         draft.new.faults) }
-    ensures time { V.source.is_honest values.old → OnOk result (Rose (IsTimeFault (marked bench.now) trail.new.steps.items)
+    ensures time { V.source.is_honest values.old
+        → OnOk result (Rose (IsTimeFault (marked bench.now) trail.new.steps.items)
         draft.old.time_faults draft.new.time_faults) }
-    ensures nodes { V.source.is_honest values.old → OnOk result (Grew (NodeLines (marked bench.now) trail.new.steps.items) draft.old.nodes draft.new.nodes) }
-    ensures asked { HasAsked (within (marked bench.now).start.position V.source) values.old result values.new }
+    ensures nodes { V.source.is_honest values.old
+        → OnOk result
+        (Grew (NodeLines (marked bench.now) trail.new.steps.items)
+        draft.old.nodes draft.new.nodes) }
+    ensures asked { HasAsked (within (marked bench.now).start.position V.source)
+        values.old result values.new }
 {
     let first = bench.start();
     trail.steps.push(place)?;
@@ -156,9 +176,11 @@ fn descend<'a, 'b, A: Allocator, B: Allocator, V: Values>(
 /// Goes back to the node before the one where the walk is. It is a call of its own, since what a `pop` returns would take of the stack of each ply.
 #[inline(never)]
 fn leave<A: Allocator>(trail: &mut Trail<'_, A>)
-    ensures steps { trail.new.steps.items ≡ take (vec_len trail.old.steps - 1) trail.old.steps.items }
+    ensures steps { trail.new.steps.items
+        ≡ take (vec_len trail.old.steps - 1) trail.old.steps.items }
     ensures line { trail.new.line.items ≡ take (vec_len trail.old.line - 1) trail.old.line.items }
-    ensures stands { trail.new.stands.items ≡ take (vec_len trail.old.stands - 1) trail.old.stands.items }
+    ensures stands { trail.new.stands.items
+        ≡ take (vec_len trail.old.stands - 1) trail.old.stands.items }
 {
     trail.stands.pop();
     trail.line.pop();
@@ -174,20 +196,30 @@ fn add_below<'a, 'b, A: Allocator, B: Allocator, V: Values>(
     aim: &Aim,
     values: &mut V,
 ) -> Result<(), TextFault>
+    // Many clauses: one for each group of lines, and those of the probes.
     requires aim { aim.now ≡ aim_of (marked bench.now) }
     requires line { trail.old.line.items ≡ line_to (marked bench.now) trail.old.steps.items }
     requires stands { IsAt (marked bench.now) trail.old.steps.items trail.old.stands.items }
     ensures steps { OnOk result (trail.new.steps.items ≡ trail.old.steps.items) }
     ensures line { OnOk result (trail.new.line.items ≡ trail.old.line.items) }
     ensures stands { OnOk result (trail.new.stands.items ≡ trail.old.stands.items) }
-    ensures faults { V.source.is_honest values.old → OnOk result (Grew (LinesOfEach (FaultLines (marked bench.now))
-        (paths_from trail.old.steps.items 0 (below_at (marked bench.now).tree.below trail.old.steps.items))) draft.old.faults draft.new.faults) }
-    ensures time { V.source.is_honest values.old → OnOk result (Rose (SumOfEach (IsTimeFault (marked bench.now))
-        (paths_from trail.old.steps.items 0 (below_at (marked bench.now).tree.below trail.old.steps.items)))
+    ensures faults { V.source.is_honest values.old
+        → OnOk result (Grew (LinesOfEach (FaultLines (marked bench.now))
+        (paths_from trail.old.steps.items 0
+        (below_at (marked bench.now).tree.below trail.old.steps.items)))
+        draft.old.faults draft.new.faults) }
+    ensures time { V.source.is_honest values.old
+        → OnOk result (Rose (SumOfEach (IsTimeFault (marked bench.now))
+        (paths_from trail.old.steps.items 0
+        (below_at (marked bench.now).tree.below trail.old.steps.items)))
         draft.old.time_faults draft.new.time_faults) }
-    ensures nodes { V.source.is_honest values.old → OnOk result (Grew (LinesOfEach (NodeLines (marked bench.now))
-        (paths_from trail.old.steps.items 0 (below_at (marked bench.now).tree.below trail.old.steps.items))) draft.old.nodes draft.new.nodes) }
-    ensures asked { HasAsked (within (marked bench.now).start.position V.source) values.old result values.new }
+    ensures nodes { V.source.is_honest values.old
+        → OnOk result (Grew (LinesOfEach (NodeLines (marked bench.now))
+        (paths_from trail.old.steps.items 0
+        (below_at (marked bench.now).tree.below trail.old.steps.items)))
+        draft.old.nodes draft.new.nodes) }
+    ensures asked { HasAsked (within (marked bench.now).start.position V.source)
+        values.old result values.new }
 {
     for place in 0..last_stand(trail).children {
         descend(alloc, draft, trail, bench, aim, place, values)?;
@@ -212,8 +244,10 @@ fn add_root<'a, 'b, A: Allocator, B: Allocator, V: Values>(
     requires mark { mark ≡ (marked bench.now).tree.label }
     ensures faults { draft.new.faults ≡ draft.old.faults }
     ensures time { draft.new.time_faults ≡ draft.old.time_faults }
-    ensures nodes { V.source.is_honest values.old → OnOk result (Grew (NodeLines (marked bench.now) []) draft.old.nodes draft.new.nodes) }
-    ensures asked { HasAsked (within (marked bench.now).start.position V.source) values.old result values.new }
+    ensures nodes { V.source.is_honest values.old
+        → OnOk result (Grew (NodeLines (marked bench.now) []) draft.old.nodes draft.new.nodes) }
+    ensures asked { HasAsked (within (marked bench.now).start.position V.source)
+        values.old result values.new }
 {
     let here = ReviewNode {
         node: NodeContext {
@@ -264,12 +298,19 @@ pub fn add_all<'a, 'b, A: Allocator, B: Allocator, V: Values>(
     values: &mut V,
 ) -> Result<(), TextFault>
     requires { root ≡ (marked bench.now).tree.label }
-    ensures faults { V.source.is_honest values.old → OnOk result (Grew (LinesOfEach (FaultLines (marked bench.now)) (written_order (marked bench.now)))
+    ensures faults { V.source.is_honest values.old
+        → OnOk result
+        (Grew (LinesOfEach (FaultLines (marked bench.now)) (written_order (marked bench.now)))
         draft.old.faults draft.new.faults) }
-    ensures time { V.source.is_honest values.old → OnOk result (Rose (AreTimeFaults (marked bench.now)) draft.old.time_faults draft.new.time_faults) }
-    ensures nodes { V.source.is_honest values.old → OnOk result (Grew (LinesOfEach (NodeLines (marked bench.now)) (written_order (marked bench.now)))
+    ensures time { V.source.is_honest values.old
+        → OnOk result
+        (Rose (AreTimeFaults (marked bench.now)) draft.old.time_faults draft.new.time_faults) }
+    ensures nodes { V.source.is_honest values.old
+        → OnOk result
+        (Grew (LinesOfEach (NodeLines (marked bench.now)) (written_order (marked bench.now)))
         draft.old.nodes draft.new.nodes) }
-    ensures asked { HasAsked (within (marked bench.now).start.position V.source) values.old result values.new }
+    ensures asked { HasAsked (within (marked bench.now).start.position V.source)
+        values.old result values.new }
 {
     let aim = aim_in(bench);
     let stand = root_walk_state(bench, child_count(bench, &[]));

@@ -97,7 +97,8 @@ fn add_waste_words<A: Allocator>(
     root: Mark,
     time: u32,
 ) -> Result<(), AllocError>
-    ensures { (s : Study AMark) → s.stipulation ≡ stipulation → s.start.position.to_move ≡ first → s.tree.label ≡ root
+    ensures { (s : Study AMark) → s.stipulation ≡ stipulation
+        → s.start.position.to_move ≡ first → s.tree.label ≡ root
         → OnOk result (text.new ≡ text.old ++ waste_words (verdict s) time) }
 {
     let right = meets_stipulation(stipulation.goal, stipulation.hero == first, root.value);
@@ -150,9 +151,11 @@ fn text_of<'a, 'b, A: Allocator, B: Allocator, V: Values>(
     values: &mut V,
     number: u32,
 ) -> Result<Text<'a, A>, TextFault>
-    ensures text { V.source.is_honest values.old → IfOk result (IsReview (marked bench.now) number) }
+    ensures text { V.source.is_honest values.old
+        → IfOk result (IsReview (marked bench.now) number) }
     ensures begins { IfOk result (BeginsReview number) }
-    ensures asked { HasAsked (within (marked bench.now).start.position V.source) values.old result values.new }
+    ensures asked { HasAsked (within (marked bench.now).start.position V.source)
+        values.old result values.new }
 {
     // (the study has at most 4,096 nodes)
     let _size = bench.size();
@@ -183,16 +186,23 @@ pub fn write_review<'a, 'b, A: Allocator, B: Allocator, V: Values, W: Write>(
     number: u32,
     out: &mut W,
 ) -> Result<(), ReviewFault>
-    ensures ok { V.source.is_honest values.old → OnOk result ((text : List ℕ) × IsReview (marked bench.now) number text
+    ensures ok { V.source.is_honest values.old
+        → OnOk result ((text : List ℕ) × IsReview (marked bench.now) number text
         × Appends (W.contents out.old) (W.contents out.new) text) }
-    ensures plain { V.source.is_honest values.old → IsKeptRight bench.now → OnOk result ((text : List ℕ)
-        × IsReviewOf (plain_study (marked bench.now)) number text × Appends (W.contents out.old) (W.contents out.new) text) }
-    ensures begins { OnOk result ((text : List ℕ) × BeginsReview number text × Appends (W.contents out.old) (W.contents out.new) text) }
-    ensures device { V.source.is_honest values.old → result ≡ Err ReviewFault.Device → (text : List ℕ) × IsReview (marked bench.now) number text
+    ensures plain { V.source.is_honest values.old → IsKeptRight bench.now
+        → OnOk result ((text : List ℕ)
+        × IsReviewOf (plain_study (marked bench.now)) number text
+        × Appends (W.contents out.old) (W.contents out.new) text) }
+    ensures begins { OnOk result ((text : List ℕ) × BeginsReview number text
+        × Appends (W.contents out.old) (W.contents out.new) text) }
+    ensures device { V.source.is_honest values.old → result ≡ Err ReviewFault.Device
+        → (text : List ℕ) × IsReview (marked bench.now) number text
         × TakesPrefix (W.contents out.old) (W.contents out.new) text }
     ensures memory { result ≡ Err ReviewFault.OutOfMemory → out.new ≡ out.old }
-    ensures untold { (fault : AProbeFault) → result ≡ Err (ReviewFault.Values fault) → out.new ≡ out.old }
-    ensures asked { HasReviewed (within (marked bench.now).start.position V.source) values.old result values.new }
+    ensures untold { (fault : AProbeFault)
+        → result ≡ Err (ReviewFault.Values fault) → out.new ≡ out.old }
+    ensures asked { HasReviewed (within (marked bench.now).start.position V.source)
+        values.old result values.new }
 {
     let text = text_of(alloc, bench, values, number)?;
     write_text(out, text.as_slice())?;

@@ -34,7 +34,8 @@ pub fn node_command<'a, A: Allocator>(
 ) -> Answer<'a, A>
     requires { is_path_word path.now ≡ true }
     ensures { (s : State) → HoldsDocument document.old s
-        → Executed (λ o. IsStudyReplyAt s o word s.document (steps_of path.now)) (HoldsFrom s document.new) result }
+        → Executed (λ o. IsStudyReplyAt s o word s.document (steps_of path.now))
+        (HoldsFrom s document.new) result }
 {
     match document {
         Document::Study(bench) => node_command_on(alloc, bench, word, path),
@@ -51,7 +52,8 @@ fn node_command_on<'a, A: Allocator>(
 ) -> Answer<'a, A>
     requires { is_path_word path.now ≡ true }
     ensures { (s : State) → HoldsBench bench.old s
-        → Executed (λ o. IsStudyReplyAt s o word (study (plain_study (marked bench.old))) (steps_of path.now))
+        → Executed (λ o.
+        IsStudyReplyAt s o word (study (plain_study (marked bench.old))) (steps_of path.now))
         (HoldsBenchFrom s bench.new) result }
 {
     match read_path(alloc, path) {
@@ -66,7 +68,8 @@ fn node_command_at<'a, A: Allocator>(
     path: Path<'a, A>,
 ) -> Answer<'a, A>
     ensures { (s : State) → HoldsBench bench.old s
-        → Executed (λ o. IsStudyReply s word (plain_study (marked bench.old)) path.entry) (HoldsBenchFrom s bench.new) result }
+        → Executed (λ o. IsStudyReply s word (plain_study (marked bench.old)) path.entry)
+        (HoldsBenchFrom s bench.new) result }
 {
     match word {
         NodeCommand::Delete => delete(bench, path),
@@ -77,7 +80,9 @@ fn node_command_at<'a, A: Allocator>(
 
 fn delete<'a, A: Allocator>(bench: &mut Bench<'a, A>, path: Path<'a, A>) -> Answer<'a, A>
     ensures { (s : State) → HoldsBench bench.old s
-        → Executed (λ o. IsStudyReply s NodeCommand.Delete (plain_study (marked bench.old)) path.entry) (HoldsBenchFrom s bench.new) result }
+        → Executed (λ o.
+        IsStudyReply s NodeCommand.Delete (plain_study (marked bench.old)) path.entry)
+        (HoldsBenchFrom s bench.new) result }
 {
     match bench.delete(&path) {
         Ok(()) => Ok(Reply::Deleted(path)),
@@ -87,7 +92,9 @@ fn delete<'a, A: Allocator>(bench: &mut Bench<'a, A>, path: Path<'a, A>) -> Answ
 
 fn promote<'a, A: Allocator>(bench: &mut Bench<'a, A>, path: Path<'a, A>) -> Answer<'a, A>
     ensures { (s : State) → HoldsBench bench.old s
-        → Executed (λ o. IsStudyReply s NodeCommand.Promote (plain_study (marked bench.old)) path.entry) (HoldsBenchFrom s bench.new) result }
+        → Executed (λ o.
+        IsStudyReply s NodeCommand.Promote (plain_study (marked bench.old)) path.entry)
+        (HoldsBenchFrom s bench.new) result }
 {
     match bench.promote(&path) {
         Ok(()) => Ok(Reply::Promoted(path)),
@@ -102,7 +109,8 @@ pub fn set_tag<'a, A: Allocator>(
     text: &str,
 ) -> Answer<'a, A>
     ensures { (s : State) → HoldsDocument document.old s
-        → Executed (λ o reply. reply ≡ tag_reply s s.document name text.now) (HoldsFrom s document.new) result }
+        → Executed (λ o reply. reply ≡ tag_reply s s.document name text.now)
+        (HoldsFrom s document.new) result }
 {
     match document {
         Document::Study(bench) => set_study_tag(bench, name, text),
@@ -117,7 +125,9 @@ fn set_study_tag<'a, A: Allocator>(
     text: &str,
 ) -> Answer<'a, A>
     ensures { (s : State) → HoldsBench bench.old s
-        → Executed (λ o reply. reply ≡ tag_reply s (study (plain_study (marked bench.old))) name text.now) (HoldsBenchFrom s bench.new) result }
+        → Executed (λ o reply.
+        reply ≡ tag_reply s (study (plain_study (marked bench.old))) name text.now)
+        (HoldsBenchFrom s bench.new) result }
 {
     match bench.set_tag(name, text) {
         Ok(()) => Ok(Reply::Tagged(name)),
@@ -135,7 +145,8 @@ pub fn insert<'a, P: PageSource, A: Allocator>(
 ) -> Answer<'a, A>
     requires { is_path_word path.now ≡ true }
     ensures { (s : State) → Holds P.honest P.gives document.old tables.old s
-        → Executed (λ o. IsInsertReply s o s.document (steps_of path.now) san.now) (Holds P.honest P.gives document.new tables.new) result }
+        → Executed (λ o. IsInsertReply s o s.document (steps_of path.now) san.now)
+        (Holds P.honest P.gives document.new tables.new) result }
 {
     match document {
         Document::Study(bench) => insert_in_study(alloc, bench, tables, path, san),
@@ -153,7 +164,8 @@ fn insert_in_study<'a, P: PageSource, A: Allocator>(
 ) -> Answer<'a, A>
     requires { is_path_word path.now ≡ true }
     ensures { (s : State) → Holds P.honest P.gives (held.Study bench.old) tables.old s
-        → Executed (λ o. IsInsertReply s o (study (plain_study (marked bench.old))) (steps_of path.now) san.now)
+        → Executed (λ o.
+        IsInsertReply s o (study (plain_study (marked bench.old))) (steps_of path.now) san.now)
         (Holds P.honest P.gives (held.Study bench.new) tables.new) result }
 {
     match read_path(alloc, path) {
@@ -170,7 +182,8 @@ fn insert_at<'a, P: PageSource, A: Allocator>(
 ) -> Answer<'a, A>
     ensures { (s : State) → Holds P.honest P.gives (held.Study bench.old) tables.old s
         → Executed (λ o. IsMoveReplyAt s o (plain_study (marked bench.old)) path.entry san.now
-        (has_spot (plain_study (marked bench.old)).tree path.entry)) (Holds P.honest P.gives (held.Study bench.new) tables.new) result }
+        (has_spot (plain_study (marked bench.old)).tree path.entry))
+        (Holds P.honest P.gives (held.Study bench.new) tables.new) result }
 {
     match bench.start_at(&path) {
         Some(start) => insert_san(bench, tables, path, &start, san),
@@ -187,7 +200,9 @@ fn insert_san<'a, P: PageSource, A: Allocator>(
 ) -> Answer<'a, A>
     requires at { start.now.position ≡ position_at (marked bench.old) path }
     ensures { (s : State) → Holds P.honest P.gives (held.Study bench.old) tables.old s
-        → Executed (λ o. IsMoveReply s o (plain_study (marked bench.old)) path.entry (move_of start.now.position san.now))
+        → Executed (λ o.
+        IsMoveReply s o (plain_study (marked bench.old)) path.entry
+        (move_of start.now.position san.now))
         (Holds P.honest P.gives (held.Study bench.new) tables.new) result }
 {
     match read_san(&start.position, san) {

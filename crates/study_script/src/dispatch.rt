@@ -34,12 +34,15 @@ pub fn answer<'a, W: Write, S: TableStore, A: Allocator>(
     out: &mut W,
 ) -> Result<bool, DeviceFailed>
     ensures ok { (trusted : AClass → Bool) (s : State) → IsTrusted trusted line.now
-        → SessionHolds S.Pages.honest S.Pages.gives (HonestOn trusted S.honest) S.files S.headers S.faults document.old tables.old store.old s
+        → SessionHolds S.Pages.honest S.Pages.gives
+        (HonestOn trusted S.honest) S.files S.headers S.faults document.old tables.old store.old s
         → IfOk result (Answered (IsReply s line.now)
-        (SessionHolds S.Pages.honest S.Pages.gives (HonestOn trusted S.honest) S.files S.headers S.faults document.new tables.new store.new)
+        (SessionHolds S.Pages.honest S.Pages.gives
+        (HonestOn trusted S.honest) S.files S.headers S.faults document.new tables.new store.new)
         (W.contents out.old) (W.contents out.new)) }
     ensures err { (trusted : AClass → Bool) (s : State) → IsTrusted trusted line.now
-        → SessionHolds S.Pages.honest S.Pages.gives (HonestOn trusted S.honest) S.files S.headers S.faults document.old tables.old store.old s
+        → SessionHolds S.Pages.honest S.Pages.gives
+        (HonestOn trusted S.honest) S.files S.headers S.faults document.old tables.old store.old s
         → OnErr result (BrokenOff (IsReply s line.now) (W.contents out.old) (W.contents out.new)) }
     ensures written { IfOk result (IsWritten line.now (W.contents out.old) (W.contents out.new)) }
     ensures cut_off { OnErr result (IsCutOff line.now (W.contents out.old) (W.contents out.new)) }
@@ -67,13 +70,17 @@ pub fn answer_apart<'a, W: Write, S: TableStore, A: Allocator>(
     out: &mut W,
 ) -> Result<bool, DeviceFailed>
     ensures ok { (trusted : AClass → Bool) (s : State) → IsTrusted trusted line.now
-        → SessionHolds S.Pages.honest S.Pages.gives (HonestOn trusted S.honest) S.files S.headers S.faults document.old tables.old store.old s
+        → SessionHolds S.Pages.honest S.Pages.gives
+        (HonestOn trusted S.honest) S.files S.headers S.faults document.old tables.old store.old s
         → IfOk result (Answered (IsReplyIn true s line.now)
-        (SessionHolds S.Pages.honest S.Pages.gives (HonestOn trusted S.honest) S.files S.headers S.faults document.new tables.new store.new)
+        (SessionHolds S.Pages.honest S.Pages.gives
+        (HonestOn trusted S.honest) S.files S.headers S.faults document.new tables.new store.new)
         (W.contents out.old) (W.contents out.new)) }
     ensures err { (trusted : AClass → Bool) (s : State) → IsTrusted trusted line.now
-        → SessionHolds S.Pages.honest S.Pages.gives (HonestOn trusted S.honest) S.files S.headers S.faults document.old tables.old store.old s
-        → OnErr result (BrokenOff (IsReplyIn true s line.now) (W.contents out.old) (W.contents out.new)) }
+        → SessionHolds S.Pages.honest S.Pages.gives
+        (HonestOn trusted S.honest) S.files S.headers S.faults document.old tables.old store.old s
+        → OnErr result
+        (BrokenOff (IsReplyIn true s line.now) (W.contents out.old) (W.contents out.new)) }
     ensures written { IfOk result (IsWritten line.now (W.contents out.old) (W.contents out.new)) }
     ensures cut_off { OnErr result (IsCutOff line.now (W.contents out.old) (W.contents out.new)) }
 {
@@ -110,10 +117,14 @@ fn execute<'a, S: TableStore, A: Allocator>(
     store: &mut S,
     command: &Command<'_>,
 ) -> Answer<'a, A>
-    ensures { (trusted : AClass → Bool) (s : State) → IsTrustedAsked trusted (command_seen command.now)
-        → SessionHolds S.Pages.honest S.Pages.gives (HonestOn trusted S.honest) S.files S.headers S.faults document.old tables.old store.old s
+    ensures { (trusted : AClass → Bool) (s : State)
+        → IsTrustedAsked trusted (command_seen command.now)
+        → SessionHolds S.Pages.honest S.Pages.gives
+        (HonestOn trusted S.honest) S.files S.headers S.faults document.old tables.old store.old s
         → Executed (λ o. IsReplyTo s o (command_seen command.now))
-        (SessionHolds S.Pages.honest S.Pages.gives (HonestOn trusted S.honest) S.files S.headers S.faults document.new tables.new store.new) result }
+        (SessionHolds S.Pages.honest S.Pages.gives
+        (HonestOn trusted S.honest) S.files S.headers S.faults document.new
+        tables.new store.new) result }
 {
     match command {
         Command::FromFen(word, fen) => fen_command(document, tables, *word, fen),

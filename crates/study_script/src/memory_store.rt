@@ -59,14 +59,17 @@ impl<'f, 'w, 'a, A: Allocator> MemoryStore<'f, 'w, 'a, A> {
     pub fn put(&mut self, class: Class, file: MemoryFile<'f>)
         ensures files { self.new.files ≡ slice_set self.old.files (class_number class) file.entry }
         ensures places { length self.old.files ≡ 36 }
-        ensures plan { (self.new.fails_after ≡ self.old.fails_after) × (self.new.fails_at ≡ self.old.fails_at) }
-        ensures writers { (self.new.writers ≡ self.old.writers) × (self.new.opened ≡ self.old.opened) }
+        ensures plan { (self.new.fails_after ≡ self.old.fails_after)
+            × (self.new.fails_at ≡ self.old.fails_at) }
+        ensures writers { (self.new.writers ≡ self.old.writers)
+            × (self.new.opened ≡ self.old.opened) }
     {
         self.files[class as usize] = file;
     }
 
     fn bytes(&self, class: Class) -> Result<&'f [u8], StoreFault>
-        ensures ok { IfOk result (λ bytes. memory_file self.now.files class ≡ MemoryFile.Bytes bytes) }
+        ensures ok { IfOk result (λ bytes.
+            memory_file self.now.files class ≡ MemoryFile.Bytes bytes) }
         ensures err { IfErr result (λ fault. IsFaultOf fault (memory_file self.now.files class)) }
     {
         match self.files[class as usize] {

@@ -29,7 +29,8 @@ pub fn fen_command<'a, P: PageSource, A: Allocator>(
     fen: &str,
 ) -> Answer<'a, A>
     ensures { (s : State) → Holds P.honest P.gives document.old tables.old s
-        → Executed (λ o. IsStartReply s o word s.document (start_of fen.now)) (Holds P.honest P.gives document.new tables.new) result }
+        → Executed (λ o. IsStartReply s o word s.document (start_of fen.now))
+        (Holds P.honest P.gives document.new tables.new) result }
 {
     match word {
         FenCommand::Position => read_position(document, tables, fen),
@@ -43,7 +44,8 @@ fn read_position<'a, P: PageSource, A: Allocator>(
     fen: &str,
 ) -> Answer<'a, A>
     ensures { (s : State) → Holds P.honest P.gives document.old tables.old s
-        → Executed (λ o. IsStartReply s o FenCommand.Position s.document (start_of fen.now)) (Holds P.honest P.gives document.new tables.new) result }
+        → Executed (λ o. IsStartReply s o FenCommand.Position s.document (start_of fen.now))
+        (Holds P.honest P.gives document.new tables.new) result }
 {
     match read_fen(fen) {
         Ok(start) => set_position(document, tables, start),
@@ -57,7 +59,8 @@ fn shift_document<'a, P: PageSource, A: Allocator>(
     fen: &str,
 ) -> Answer<'a, A>
     ensures { (s : State) → Holds P.honest P.gives document.old tables.old s
-        → Executed (λ o. IsStartReply s o FenCommand.Shift s.document (start_of fen.now)) (Holds P.honest P.gives document.new tables.new) result }
+        → Executed (λ o. IsStartReply s o FenCommand.Shift s.document (start_of fen.now))
+        (Holds P.honest P.gives document.new tables.new) result }
 {
     match document {
         Document::Study(bench) => shift_study(bench, tables, fen),
@@ -72,7 +75,9 @@ fn shift_study<'a, P: PageSource, A: Allocator>(
     fen: &str,
 ) -> Answer<'a, A>
     ensures { (s : State) → Holds P.honest P.gives (held.Study bench.old) tables.old s
-        → Executed (λ o. IsStartReply s o FenCommand.Shift (study (plain_study (marked bench.old))) (start_of fen.now))
+        → Executed (λ o.
+        IsStartReply s o FenCommand.Shift
+        (study (plain_study (marked bench.old))) (start_of fen.now))
         (Holds P.honest P.gives (held.Study bench.new) tables.new) result }
 {
     match read_fen(fen) {
@@ -87,7 +92,8 @@ fn set_position<'a, P: PageSource, A: Allocator>(
     start: Start,
 ) -> Answer<'a, A>
     ensures { (s : State) → Holds P.honest P.gives document.old tables.old s
-        → Executed (λ o. IsPositionReply s o s.document start) (Holds P.honest P.gives document.new tables.new) result }
+        → Executed (λ o. IsPositionReply s o s.document start)
+        (Holds P.honest P.gives document.new tables.new) result }
 {
     match document {
         Document::Study(bench) => reposition(bench, tables, start),
@@ -128,7 +134,8 @@ fn shift<'a, P: PageSource, A: Allocator>(
 ) -> Answer<'a, A>
     ensures { (s : State) → Holds P.honest P.gives (held.Study bench.old) tables.old s
         → Executed (λ o. IsShiftReply s o (plain_study (marked bench.old)) start
-        (shift_refusal (plain_study (marked bench.old)) start)) (Holds P.honest P.gives (held.Study bench.new) tables.new) result }
+        (shift_refusal (plain_study (marked bench.old)) start))
+        (Holds P.honest P.gives (held.Study bench.new) tables.new) result }
 {
     match table_edits::shift_position(bench, start.copied(), tables) {
         Ok(()) => Ok(Reply::Shift(start)),
@@ -144,7 +151,8 @@ pub fn stipulate<'a, P: PageSource, A: Allocator>(
     stipulation: &Stipulation,
 ) -> Answer<'a, A>
     ensures { (s : State) → Holds P.honest P.gives document.old tables.old s
-        → Executed (λ o. IsStipulateReply s o s.document stipulation.now) (Holds P.honest P.gives document.new tables.new) result }
+        → Executed (λ o. IsStipulateReply s o s.document stipulation.now)
+        (Holds P.honest P.gives document.new tables.new) result }
 {
     match document {
         Document::Study(bench) => Ok(restipulate(bench, stipulation)),
@@ -160,7 +168,8 @@ fn restipulate<'a, A: Allocator>(
     bench: &mut Bench<'a, A>,
     stipulation: &Stipulation,
 ) -> Reply<'a, A>
-    ensures edited { plain_study (marked bench.new) ≡ with_stipulation (plain_study (marked bench.old)) stipulation.now }
+    ensures edited { plain_study (marked bench.new)
+        ≡ with_stipulation (plain_study (marked bench.old)) stipulation.now }
     ensures right { IsKeptRight bench.old → IsKeptRight bench.new }
     ensures reply { result ≡ reply.Stipulated stipulation.now }
 {
@@ -176,7 +185,8 @@ fn make_study<'a, P: PageSource, A: Allocator>(
     stipulation: &Stipulation,
 ) -> Answer<'a, A>
     ensures { (s : State) → Holds P.honest P.gives document.old tables.old s
-        → Executed (λ o. IsStipulateReply s o (begun start) stipulation.now) (Holds P.honest P.gives document.new tables.new) result }
+        → Executed (λ o. IsStipulateReply s o (begun start) stipulation.now)
+        (Holds P.honest P.gives document.new tables.new) result }
 {
     match table_edits::new_bench(alloc, start, *stipulation, tables) {
         Ok(bench) => {

@@ -28,7 +28,8 @@ pub fn node_query<'a, A: Allocator>(
 ) -> Answer<'a, A>
     requires { is_path_word path.now ≡ true }
     ensures { (s : State) → HoldsDocument document.now s
-        → Executed (λ o. IsNodeReply s o word (steps_of path.now)) (HoldsFrom s document.now) result }
+        → Executed (λ o. IsNodeReply s o word (steps_of path.now))
+        (HoldsFrom s document.now) result }
 {
     match word {
         NodeQuery::Moves => moves_at(alloc, document, path),
@@ -43,7 +44,8 @@ fn moves_at<'a, A: Allocator>(
 ) -> Answer<'a, A>
     requires { is_path_word path.now ≡ true }
     ensures { (s : State) → HoldsDocument document.now s
-        → Executed (λ o reply. reply ≡ moves_reply s (start_found o s.document (steps_of path.now))) (HoldsFrom s document.now) result }
+        → Executed (λ o reply. reply ≡ moves_reply s (start_found o s.document (steps_of path.now)))
+        (HoldsFrom s document.now) result }
 {
     match start_at(alloc, document, path) {
         Ok(start) => Ok(Reply::Moves(start)),
@@ -54,7 +56,8 @@ fn moves_at<'a, A: Allocator>(
 fn fen_at<'a, A: Allocator>(alloc: &'a A, document: &Document<'a, A>, path: &[u8]) -> Answer<'a, A>
     requires { is_path_word path.now ≡ true }
     ensures { (s : State) → HoldsDocument document.now s
-        → Executed (λ o reply. reply ≡ fen_reply s (start_found o s.document (steps_of path.now))) (HoldsFrom s document.now) result }
+        → Executed (λ o reply. reply ≡ fen_reply s (start_found o s.document (steps_of path.now)))
+        (HoldsFrom s document.now) result }
 {
     match start_at(alloc, document, path) {
         Ok(start) => Ok(Reply::Fen(start)),
@@ -71,7 +74,8 @@ pub fn solve_at<'a, A: Allocator>(
 ) -> Answer<'a, A>
     requires { is_path_word path.now ≡ true }
     ensures { (s : State) → HoldsDocument document.now s
-        → Executed (λ o. IsSolveReply s count.number (start_found o s.document (steps_of path.now))) (HoldsFrom s document.now) result }
+        → Executed (λ o. IsSolveReply s count.number (start_found o s.document (steps_of path.now)))
+        (HoldsFrom s document.now) result }
 {
     match start_at(alloc, document, path) {
         Ok(start) => Ok(Reply::Solved(solve(&start.position, count.number))),
@@ -86,7 +90,8 @@ fn start_at<'a, A: Allocator>(
     path: &[u8],
 ) -> Result<Start, Refusal>
     requires { is_path_word path.now ≡ true }
-    ensures { (s : State) → HoldsDocument document.now s → (o : Environment) × (result ≡ start_found o s.document (steps_of path.now)) }
+    ensures { (s : State) → HoldsDocument document.now s → (o : Environment)
+        × (result ≡ start_found o s.document (steps_of path.now)) }
 {
     match document {
         Document::Empty => Err(Refusal::NoPosition),
@@ -117,7 +122,8 @@ fn node_start<'a, A: Allocator>(
     path: &[u8],
 ) -> Result<Start, Refusal>
     requires { is_path_word path.now ≡ true }
-    ensures { (o : Environment) × (result ≡ start_found o (study (plain_study (marked bench.now))) (steps_of path.now)) }
+    ensures { (o : Environment)
+        × (result ≡ start_found o (study (plain_study (marked bench.now))) (steps_of path.now)) }
 {
     match read_path(alloc, path) {
         Ok(path) => bench.start_at(&path).ok_or(Refusal::NoSuchNode),
@@ -128,7 +134,8 @@ fn node_start<'a, A: Allocator>(
 /// `mark`.
 pub fn mark_at<'a, A: Allocator>(bench: &Bench<'a, A>, path: Path<'a, A>) -> Answer<'a, A>
     ensures { (s : State) → HoldsBench bench.now s
-        → Executed (λ o. IsMarkReply s (plain_study (marked bench.now)) path.entry) (HoldsBenchFrom s bench.now) result }
+        → Executed (λ o. IsMarkReply s (plain_study (marked bench.now)) path.entry)
+        (HoldsBenchFrom s bench.now) result }
 {
     match bench.mark(&path) {
         Some(mark) => Ok(Reply::Mark(path, mark)),
@@ -138,7 +145,8 @@ pub fn mark_at<'a, A: Allocator>(bench: &Bench<'a, A>, path: Path<'a, A>) -> Ans
 
 /// `pgn`.
 pub fn pgn<'a, A: Allocator>(alloc: &'a A, document: &Document<'a, A>) -> Answer<'a, A>
-    ensures { (s : State) → HoldsDocument document.now s → Executed (λ o. IsPgnReply s o s.document) (HoldsFrom s document.now) result }
+    ensures { (s : State) → HoldsDocument document.now s
+        → Executed (λ o. IsPgnReply s o s.document) (HoldsFrom s document.now) result }
 {
     match document {
         Document::Study(bench) => document_pgn(alloc, bench),
@@ -149,7 +157,8 @@ pub fn pgn<'a, A: Allocator>(alloc: &'a A, document: &Document<'a, A>) -> Answer
 
 fn document_pgn<'a, A: Allocator>(alloc: &'a A, bench: &Bench<'a, A>) -> Answer<'a, A>
     ensures { (s : State) → HoldsBench bench.now s
-        → Executed (λ o. IsPgnReply s o (study (plain_study (marked bench.now)))) (HoldsBenchFrom s bench.now) result }
+        → Executed (λ o. IsPgnReply s o (study (plain_study (marked bench.now))))
+        (HoldsBenchFrom s bench.now) result }
 {
     let mut text = Vec::new(alloc);
     match write_pgn(alloc, bench, &mut text) {

@@ -65,14 +65,18 @@ pub fn run<'a, R: Read, W: Write, S: TableStore, A: Allocator>(
     settings: Settings,
 ) -> Result<Summary, RunFault>
     requires { IfSome settings.pages (λ n. (1 ≤ n) × (n ≤ 4096)) }
-    ensures shape { IfSome (R.remaining script.old) (λ bytes. Shape bytes (R.remaining script.new) result) }
-    ensures outcome { (trusted : AClass → Bool) → HonestOn trusted S.honest store.old (is_some settings.pages)
+    ensures shape { IfSome (R.remaining script.old) (λ bytes.
+        Shape bytes (R.remaining script.new) result) }
+    ensures outcome { (trusted : AClass → Bool)
+        → HonestOn trusted S.honest store.old (is_some settings.pages)
         → IfSome (R.remaining script.old)
         (λ bytes. AreTrusted trusted bytes → Outcome settings.separate
-        (initial_state (shelf_of S.files S.headers S.faults store.old) (is_some settings.pages)) bytes
+        (initial_state (shelf_of S.files S.headers S.faults store.old)
+        (is_some settings.pages)) bytes
         (R.remaining script.new) (W.contents out.old) (W.contents out.new) result) }
     ensures fits { IfSome (R.remaining script.old)
-        (λ bytes. Fits bytes (R.remaining script.new) (W.contents out.old) (W.contents out.new) result) }
+        (λ bytes.
+        Fits bytes (R.remaining script.new) (W.contents out.old) (W.contents out.new) result) }
 {
     let Ok(mut line) = Line::new(alloc) else {
         return Err(RunFault::OutOfMemory);
@@ -112,12 +116,17 @@ pub fn run_session<R: Read, W: Write, D: Interpreter, A: Allocator>(
     out: &mut W,
     interpreter: &mut D,
 ) -> Result<Summary, RunFault>
-    ensures outcome { (trusted : AClass → Bool) (separate : Bool) (first : State) → D.holds interpreter.old trusted separate first
+    ensures outcome { (trusted : AClass → Bool) (separate : Bool) (first : State)
+        → D.holds interpreter.old trusted separate first
         → IfSome (R.remaining script.old)
-        (λ bytes. AreTrusted trusted bytes → Outcome separate first bytes (R.remaining script.new) (W.contents out.old) (W.contents out.new) result) }
+        (λ bytes. AreTrusted trusted bytes
+        → Outcome separate first bytes (R.remaining script.new) (W.contents out.old)
+        (W.contents out.new) result) }
     ensures fits { IfSome (R.remaining script.old)
-        (λ bytes. Fits bytes (R.remaining script.new) (W.contents out.old) (W.contents out.new) result) }
-    ensures shape { IfSome (R.remaining script.old) (λ bytes. Shape bytes (R.remaining script.new) result) }
+        (λ bytes.
+        Fits bytes (R.remaining script.new) (W.contents out.old) (W.contents out.new) result) }
+    ensures shape { IfSome (R.remaining script.old) (λ bytes.
+        Shape bytes (R.remaining script.new) result) }
     ensures takes_no_memory { ¬ (result ≡ Err RunFault.OutOfMemory) }
 {
     let mut refused = 0u32;

@@ -24,12 +24,19 @@ pub trait Interpreter {
 
     /// Writes the reply to a line, keeps the state after it, and returns whether the line was refused.
     fn answer<W: Write>(&mut self, line: &[u8], out: &mut W) -> Result<bool, DeviceFailed>
-        ensures ok { (trusted : AClass → Bool) (separate : Bool) (s : AState) → IsTrusted trusted line.now → holds self.old trusted separate s
-            → IfOk result (Answered (IsReplyIn separate s line.now) (holds self.new trusted separate) (W.contents out.old) (W.contents out.new)) }
-        ensures err { (trusted : AClass → Bool) (separate : Bool) (s : AState) → IsTrusted trusted line.now → holds self.old trusted separate s
-            → OnErr result (BrokenOff (IsReplyIn separate s line.now) (W.contents out.old) (W.contents out.new)) }
-        ensures written { IfOk result (IsWritten line.now (W.contents out.old) (W.contents out.new)) }
-        ensures cut_off { OnErr result (IsCutOff line.now (W.contents out.old) (W.contents out.new)) };
+        ensures ok { (trusted : AClass → Bool) (separate : Bool) (s : AState)
+            → IsTrusted trusted line.now → holds self.old trusted separate s
+            → IfOk result
+            (Answered (IsReplyIn separate s line.now) (holds self.new trusted separate)
+            (W.contents out.old) (W.contents out.new)) }
+        ensures err { (trusted : AClass → Bool) (separate : Bool) (s : AState)
+            → IsTrusted trusted line.now → holds self.old trusted separate s
+            → OnErr result
+            (BrokenOff (IsReplyIn separate s line.now) (W.contents out.old) (W.contents out.new)) }
+        ensures written { IfOk result
+            (IsWritten line.now (W.contents out.old) (W.contents out.new)) }
+        ensures cut_off { OnErr result
+            (IsCutOff line.now (W.contents out.old) (W.contents out.new)) };
 }
 
 /// The session of a script: its document, its tables, and the store of their files.
@@ -70,18 +77,24 @@ impl<'a, 's, S: TableStore, A: Allocator> Session<'a, 's, S, A> {
     /// until the next accepted one. So no line that belongs to it edits the study before. The session's own setting is ignored.
     pub fn answer_apart<W: Write>(&mut self, line: &[u8], out: &mut W) -> Result<bool, DeviceFailed>
         ensures ok { (trusted : AClass → Bool) (s : AState) → IsTrusted trusted line.now
-            → SessionHolds S.Pages.honest S.Pages.gives (HonestOn trusted S.honest) S.files S.headers S.faults self.old.document self.old.tables
+            → SessionHolds S.Pages.honest S.Pages.gives
+            (HonestOn trusted S.honest) S.files S.headers S.faults self.old.document self.old.tables
             self.old.store.now s
             → IfOk result (Answered (IsReplyIn true s line.now)
-            (SessionHolds S.Pages.honest S.Pages.gives (HonestOn trusted S.honest) S.files S.headers S.faults self.new.document self.new.tables
+            (SessionHolds S.Pages.honest S.Pages.gives
+            (HonestOn trusted S.honest) S.files S.headers S.faults self.new.document self.new.tables
             self.new.store.now)
             (W.contents out.old) (W.contents out.new)) }
         ensures err { (trusted : AClass → Bool) (s : AState) → IsTrusted trusted line.now
-            → SessionHolds S.Pages.honest S.Pages.gives (HonestOn trusted S.honest) S.files S.headers S.faults self.old.document self.old.tables
+            → SessionHolds S.Pages.honest S.Pages.gives
+            (HonestOn trusted S.honest) S.files S.headers S.faults self.old.document self.old.tables
             self.old.store.now s
-            → OnErr result (BrokenOff (IsReplyIn true s line.now) (W.contents out.old) (W.contents out.new)) }
-        ensures written { IfOk result (IsWritten line.now (W.contents out.old) (W.contents out.new)) }
-        ensures cut_off { OnErr result (IsCutOff line.now (W.contents out.old) (W.contents out.new)) }
+            → OnErr result
+            (BrokenOff (IsReplyIn true s line.now) (W.contents out.old) (W.contents out.new)) }
+        ensures written { IfOk result
+            (IsWritten line.now (W.contents out.old) (W.contents out.new)) }
+        ensures cut_off { OnErr result
+            (IsCutOff line.now (W.contents out.old) (W.contents out.new)) }
         ensures mode { self.new.separate ≡ self.old.separate }
     {
         dispatch::answer_apart(

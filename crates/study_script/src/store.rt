@@ -43,32 +43,45 @@ pub trait TableStore {
 
     /// Opens a file to be read from front to back.
     fn reader(&mut self, class: Class) -> Result<Self::Reader, StoreFault>
-        ensures right { honest self.old false class → IfOk result (λ r. IsRightFile (Self.Reader.remaining r)) }
-        ensures given { MatchResult result (λ r. GivesBytes (files self.old class) (Self.Reader.remaining r))
+        ensures right { honest self.old false class
+            → IfOk result (λ r. IsRightFile (Self.Reader.remaining r)) }
+        ensures given { MatchResult result (λ r.
+            GivesBytes (files self.old class) (Self.Reader.remaining r))
             (λ fault. IsGiven (files self.old class) (Err fault)) }
-        ensures stays { (by_pages : Bool) (c : AClass) → honest self.old by_pages c → honest self.new by_pages c }
+        ensures stays { (by_pages : Bool) (c : AClass) → honest self.old by_pages c
+            → honest self.new by_pages c }
         ensures files { (c : AClass) → files self.new c ≡ files self.old c }
         ensures headers { (c : AClass) → headers self.new c ≡ headers self.old c }
-        ensures faults { (c : AClass) (f : ASourceFault) → faults self.new c f ≡ faults self.old c f };
+        ensures faults { (c : AClass) (f : ASourceFault)
+            → faults self.new c f ≡ faults self.old c f };
 
     /// Opens a file to be written from its beginning. The class's file and source are unknown from then on.
     fn writer(&mut self, class: Class) -> Result<Self::Writer, StoreFault>
-        ensures stays { (by_pages : Bool) (c : AClass) → honest self.old by_pages c → honest self.new by_pages c }
-        ensures files { (c : AClass) → files self.new c ≡ unknown_after_write class (files self.old) c }
-        ensures headers { (c : AClass) → headers self.new c ≡ unknown_after_write class (headers self.old) c }
-        ensures faults { (c : AClass) (f : ASourceFault) → faults self.new c f ≡ forgotten_faults class (faults self.old) c f };
+        ensures stays { (by_pages : Bool) (c : AClass) → honest self.old by_pages c
+            → honest self.new by_pages c }
+        ensures files { (c : AClass)
+            → files self.new c ≡ unknown_after_write class (files self.old) c }
+        ensures headers { (c : AClass)
+            → headers self.new c ≡ unknown_after_write class (headers self.old) c }
+        ensures faults { (c : AClass) (f : ASourceFault)
+            → faults self.new c f ≡ forgotten_faults class (faults self.old) c f };
 
     /// Opens a file to be read by pages.
     fn pages(&mut self, class: Class) -> Result<Self::Pages, StoreFault>
         ensures opened { IsOk result → IsOpened (headers self.old class) }
-        ensures right { honest self.old true class → IfOk result (λ source. IsRightSource Self.Pages.honest source) }
-        ensures given { MatchResult result (λ source. (bytes : List ℕ) → Self.Pages.gives source of_header (Ok bytes)
+        ensures right { honest self.old true class
+            → IfOk result (λ source. IsRightSource Self.Pages.honest source) }
+        ensures given { MatchResult result (λ source. (bytes : List ℕ)
+            → Self.Pages.gives source of_header (Ok bytes)
             → IsGiven (headers self.old class) (Ok bytes))
             (λ fault. IsGiven (headers self.old class) (Err fault)) }
-        ensures fails { IfOk result (λ source. (q : Question) (f : ASourceFault) → IsQuestionOf class q → Self.Pages.gives source q (Err f)
+        ensures fails { IfOk result (λ source. (q : Question) (f : ASourceFault)
+            → IsQuestionOf class q → Self.Pages.gives source q (Err f)
             → faults self.old class f ≡ true) }
-        ensures stays { (by_pages : Bool) (c : AClass) → honest self.old by_pages c → honest self.new by_pages c }
+        ensures stays { (by_pages : Bool) (c : AClass) → honest self.old by_pages c
+            → honest self.new by_pages c }
         ensures files { (c : AClass) → files self.new c ≡ files self.old c }
         ensures headers { (c : AClass) → headers self.new c ≡ headers self.old c }
-        ensures faults { (c : AClass) (f : ASourceFault) → faults self.new c f ≡ faults self.old c f };
+        ensures faults { (c : AClass) (f : ASourceFault)
+            → faults self.new c f ≡ faults self.old c f };
 }

@@ -37,9 +37,11 @@ pub fn table_command<'a, S: TableStore, A: Allocator>(
     name: &str,
 ) -> Answer<'a, A>
     ensures { (trusted : AClass → Bool) (s : State) → IsTrustedClass trusted word name.now
-        → HoldsTables S.Pages.honest S.Pages.gives tables.old s → StoreSeen (HonestOn trusted S.honest) S.files S.headers S.faults store.old s
+        → HoldsTables S.Pages.honest S.Pages.gives tables.old s
+        → StoreSeen (HonestOn trusted S.honest) S.files S.headers S.faults store.old s
         → Executed (λ o. IsClassReply s o word name.now)
-        (λ t. TablesFrom S.Pages.honest S.Pages.gives s tables.new t × StoreSeen (HonestOn trusted S.honest) S.files S.headers S.faults store.new t)
+        (λ t. TablesFrom S.Pages.honest S.Pages.gives s tables.new t
+        × StoreSeen (HonestOn trusted S.honest) S.files S.headers S.faults store.new t)
         result }
 {
     match in_tables(alloc, tables, store, word, name) {
@@ -56,9 +58,11 @@ fn in_tables<'a, S: TableStore, A: Allocator>(
     name: &str,
 ) -> Result<TableReply, Refusal>
     ensures { (trusted : AClass → Bool) (s : State) → IsTrustedClass trusted word name.now
-        → HoldsTables S.Pages.honest S.Pages.gives tables.old s → StoreSeen (HonestOn trusted S.honest) S.files S.headers S.faults store.old s
+        → HoldsTables S.Pages.honest S.Pages.gives tables.old s
+        → StoreSeen (HonestOn trusted S.honest) S.files S.headers S.faults store.old s
         → Decided (λ o. IsClassReply s o word name.now)
-        (λ t. TablesFrom S.Pages.honest S.Pages.gives s tables.new t × StoreSeen (HonestOn trusted S.honest) S.files S.headers S.faults store.new t)
+        (λ t. TablesFrom S.Pages.honest S.Pages.gives s tables.new t
+        × StoreSeen (HonestOn trusted S.honest) S.files S.headers S.faults store.new t)
         result }
 {
     match tables {
@@ -76,9 +80,11 @@ fn whole_command<'a, S: TableStore, A: Allocator>(
     name: &str,
 ) -> Result<TableReply, Refusal>
     ensures { (trusted : AClass → Bool) (s : State) → IsTrustedClass trusted word name.now
-        → HoldsWhole tables.old s → StoreSeen (HonestOn trusted S.honest) S.files S.headers S.faults store.old s
+        → HoldsWhole tables.old s
+        → StoreSeen (HonestOn trusted S.honest) S.files S.headers S.faults store.old s
         → Decided (λ o. IsNamedReply s o word (class_told name.now))
-        (λ t. HoldsWhole tables.new t × (t.document ≡ s.document) × StoreSeen (HonestOn trusted S.honest) S.files S.headers S.faults store.new t) result }
+        (λ t. HoldsWhole tables.new t × (t.document ≡ s.document)
+        × StoreSeen (HonestOn trusted S.honest) S.files S.headers S.faults store.new t) result }
 {
     let class = class_of_name(name)?;
     match word {
@@ -97,7 +103,8 @@ fn paged_command<'a, S: TableStore, A: Allocator>(
     name: &str,
 ) -> Result<TableReply, Refusal>
     ensures { (trusted : AClass → Bool) (s : State) → IsTrustedClass trusted word name.now
-        → HoldsPaged S.Pages.honest S.Pages.gives tables.old s → StoreSeen (HonestOn trusted S.honest) S.files S.headers S.faults store.old s
+        → HoldsPaged S.Pages.honest S.Pages.gives tables.old s
+        → StoreSeen (HonestOn trusted S.honest) S.files S.headers S.faults store.old s
         → Decided (λ o. IsClassReply s o word name.now)
         (λ t. HoldsPaged S.Pages.honest S.Pages.gives tables.new t × (t.document ≡ s.document)
         × StoreSeen (HonestOn trusted S.honest) S.files S.headers S.faults store.new t)
@@ -129,7 +136,8 @@ fn build_class<'a, A: Allocator>(
     class: Class,
 ) -> Result<TableReply, Refusal>
     ensures { (s : State) → HoldsWhole tables.old s
-        → Decided (λ o. IsBuildReply s o class (is_among s.classes class) (first_lacking s.classes class))
+        → Decided (λ o.
+        IsBuildReply s o class (is_among s.classes class) (first_lacking s.classes class))
         (WholeFrom s tables.new) result }
 {
     if has_table(tables, class) {
@@ -158,7 +166,10 @@ fn has_table<'a, A: Allocator>(tables: &WholeTables<'a, A>, class: Class) -> boo
 /// Adds a table whose class is not loaded, and whose needs are.
 fn add_table<'a, A: Allocator>(tables: &mut WholeTables<'a, A>, table: Table<'a, A>)
     requires { add_fault tables.old.tables table.class ≡ None }
-    ensures held { tables.new ≡ record tables.old { tables = slice_set tables.old.tables (class_number table.entry.class) (Some table.entry) } }
+    ensures held { tables.new
+        ≡ record tables.old {
+          tables = slice_set tables.old.tables (class_number table.entry.class) (Some table.entry);
+        } }
     ensures complete { IsComplete table.entry }
 {
     let _class = table.class();
@@ -175,8 +186,10 @@ fn load_class<'a, S: TableStore, A: Allocator>(
 ) -> Result<TableReply, Refusal>
     ensures { (trusted : AClass → Bool) (s : State) → trusted class ≡ true → HoldsWhole tables.old s
         → StoreSeen (HonestOn trusted S.honest) S.files S.headers S.faults store.old s
-        → Decided (λ o. IsLoadReply s o class (is_among s.classes class) (first_lacking s.classes class))
-        (λ t. WholeFrom s tables.new t × StoreSeen (HonestOn trusted S.honest) S.files S.headers S.faults store.new t) result }
+        → Decided (λ o.
+        IsLoadReply s o class (is_among s.classes class) (first_lacking s.classes class))
+        (λ t. WholeFrom s tables.new t
+        × StoreSeen (HonestOn trusted S.honest) S.files S.headers S.faults store.new t) result }
 {
     if has_table(tables, class) {
         return Err(Refusal::AlreadyHeld(class));
@@ -199,9 +212,12 @@ fn read_table_file<'a, S: TableStore, A: Allocator>(
     class: Class,
 ) -> Result<Table<'a, A>, Refusal>
     ensures read { S.honest store.old false class
-        → IfOk result (λ t. (bytes : List ℕ) × IsGiven (S.files store.old class) (Ok bytes) × (table_read bytes ≡ Ok t) × IsRight t) }
-    ensures refused { S.honest store.old false class → IfErr result (λ refusal. IsFileRefusal (S.files store.old class) refusal) }
-    ensures store { (trusted : AClass → Bool) (s : State) → StoreSeen (HonestOn trusted S.honest) S.files S.headers S.faults store.old s
+        → IfOk result (λ t. (bytes : List ℕ) × IsGiven (S.files store.old class) (Ok bytes)
+        × (table_read bytes ≡ Ok t) × IsRight t) }
+    ensures refused { S.honest store.old false class
+        → IfErr result (λ refusal. IsFileRefusal (S.files store.old class) refusal) }
+    ensures store { (trusted : AClass → Bool) (s : State)
+        → StoreSeen (HonestOn trusted S.honest) S.files S.headers S.faults store.old s
         → StoreSeen (HonestOn trusted S.honest) S.files S.headers S.faults store.new s }
 {
     let mut reader = match store.reader(class) {
@@ -230,7 +246,8 @@ fn open_class<'a, S: TableStore, A: Allocator>(
     store: &mut S,
     class: Class,
 ) -> Result<TableReply, Refusal>
-    ensures { (trusted : AClass → Bool) (s : State) → trusted class ≡ true → HoldsPaged S.Pages.honest S.Pages.gives tables.old s
+    ensures { (trusted : AClass → Bool) (s : State) → trusted class ≡ true
+        → HoldsPaged S.Pages.honest S.Pages.gives tables.old s
         → StoreSeen (HonestOn trusted S.honest) S.files S.headers S.faults store.old s
         → Decided (λ o. IsOpenReply s o class (is_among s.classes class))
         (λ t. HoldsPaged S.Pages.honest S.Pages.gives tables.new t × (t.document ≡ s.document)
@@ -268,9 +285,11 @@ fn save_class<'a, S: TableStore, A: Allocator>(
     store: &mut S,
     class: Class,
 ) -> Result<TableReply, Refusal>
-    ensures { (trusted : AClass → Bool) (s : State) → HoldsWhole tables.now s → StoreSeen (HonestOn trusted S.honest) S.files S.headers S.faults store.old s
+    ensures { (trusted : AClass → Bool) (s : State) → HoldsWhole tables.now s
+        → StoreSeen (HonestOn trusted S.honest) S.files S.headers S.faults store.old s
         → Decided (λ o reply. reply ≡ save_reply s o class (is_among s.classes class))
-        (λ t. HoldsWhole tables.now t × (t.document ≡ s.document) × StoreSeen (HonestOn trusted S.honest) S.files S.headers S.faults store.new t) result }
+        (λ t. HoldsWhole tables.now t × (t.document ≡ s.document)
+        × StoreSeen (HonestOn trusted S.honest) S.files S.headers S.faults store.new t) result }
 {
     let Some(table) = tables.tables().table(class) else {
         return Err(Refusal::NoTable(class));
@@ -289,7 +308,8 @@ fn verify_class<'a, A: Allocator>(
     class: Class,
 ) -> Result<TableReply, Refusal>
     ensures { (s : State) → HoldsWhole tables.now s
-        → Decided (λ o reply. reply ≡ verify_reply s class (is_among s.classes class)) (WholeFrom s tables.now) result }
+        → Decided (λ o reply. reply ≡ verify_reply s class (is_among s.classes class))
+        (WholeFrom s tables.now) result }
 {
     match is_right(tables, class) {
         None => Err(Refusal::NoTable(class)),
@@ -300,7 +320,9 @@ fn verify_class<'a, A: Allocator>(
 /// Whether the loaded table of a class is right, if the tables that it needs are; `None` if it is not loaded.
 pub fn is_right<'a, A: Allocator>(tables: &WholeTables<'a, A>, class: Class) -> Option<bool>
     ensures held { is_some result ≡ is_some (table_of tables.now.tables class) }
-    ensures right { NeedsAreRight tables.now.tables class → IfSome result (λ told. IfSome (table_of tables.now.tables class) (λ t. IsTrue told ↔ IsRight t)) }
+    ensures right { NeedsAreRight tables.now.tables class
+        → IfSome result (λ told.
+        IfSome (table_of tables.now.tables class) (λ t. IsTrue told ↔ IsRight t)) }
 {
     match tables.tables().table(class) {
         None => None,

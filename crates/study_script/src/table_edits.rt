@@ -28,6 +28,7 @@ pub fn set_position<'a, P: PageSource, A: Allocator>(
     start: Start,
     tables: &mut Tables<'a, P, A>,
 ) -> Result<(), Refusal<'a, A>>
+    // Many clauses: those of the study after the edit, and those of the values that it probes.
     ensures refusal { IfErr result (IsOutside (tables_held tables.old) (asked_at start.position)) }
     ensures device { IfErr result (HasNoDeviceFault (are_paged tables.old)) }
     ensures takes_no_memory { IfErr result (λ e. is_of_tables e ≡ true) }
@@ -35,12 +36,14 @@ pub fn set_position<'a, P: PageSource, A: Allocator>(
         (asked_at start.position) tables.new) }
     ensures no_damage { tables_honest P.honest tables.old → IfErr result IsUndamaged }
     ensures found { OnOk result (AllHeld (tables_held tables.old) (asked_at start.position)) }
-    ensures edited { OnOk result (plain_study (marked bench.new) ≡ with_position (plain_study (marked bench.old)) start) }
+    ensures edited { OnOk result
+        (plain_study (marked bench.new) ≡ with_position (plain_study (marked bench.old)) start) }
     ensures right { tables_honest P.honest tables.old → OnOk result (IsKeptRight bench.new) }
     ensures same { OnErr result (bench.new ≡ bench.old) }
     ensures honest { tables_honest P.honest tables.old → tables_honest P.honest tables.new }
     ensures tables { (c : AClass) → tables_held tables.new c ≡ tables_held tables.old c }
-    ensures fails_as_before { (c : AClass) (f : ASourceFault) → tables_may_fail P.gives tables.new c f → tables_may_fail P.gives tables.old c f }
+    ensures fails_as_before { (c : AClass) (f : ASourceFault)
+        → tables_may_fail P.gives tables.new c f → tables_may_fail P.gives tables.old c f }
     ensures mode { are_paged tables.new ≡ are_paged tables.old }
 {
     match tables {
@@ -55,20 +58,28 @@ pub fn shift_position<'a, P: PageSource, A: Allocator>(
     start: Start,
     tables: &mut Tables<'a, P, A>,
 ) -> Result<(), Refusal<'a, A>>
-    ensures refusal { IfErr result (IsShiftRefusal (tables_held tables.old) (positions_asked (with_start (plain_study (marked bench.old)) start))
+    // Many clauses: those of the study after the edit, and those of the values that it probes.
+    ensures refusal { IfErr result
+        (IsShiftRefusal (tables_held tables.old)
+        (positions_asked (with_start (plain_study (marked bench.old)) start))
         (shift_refusal (plain_study (marked bench.old)) start)) }
-    ensures broken { OnOk result (first_illegal_from 0 start.position (marked bench.old).tree.below ≡ None) }
+    ensures broken { OnOk result
+        (first_illegal_from 0 start.position (marked bench.old).tree.below ≡ None) }
     ensures device { IfErr result (HasNoDeviceFault (are_paged tables.old)) }
     ensures first { IfErr result (TellsFirstFault (tables_source P.honest P.gives) tables.old
         (positions_asked (with_start (plain_study (marked bench.old)) start)) tables.new) }
     ensures no_damage { tables_honest P.honest tables.old → IfErr result IsUndamaged }
-    ensures found { OnOk result (AllHeld (tables_held tables.old) (positions_asked (with_start (plain_study (marked bench.old)) start))) }
-    ensures edited { OnOk result (plain_study (marked bench.new) ≡ with_start (plain_study (marked bench.old)) start) }
+    ensures found { OnOk result
+        (AllHeld (tables_held tables.old)
+        (positions_asked (with_start (plain_study (marked bench.old)) start))) }
+    ensures edited { OnOk result
+        (plain_study (marked bench.new) ≡ with_start (plain_study (marked bench.old)) start) }
     ensures right { tables_honest P.honest tables.old → OnOk result (IsKeptRight bench.new) }
     ensures same { OnErr result (bench.new ≡ bench.old) }
     ensures honest { tables_honest P.honest tables.old → tables_honest P.honest tables.new }
     ensures tables { (c : AClass) → tables_held tables.new c ≡ tables_held tables.old c }
-    ensures fails_as_before { (c : AClass) (f : ASourceFault) → tables_may_fail P.gives tables.new c f → tables_may_fail P.gives tables.old c f }
+    ensures fails_as_before { (c : AClass) (f : ASourceFault)
+        → tables_may_fail P.gives tables.new c f → tables_may_fail P.gives tables.old c f }
     ensures mode { are_paged tables.new ≡ are_paged tables.old }
 {
     match tables {
@@ -84,21 +95,30 @@ pub fn insert_move<'a, P: PageSource, A: Allocator>(
     m: Move,
     tables: &mut Tables<'a, P, A>,
 ) -> Result<u16, Refusal<'a, A>>
+    // Many clauses: those of the study after the edit, and those of the values that it probes.
     ensures refusal { MatchOption (insert_refusal (plain_study (marked bench.old)) path.now m)
-        (IfErr result (IsOutside (tables_held tables.old) (asked_at (after (position_at (marked bench.old) path.now) m))))
+        (IfErr result
+        (IsOutside (tables_held tables.old)
+        (asked_at (after (position_at (marked bench.old) path.now) m))))
         (λ fault. result ≡ Err fault) }
     ensures device { IfErr result (HasNoDeviceFault (are_paged tables.old)) }
     ensures first { IfErr result (TellsFirstFault (tables_source P.honest P.gives) tables.old
         (asked_at (after (position_at (marked bench.old) path.now) m)) tables.new) }
     ensures no_damage { tables_honest P.honest tables.old → IfErr result IsUndamaged }
-    ensures found { OnOk result (AllHeld (tables_held tables.old) (asked_at (after (position_at (marked bench.old) path.now) m))) }
-    ensures edited { OnOk result (plain_study (marked bench.new) ≡ with_insertion (plain_study (marked bench.old)) path.now m) }
+    ensures found { OnOk result
+        (AllHeld (tables_held tables.old)
+        (asked_at (after (position_at (marked bench.old) path.now) m))) }
+    ensures edited { OnOk result
+        (plain_study (marked bench.new)
+        ≡ with_insertion (plain_study (marked bench.old)) path.now m) }
     ensures place { IfOk result (λ k. k ≡ children_at (marked bench.old).tree.below path.now) }
-    ensures right { tables_honest P.honest tables.old → IsKeptRight bench.old → OnOk result (IsKeptRight bench.new) }
+    ensures right { tables_honest P.honest tables.old → IsKeptRight bench.old
+        → OnOk result (IsKeptRight bench.new) }
     ensures same { OnErr result (bench.new ≡ bench.old) }
     ensures honest { tables_honest P.honest tables.old → tables_honest P.honest tables.new }
     ensures tables { (c : AClass) → tables_held tables.new c ≡ tables_held tables.old c }
-    ensures fails_as_before { (c : AClass) (f : ASourceFault) → tables_may_fail P.gives tables.new c f → tables_may_fail P.gives tables.old c f }
+    ensures fails_as_before { (c : AClass) (f : ASourceFault)
+        → tables_may_fail P.gives tables.new c f → tables_may_fail P.gives tables.old c f }
     ensures mode { are_paged tables.new ≡ are_paged tables.old }
 {
     match tables {
@@ -114,6 +134,7 @@ pub fn new_bench<'a, P: PageSource, A: Allocator>(
     stipulation: Stipulation,
     tables: &mut Tables<'a, P, A>,
 ) -> Result<Bench<'a, A>, Refusal<'a, A>>
+    // Many clauses: those of the study after the edit, and those of the values that it probes.
     ensures refusal { IfErr result (IsOutside (tables_held tables.old) (asked_at start.position)) }
     ensures device { IfErr result (HasNoDeviceFault (are_paged tables.old)) }
     ensures takes_no_memory { IfErr result (λ e. is_of_tables e ≡ true) }
@@ -125,7 +146,8 @@ pub fn new_bench<'a, P: PageSource, A: Allocator>(
     ensures right { tables_honest P.honest tables.old → IfOk result IsKeptRight }
     ensures honest { tables_honest P.honest tables.old → tables_honest P.honest tables.new }
     ensures tables { (c : AClass) → tables_held tables.new c ≡ tables_held tables.old c }
-    ensures fails_as_before { (c : AClass) (f : ASourceFault) → tables_may_fail P.gives tables.new c f → tables_may_fail P.gives tables.old c f }
+    ensures fails_as_before { (c : AClass) (f : ASourceFault)
+        → tables_may_fail P.gives tables.new c f → tables_may_fail P.gives tables.old c f }
     ensures mode { are_paged tables.new ≡ are_paged tables.old }
 {
     match tables {

@@ -169,7 +169,8 @@ fn next_facing<V: CellPages>(
     requires page { 4096 * page < 2 * side_step class }
     requires from { 4096 * page ≤ from }
     requires to { to ≤ 4096 * page + 4096 }
-    ensures game { V.source.is_honest values.old → AreValuesOf class page own.now → IfOk result (IsNext (IsZugzwangAt class) from to) }
+    ensures game { V.source.is_honest values.old → AreValuesOf class page own.now
+        → IfOk result (IsNext (IsZugzwangAt class) from to) }
     ensures within { IfOk result (λ next. IfSome next (λ n. (from ≤ n) × (n < to))) }
     ensures faults { IfErr result (CanReport V.source values.old) }
     ensures honest { V.source.is_honest values.old → V.source.is_honest values.new }
@@ -196,7 +197,8 @@ fn next_on_page<V: CellPages>(
     requires page { 4096 * page < 2 * side_step class }
     requires from { 4096 * page ≤ from }
     requires to { to ≤ 4096 * page + 4096 }
-    ensures game { V.source.is_honest values.old → IfOk result (IsNext (IsZugzwangAt class) from to) }
+    ensures game { V.source.is_honest values.old
+        → IfOk result (IsNext (IsZugzwangAt class) from to) }
     ensures within { IfOk result (λ next. IfSome next (λ n. (from ≤ n) × (n < to))) }
     ensures faults { IfErr result (CanReport V.source values.old) }
     ensures honest { V.source.is_honest values.old → V.source.is_honest values.new }
@@ -250,7 +252,8 @@ fn next_on<V: CellPages>(
     requires theme { search.now.theme ≡ theme.Zugzwang }
     requires whole { side_step search.now.class % 4096 ≡ 0 }
     requires page { 4096 * page < 2 * side_step search.now.class }
-    ensures game { V.source.is_honest values.old → IfOk result (IsNext (IsFoundOn search.now page) from to) }
+    ensures game { V.source.is_honest values.old
+        → IfOk result (IsNext (IsFoundOn search.now page) from to) }
     ensures within { IfOk result (λ next. IfSome next (λ n. (from ≤ n) × (n < to))) }
     ensures faults { IfErr result (CanReport V.source values.old) }
     ensures honest { V.source.is_honest values.old → V.source.is_honest values.new }
@@ -286,7 +289,8 @@ pub fn next_zugzwang<V: CellPages>(
 ) -> Result<Option<u32>, ProbeFault>
     requires theme { search.now.theme ≡ theme.Zugzwang }
     requires whole { side_step search.now.class % 4096 ≡ 0 }
-    ensures game { V.source.is_honest values.old → IfOk result (IsNext (IsFound search.now) from to) }
+    ensures game { V.source.is_honest values.old
+        → IfOk result (IsNext (IsFound search.now) from to) }
     ensures within { IfOk result (λ next. IfSome next (λ n. (from ≤ n) × (n < to))) }
     ensures faults { IfErr result (CanReport V.source values.old) }
     ensures honest { V.source.is_honest values.old → V.source.is_honest values.new }

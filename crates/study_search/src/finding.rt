@@ -50,7 +50,8 @@ fn is_looked_for<V: Values>(
     search: &Search,
     values: &mut V,
 ) -> Result<bool, ProbeFault>
-    ensures game { V.source.is_honest values.old → IfOk result (λ b. (b ≡ true) ↔ IsLookedFor search.now p.now) }
+    ensures game { V.source.is_honest values.old
+        → IfOk result (λ b. (b ≡ true) ↔ IsLookedFor search.now p.now) }
     ensures faults { IfErr result (CanReport V.source values.old) }
     ensures honest { V.source.is_honest values.old → V.source.is_honest values.new }
     ensures tables { HasSameTables V.source values.old values.new }
@@ -64,7 +65,8 @@ fn is_looked_for<V: Values>(
 
 /// Whether the number is that of a matching position.
 fn is_found<V: Values>(search: &Search, number: u32, values: &mut V) -> Result<bool, ProbeFault>
-    ensures game { V.source.is_honest values.old → IfOk result (λ b. (b ≡ true) ↔ IsFound search.now number) }
+    ensures game { V.source.is_honest values.old
+        → IfOk result (λ b. (b ≡ true) ↔ IsFound search.now number) }
     ensures faults { IfErr result (CanReport V.source values.old) }
     ensures honest { V.source.is_honest values.old → V.source.is_honest values.new }
     ensures tables { HasSameTables V.source values.old values.new }
@@ -86,7 +88,8 @@ fn next_by_values<V: Values>(
     to: u32,
     values: &mut V,
 ) -> Result<Option<u32>, ProbeFault>
-    ensures game { V.source.is_honest values.old → IfOk result (IsNext (IsFound search.now) from to) }
+    ensures game { V.source.is_honest values.old
+        → IfOk result (IsNext (IsFound search.now) from to) }
     ensures within { IfOk result (λ next. IfSome next (λ n. (from ≤ n) × (n < to))) }
     ensures faults { IfErr result (CanReport V.source values.old) }
     ensures honest { V.source.is_honest values.old → V.source.is_honest values.new }
@@ -109,7 +112,8 @@ pub fn next_found<V: CellPages>(
     to: u32,
     values: &mut V,
 ) -> Result<Option<u32>, ProbeFault>
-    ensures game { V.source.is_honest values.old → IfOk result (IsNext (IsFound search.now) from to) }
+    ensures game { V.source.is_honest values.old
+        → IfOk result (IsNext (IsFound search.now) from to) }
     ensures within { IfOk result (λ next. IfSome next (λ n. (from ≤ n) × (n < to))) }
     ensures faults { IfErr result (CanReport V.source values.old) }
     ensures honest { V.source.is_honest values.old → V.source.is_honest values.new }

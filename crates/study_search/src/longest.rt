@@ -38,7 +38,8 @@ fn mate_by(value: Value) -> Option<u8>
 
 /// The number of plies in which the side to move mates, if it does.
 pub fn mate_of<V: Values>(p: &Position, values: &mut V) -> Result<Option<u8>, ProbeFault>
-    ensures game { V.source.is_honest values.old → IfOk result (λ mate. (k : ℕ) → (mate ≡ Some k) ↔ IsWon p.now k) }
+    ensures game { V.source.is_honest values.old
+        → IfOk result (λ mate. (k : ℕ) → (mate ≡ Some k) ↔ IsWon p.now k) }
     ensures faults { IfErr result (CanReport V.source values.old) }
     ensures honest { V.source.is_honest values.old → V.source.is_honest values.new }
     ensures tables { HasSameTables V.source values.old values.new }
@@ -52,7 +53,8 @@ pub fn mate_of<V: Values>(p: &Position, values: &mut V) -> Result<Option<u8>, Pr
 
 /// The number of plies in which the side mates, if it is to move and does.
 fn mate_for<V: Values>(p: &Position, side: Side, values: &mut V) -> Result<Option<u8>, ProbeFault>
-    ensures game { V.source.is_honest values.old → IfOk result (λ mate. (k : ℕ) → (mate ≡ Some k) ↔ MatesIn side k p.now) }
+    ensures game { V.source.is_honest values.old
+        → IfOk result (λ mate. (k : ℕ) → (mate ≡ Some k) ↔ MatesIn side k p.now) }
     ensures faults { IfErr result (CanReport V.source values.old) }
     ensures honest { V.source.is_honest values.old → V.source.is_honest values.new }
     ensures tables { HasSameTables V.source values.old values.new }
@@ -71,7 +73,8 @@ fn mate_at<V: Values>(
     number: u32,
     values: &mut V,
 ) -> Result<Option<u8>, ProbeFault>
-    ensures game { V.source.is_honest values.old → IfOk result (λ mate. (k : ℕ) → (mate ≡ Some k) ↔ MatesAt class side number k) }
+    ensures game { V.source.is_honest values.old
+        → IfOk result (λ mate. (k : ℕ) → (mate ≡ Some k) ↔ MatesAt class side number k) }
     ensures faults { IfErr result (CanReport V.source values.old) }
     ensures honest { V.source.is_honest values.old → V.source.is_honest values.new }
     ensures tables { HasSameTables V.source values.old values.new }

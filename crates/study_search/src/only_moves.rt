@@ -49,7 +49,8 @@ pub(crate) fn has<V: Values>(
     outcome: Outcome,
     values: &mut V,
 ) -> Result<bool, ProbeFault>
-    ensures game { V.source.is_honest values.old → IfOk result (λ b. (b ≡ true) ↔ Has outcome p.now) }
+    ensures game { V.source.is_honest values.old
+        → IfOk result (λ b. (b ≡ true) ↔ Has outcome p.now) }
     ensures faults { IfErr result (CanReport V.source values.old) }
     ensures honest { V.source.is_honest values.old → V.source.is_honest values.new }
     ensures tables { HasSameTables V.source values.old values.new }
@@ -63,7 +64,8 @@ pub(crate) fn has<V: Values>(
 
 /// Whether the move that led here keeps the outcome.
 fn holds<V: Values>(q: &Position, outcome: Outcome, values: &mut V) -> Result<bool, ProbeFault>
-    ensures game { V.source.is_honest values.old → IfOk result (λ b. (b ≡ true) ↔ Holds outcome q.now) }
+    ensures game { V.source.is_honest values.old
+        → IfOk result (λ b. (b ≡ true) ↔ Holds outcome q.now) }
     ensures faults { IfErr result (CanReport V.source values.old) }
     ensures honest { V.source.is_honest values.old → V.source.is_honest values.new }
     ensures tables { HasSameTables V.source values.old values.new }
@@ -83,7 +85,8 @@ fn some_holds<V: Values>(
     values: &mut V,
 ) -> Result<bool, ProbeFault>
     requires legal { All (λ m. is_legal p.now m ≡ true) moves.now }
-    ensures game { V.source.is_honest values.old → IfOk result (λ b. (b ≡ true) ↔ SomeLeads (Holds outcome) p.now moves.now) }
+    ensures game { V.source.is_honest values.old
+        → IfOk result (λ b. (b ≡ true) ↔ SomeLeads (Holds outcome) p.now moves.now) }
     ensures faults { IfErr result (CanReport V.source values.old) }
     ensures honest { V.source.is_honest values.old → V.source.is_honest values.new }
     ensures tables { HasSameTables V.source values.old values.new }
@@ -109,7 +112,9 @@ fn only_among<V: Values>(
     values: &mut V,
 ) -> Result<Option<Move>, ProbeFault>
     requires legal { All (λ m. is_legal p.now m ≡ true) moves.now }
-    ensures game { V.source.is_honest values.old → IfOk result (λ only. (m : AMove) → (only ≡ Some m) ↔ IsOnlyAmong outcome p.now m moves.now) }
+    ensures game { V.source.is_honest values.old
+        → IfOk result (λ only. (m : AMove) → (only ≡ Some m)
+        ↔ IsOnlyAmong outcome p.now m moves.now) }
     ensures legal { IfOk result (λ only. IfSome only (λ m. is_legal p.now m ≡ true)) }
     ensures faults { IfErr result (CanReport V.source values.old) }
     ensures honest { V.source.is_honest values.old → V.source.is_honest values.new }
@@ -138,7 +143,8 @@ pub fn only_move<V: Values>(
     outcome: Outcome,
     values: &mut V,
 ) -> Result<Option<Move>, ProbeFault>
-    ensures game { V.source.is_honest values.old → IfOk result (λ only. (m : AMove) → (only ≡ Some m) ↔ IsOnlyMove outcome p.now m) }
+    ensures game { V.source.is_honest values.old
+        → IfOk result (λ only. (m : AMove) → (only ≡ Some m) ↔ IsOnlyMove outcome p.now m) }
     ensures legal { IfOk result (λ only. IfSome only (λ m. is_legal p.now m ≡ true)) }
     ensures faults { IfErr result (CanReport V.source values.old) }
     ensures honest { V.source.is_honest values.old → V.source.is_honest values.new }
@@ -154,7 +160,8 @@ pub fn key_move<V: Values>(
     outcome: Outcome,
     values: &mut V,
 ) -> Result<Option<Move>, ProbeFault>
-    ensures game { V.source.is_honest values.old → IfOk result (λ only. (m : AMove) → (only ≡ Some m) ↔ IsKey outcome p.now m) }
+    ensures game { V.source.is_honest values.old
+        → IfOk result (λ only. (m : AMove) → (only ≡ Some m) ↔ IsKey outcome p.now m) }
     ensures legal { IfOk result (λ only. IfSome only (λ m. is_legal p.now m ≡ true)) }
     ensures faults { IfErr result (CanReport V.source values.old) }
     ensures honest { V.source.is_honest values.old → V.source.is_honest values.new }
@@ -179,7 +186,8 @@ fn some_reply_leads<V: Values>(
     requires legal { All (λ m. is_legal q.now m ≡ true) replies.now }
     requires few { length replies.now ≤ MAX_MOVES }
     requires some { 0 < n }
-    ensures game { V.source.is_honest values.old → IfOk result (λ b. (b ≡ true) ↔ SomeLeads (HasOnlyMoves outcome n) q.now replies.now) }
+    ensures game { V.source.is_honest values.old
+        → IfOk result (λ b. (b ≡ true) ↔ SomeLeads (HasOnlyMoves outcome n) q.now replies.now) }
     ensures faults { IfErr result (CanReport V.source values.old) }
     ensures honest { V.source.is_honest values.old → V.source.is_honest values.new }
     ensures tables { HasSameTables V.source values.old values.new }
@@ -238,7 +246,8 @@ fn has_only_moves_on<V: Values>(
     values: &mut V,
 ) -> Result<bool, ProbeFault>
     requires { 0 < n }
-    ensures game { V.source.is_honest values.old → IfOk result (λ b. (b ≡ true) ↔ HasOnlyMoves outcome n p.now) }
+    ensures game { V.source.is_honest values.old
+        → IfOk result (λ b. (b ≡ true) ↔ HasOnlyMoves outcome n p.now) }
     ensures faults { IfErr result (CanReport V.source values.old) }
     ensures honest { V.source.is_honest values.old → V.source.is_honest values.new }
     ensures tables { HasSameTables V.source values.old values.new }
@@ -257,7 +266,8 @@ pub fn has_only_moves<V: Values>(
     n: u8,
     values: &mut V,
 ) -> Result<bool, ProbeFault>
-    ensures game { V.source.is_honest values.old → IfOk result (λ b. (b ≡ true) ↔ HasOnlyMoves outcome n p.now) }
+    ensures game { V.source.is_honest values.old
+        → IfOk result (λ b. (b ≡ true) ↔ HasOnlyMoves outcome n p.now) }
     ensures faults { IfErr result (CanReport V.source values.old) }
     ensures honest { V.source.is_honest values.old → V.source.is_honest values.new }
     ensures tables { HasSameTables V.source values.old values.new }

@@ -21,7 +21,8 @@ fn has_lower_number<V: Values>(
     q: &Position,
     values: &mut V,
 ) -> Result<bool, ProbeFault>
-    ensures game { V.source.is_honest values.old → IfOk result (λ b. (b ≡ true) ↔ (¬ (IsDrawn q.now) × (index_of p.now ≤ index_of q.now))) }
+    ensures game { V.source.is_honest values.old
+        → IfOk result (λ b. (b ≡ true) ↔ (¬ (IsDrawn q.now) × (index_of p.now ≤ index_of q.now))) }
     ensures faults { IfErr result (CanReport V.source values.old) }
     ensures honest { V.source.is_honest values.old → V.source.is_honest values.new }
     ensures tables { HasSameTables V.source values.old values.new }
@@ -39,7 +40,8 @@ fn has_lower_number<V: Values>(
 
 /// Whether the first of two positions is drawn or, if neither is, has the lower number.
 fn comes_first<V: Values>(p: &Position, q: &Position, values: &mut V) -> Result<bool, ProbeFault>
-    ensures game { V.source.is_honest values.old → IfOk result (λ b. (b ≡ true) ↔ ComesFirst p.now q.now) }
+    ensures game { V.source.is_honest values.old
+        → IfOk result (λ b. (b ≡ true) ↔ ComesFirst p.now q.now) }
     ensures faults { IfErr result (CanReport V.source values.old) }
     ensures honest { V.source.is_honest values.old → V.source.is_honest values.new }
     ensures tables { HasSameTables V.source values.old values.new }
@@ -53,7 +55,8 @@ fn comes_first<V: Values>(p: &Position, q: &Position, values: &mut V) -> Result<
 
 /// Whether, of a mutual zugzwang with White to move and its colour image with the other side to move, this one is listed.
 pub fn is_listed_of_two<V: Values>(p: &Position, values: &mut V) -> Result<bool, ProbeFault>
-    ensures game { V.source.is_honest values.old → IsValid (handed_on p.now) → IfOk result (λ b. (b ≡ true) ↔ IsListedOfTwo p.now) }
+    ensures game { V.source.is_honest values.old → IsValid (handed_on p.now)
+        → IfOk result (λ b. (b ≡ true) ↔ IsListedOfTwo p.now) }
     ensures faults { IfErr result (CanReport V.source values.old) }
     ensures honest { V.source.is_honest values.old → V.source.is_honest values.new }
     ensures tables { HasSameTables V.source values.old values.new }

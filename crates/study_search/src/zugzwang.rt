@@ -27,7 +27,8 @@ fn score<V: Values>(p: &Position, values: &mut V) -> Result<u8, ProbeFault>
 }
 
 fn scores_less_than<V: Values>(p: &Position, limit: u8, values: &mut V) -> Result<bool, ProbeFault>
-    ensures game { V.source.is_honest values.old → IfOk result (λ b. (b ≡ true) ↔ ScoresLessThan p.now limit) }
+    ensures game { V.source.is_honest values.old
+        → IfOk result (λ b. (b ≡ true) ↔ ScoresLessThan p.now limit) }
     ensures faults { IfErr result (CanReport V.source values.old) }
     ensures honest { V.source.is_honest values.old → V.source.is_honest values.new }
     ensures tables { HasSameTables V.source values.old values.new }
@@ -41,7 +42,8 @@ fn scores_less_than<V: Values>(p: &Position, limit: u8, values: &mut V) -> Resul
 
 /// Whether no capture in passing is legal, and the same men are a valid position with the other side to move, in which that side scores less.
 fn other_scores_less<V: Values>(p: &Position, limit: u8, values: &mut V) -> Result<bool, ProbeFault>
-    ensures game { V.source.is_honest values.old → IfOk result (λ b. (b ≡ true) ↔ OtherScoresLess p.now limit) }
+    ensures game { V.source.is_honest values.old
+        → IfOk result (λ b. (b ≡ true) ↔ OtherScoresLess p.now limit) }
     ensures faults { IfErr result (CanReport V.source values.old) }
     ensures honest { V.source.is_honest values.old → V.source.is_honest values.new }
     ensures tables { HasSameTables V.source values.old values.new }
@@ -58,7 +60,8 @@ fn other_scores_less<V: Values>(p: &Position, limit: u8, values: &mut V) -> Resu
 
 /// Whether the position is a mutual zugzwang, whoever is to move. If the side to move wins, nothing else is evaluated.
 pub fn is_zugzwang<V: Values>(p: &Position, values: &mut V) -> Result<bool, ProbeFault>
-    ensures game { V.source.is_honest values.old → IfOk result (λ b. (b ≡ true) ↔ IsZugzwang p.now) }
+    ensures game { V.source.is_honest values.old
+        → IfOk result (λ b. (b ≡ true) ↔ IsZugzwang p.now) }
     ensures faults { IfErr result (CanReport V.source values.old) }
     ensures honest { V.source.is_honest values.old → V.source.is_honest values.new }
     ensures tables { HasSameTables V.source values.old values.new }

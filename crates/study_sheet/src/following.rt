@@ -48,13 +48,17 @@ pub fn follow_sheet<'a, R: Read, W: Write, P: PageSource, A: Allocator>(
     out: &mut W,
     tables: Tables<'a, P, A>,
 ) -> Result<Summary, RunFault>
-    ensures sheet { (classes : List AClass) → tables_honest P.honest tables.entry → ((c : AClass) → tables_held tables.entry c ≡ is_among classes c)
+    ensures sheet { (classes : List AClass) → tables_honest P.honest tables.entry
+        → ((c : AClass) → tables_held tables.entry c ≡ is_among classes c)
         → IfSome (R.remaining script.old)
-        (λ bytes. IsSheet (over_tables classes (are_paged tables.entry)) bytes (R.remaining script.new)
+        (λ bytes.
+        IsSheet (over_tables classes (are_paged tables.entry)) bytes (R.remaining script.new)
         (W.contents out.old) (W.contents out.new) result) }
-    ensures shape { IfSome (R.remaining script.old) (λ bytes. FileShape bytes (R.remaining script.new) result) }
+    ensures shape { IfSome (R.remaining script.old) (λ bytes.
+        FileShape bytes (R.remaining script.new) result) }
     ensures fits { IfSome (R.remaining script.old)
-        (λ bytes. SheetFits bytes (R.remaining script.new) (W.contents out.old) (W.contents out.new) result) }
+        (λ bytes.
+        SheetFits bytes (R.remaining script.new) (W.contents out.old) (W.contents out.new) result) }
 {
     if write_sheet_opening(out).is_err() {
         return Err(RunFault::WriteDevice);

@@ -95,8 +95,10 @@ impl<'a, A: Allocator> TableSet<'a, A> {
 
     /// Adds a table whose class is not loaded and whose needs are; any other table is returned with the reason.
     pub fn add(&mut self, table: Table<'a, A>) -> Result<(), AddRefused<'a, A>>
-        ensures fault { MatchOption (add_fault self.old table.entry.class) (IsOk result) (λ fault. IsErrAnd result (λ e. e.fault ≡ fault)) }
-        ensures added { OnOk result (self.new ≡ slice_set self.old (class_number table.entry.class) (Some table.entry)) }
+        ensures fault { MatchOption (add_fault self.old table.entry.class) (IsOk result) (λ fault.
+            IsErrAnd result (λ e. e.fault ≡ fault)) }
+        ensures added { OnOk result
+            (self.new ≡ slice_set self.old (class_number table.entry.class) (Some table.entry)) }
         ensures same { OnErr result (self.new ≡ self.old) }
         ensures handed_back { IfErr result (λ e. e.table ≡ table.entry) }
     {

@@ -89,8 +89,11 @@ fn padded_cells(cells: &[u8]) -> [u8; PAGE_CELLS]
 /// Writes a header: the fields of the class and their digest.
 #[tactic(auto, unfolding(crate::specs::Format::header_text))]
 fn put_header<W: Write>(out: &mut W, class: Class) -> Result<(), DeviceFailed>
-    ensures ok { OnOk result (Appends (W.contents out.old) (W.contents out.new) (header_text class written_version)) }
-    ensures err { OnErr result (TakesPrefix (W.contents out.old) (W.contents out.new) (header_text class written_version)) }
+    ensures ok { OnOk result
+        (Appends (W.contents out.old) (W.contents out.new) (header_text class written_version)) }
+    ensures err { OnErr result
+        (TakesPrefix (W.contents out.old) (W.contents out.new)
+        (header_text class written_version)) }
 {
     let fields = fields(class, VERSION);
     write_text(out, fields.as_slice())?;
@@ -106,8 +109,12 @@ fn put_page<W: Write>(
     cells: &[u8],
 ) -> Result<(), DeviceFailed>
     requires { length cells.now ≤ 4096 }
-    ensures ok { OnOk result (Appends (W.contents out.old) (W.contents out.new) (page_text fields.now number (page_cells_of cells.now))) }
-    ensures err { OnErr result (TakesPrefix (W.contents out.old) (W.contents out.new) (page_text fields.now number (page_cells_of cells.now))) }
+    ensures ok { OnOk result
+        (Appends (W.contents out.old) (W.contents out.new)
+        (page_text fields.now number (page_cells_of cells.now))) }
+    ensures err { OnErr result
+        (TakesPrefix (W.contents out.old) (W.contents out.new)
+        (page_text fields.now number (page_cells_of cells.now))) }
 {
     let cells = padded_cells(cells);
     write_text(out, cells.as_slice())?;
@@ -131,8 +138,11 @@ pub fn write_table<'a, A: Allocator, W: Write>(
     table: &Table<'a, A>,
     out: &mut W,
 ) -> Result<(), FileFault>
-    ensures ok { OnOk result (Appends (W.contents out.old) (W.contents out.new) (table_text table.now written_version)) }
-    ensures err { OnErr result (TakesPrefix (W.contents out.old) (W.contents out.new) (table_text table.now written_version)) }
+    ensures ok { OnOk result
+        (Appends (W.contents out.old) (W.contents out.new) (table_text table.now written_version)) }
+    ensures err { OnErr result
+        (TakesPrefix (W.contents out.old) (W.contents out.new)
+        (table_text table.now written_version)) }
     ensures fault { IfErr result (λ e. e ≡ Device) }
 {
     let class = table.class();

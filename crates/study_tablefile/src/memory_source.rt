@@ -25,14 +25,19 @@ pub struct MemorySource<'a> {
 impl<'a> MemorySource<'a> {
     /// The file's bytes from a place on, or a fault that is counted.
     fn bytes(&mut self, start: usize, into: &mut [u8]) -> Result<(), SourceFault>
+        // Many clauses: those of `PageSource`, in the terms of this file.
         ensures len { length into.new ≡ length into.old }
         ensures text { self.new.text.now ≡ self.old.text.now }
         ensures plan { self.new.fails_at ≡ self.old.fails_at }
         ensures asked { self.new.asked ≡ counted self.old.asked }
-        ensures ok { OnOk result (into.new ≡ take (length into.old) (drop start self.old.text.now)) }
+        ensures ok { OnOk result (into.new
+            ≡ take (length into.old) (drop start self.old.text.now)) }
         ensures within { OnOk result (start + length into.old ≤ length self.old.text.now) }
-        ensures device { IsErrOf result SourceFault.Device ↔ (self.old.fails_at ≡ Some self.old.asked) }
-        ensures short { IsErrOf result SourceFault.Short ↔ ((self.old.fails_at ≢ Some self.old.asked) × (length self.old.text.now < start + length into.old)) }
+        ensures device { IsErrOf result SourceFault.Device
+            ↔ (self.old.fails_at ≡ Some self.old.asked) }
+        ensures short { IsErrOf result SourceFault.Short
+            ↔ ((self.old.fails_at ≢ Some self.old.asked)
+            × (length self.old.text.now < start + length into.old)) }
         ensures no_failure { OnOk result (self.new.failures ≡ self.old.failures) }
         ensures failure { OnErr result (self.new.failures ≡ counted self.old.failures) }
     {
@@ -71,14 +76,20 @@ impl<'a> PageSource for MemorySource<'a> {
 
     #[tactic(auto, using(crate::proofs::ReadAgain::header_given))]
     fn header(&mut self, into: &mut [u8; HEADER_BYTES]) -> Result<(), SourceFault>
-        ensures ok { (t : Seen) (v : ℕ) → self.old.text.now ≡ table_text t v → OnOk result (into.new ≡ header_text t.class v) }
-        ensures given { OnOk result (IsAnswerOf self.old.text.now self.old.fails_at of_header (Ok into.new)) }
-        ensures refused { IfErr result (λ fault. IsAnswerOf self.old.text.now self.old.fails_at of_header (Err fault)) }
+        // Many clauses: those of `PageSource`, in the terms of this file.
+        ensures ok { (t : Seen) (v : ℕ) → self.old.text.now ≡ table_text t v
+            → OnOk result (into.new ≡ header_text t.class v) }
+        ensures given { OnOk result
+            (IsAnswerOf self.old.text.now self.old.fails_at of_header (Ok into.new)) }
+        ensures refused { IfErr result (λ fault.
+            IsAnswerOf self.old.text.now self.old.fails_at of_header (Err fault)) }
         ensures text { self.new.text.now ≡ self.old.text.now }
         ensures plan { self.new.fails_at ≡ self.old.fails_at }
         ensures asked { self.new.asked ≡ counted self.old.asked }
-        ensures device { IsErrOf result SourceFault.Device ↔ (self.old.fails_at ≡ Some self.old.asked) }
-        ensures short { IsErrOf result SourceFault.Short ↔ ((self.old.fails_at ≢ Some self.old.asked) × (length self.old.text.now < 64)) }
+        ensures device { IsErrOf result SourceFault.Device
+            ↔ (self.old.fails_at ≡ Some self.old.asked) }
+        ensures short { IsErrOf result SourceFault.Short
+            ↔ ((self.old.fails_at ≢ Some self.old.asked) × (length self.old.text.now < 64)) }
         ensures no_failure { OnOk result (self.new.failures ≡ self.old.failures) }
         ensures failure { OnErr result (self.new.failures ≡ counted self.old.failures) }
     {
@@ -86,14 +97,21 @@ impl<'a> PageSource for MemorySource<'a> {
     }
 
     fn page(&mut self, n: u32, into: &mut [u8; PAGE_BYTES]) -> Result<(), SourceFault>
-        ensures ok { (t : Seen) (v : ℕ) → self.old.text.now ≡ table_text t v → n < pages_of t.class → OnOk result (into.new ≡ page_of t v n) }
-        ensures given { OnOk result (IsAnswerOf self.old.text.now self.old.fails_at (of_page n) (Ok into.new)) }
-        ensures refused { IfErr result (λ fault. IsAnswerOf self.old.text.now self.old.fails_at (of_page n) (Err fault)) }
+        // Many clauses: those of `PageSource`, in the terms of this file.
+        ensures ok { (t : Seen) (v : ℕ) → self.old.text.now ≡ table_text t v → n < pages_of t.class
+            → OnOk result (into.new ≡ page_of t v n) }
+        ensures given { OnOk result
+            (IsAnswerOf self.old.text.now self.old.fails_at (of_page n) (Ok into.new)) }
+        ensures refused { IfErr result (λ fault.
+            IsAnswerOf self.old.text.now self.old.fails_at (of_page n) (Err fault)) }
         ensures text { self.new.text.now ≡ self.old.text.now }
         ensures plan { self.new.fails_at ≡ self.old.fails_at }
         ensures asked { self.new.asked ≡ counted self.old.asked }
-        ensures device { IsErrOf result SourceFault.Device ↔ (self.old.fails_at ≡ Some self.old.asked) }
-        ensures short { IsErrOf result SourceFault.Short ↔ ((self.old.fails_at ≢ Some self.old.asked) × (length self.old.text.now < 4192 + 4128 * n)) }
+        ensures device { IsErrOf result SourceFault.Device
+            ↔ (self.old.fails_at ≡ Some self.old.asked) }
+        ensures short { IsErrOf result SourceFault.Short
+            ↔ ((self.old.fails_at ≢ Some self.old.asked)
+            × (length self.old.text.now < 4192 + 4128 * n)) }
         ensures no_failure { OnOk result (self.new.failures ≡ self.old.failures) }
         ensures failure { OnErr result (self.new.failures ≡ counted self.old.failures) }
     {

@@ -72,11 +72,15 @@ pub trait PageSource: Drop {
 
     /// Reads the header of the file.
     fn header(&mut self, into: &mut [u8; HEADER_BYTES]) -> Result<(), SourceFault>
-        ensures ok { (t : Seen) (v : ℕ) → honest self.old t v → OnOk result (into.new ≡ header_text t.class v) }
+        // Many clauses: each kind of answer, and what stays of the source and its counts.
+        ensures ok { (t : Seen) (v : ℕ) → honest self.old t v
+            → OnOk result (into.new ≡ header_text t.class v) }
         ensures given { OnOk result (gives self.old of_header (Ok into.new)) }
         ensures refused { IfErr result (λ fault. gives self.old of_header (Err fault)) }
-        ensures gives_on { (q : Question) (a : Result (List ℕ) ASourceFault) → gives self.old q a → gives self.new q a }
-        ensures gave { (q : Question) (a : Result (List ℕ) ASourceFault) → gives self.new q a → gives self.old q a }
+        ensures gives_on { (q : Question) (a : Result (List ℕ) ASourceFault)
+            → gives self.old q a → gives self.new q a }
+        ensures gave { (q : Question) (a : Result (List ℕ) ASourceFault)
+            → gives self.new q a → gives self.old q a }
         ensures stays { (t : Seen) (v : ℕ) → honest self.old t v → honest self.new t v }
         ensures back { (t : Seen) (v : ℕ) → honest self.new t v → honest self.old t v }
         ensures asked { asked self.new ≡ counted (asked self.old) }
@@ -85,11 +89,14 @@ pub trait PageSource: Drop {
 
     /// Reads a page of the file, counted from 0.
     fn page(&mut self, n: u32, into: &mut [u8; PAGE_BYTES]) -> Result<(), SourceFault>
-        ensures ok { (t : Seen) (v : ℕ) → honest self.old t v → n < pages_of t.class → OnOk result (into.new ≡ page_of t v n) }
+        ensures ok { (t : Seen) (v : ℕ) → honest self.old t v → n < pages_of t.class
+            → OnOk result (into.new ≡ page_of t v n) }
         ensures given { OnOk result (gives self.old (of_page n) (Ok into.new)) }
         ensures refused { IfErr result (λ fault. gives self.old (of_page n) (Err fault)) }
-        ensures gives_on { (q : Question) (a : Result (List ℕ) ASourceFault) → gives self.old q a → gives self.new q a }
-        ensures gave { (q : Question) (a : Result (List ℕ) ASourceFault) → gives self.new q a → gives self.old q a }
+        ensures gives_on { (q : Question) (a : Result (List ℕ) ASourceFault)
+            → gives self.old q a → gives self.new q a }
+        ensures gave { (q : Question) (a : Result (List ℕ) ASourceFault)
+            → gives self.new q a → gives self.old q a }
         ensures stays { (t : Seen) (v : ℕ) → honest self.old t v → honest self.new t v }
         ensures back { (t : Seen) (v : ℕ) → honest self.new t v → honest self.old t v }
         ensures asked { asked self.new ≡ counted (asked self.old) }

@@ -23,8 +23,10 @@ use study_values::{FileFault, HEADER_BYTES, PAGE_BYTES, PAGE_CELLS, cells, pages
 fn read_exactly<R: Read>(input: &mut R, buf: &mut [u8]) -> Result<(), FileFault>
     ensures len { length buf.new ≡ length buf.old }
     ensures ok { OnOk result (Consumes (R.remaining input.old) (R.remaining input.new) buf.new) }
-    ensures fault { IfErr result (λ e. (e ≡ Device) ⊎ ((e ≡ Cut) × IsShort (R.remaining input.old) (length buf.old))) }
-    ensures stops { (bytes : List ℕ) (from pages : ℕ) → R.remaining input.old ≡ Some (drop from bytes) → from + length buf.old ≤ 64 + 4128 * pages
+    ensures fault { IfErr result (λ e. (e ≡ Device)
+        ⊎ ((e ≡ Cut) × IsShort (R.remaining input.old) (length buf.old))) }
+    ensures stops { (bytes : List ℕ) (from pages : ℕ)
+        → R.remaining input.old ≡ Some (drop from bytes) → from + length buf.old ≤ 64 + 4128 * pages
         → IfErr result (IsToldAt bytes pages (R.remaining input.new)) }
 {
     let mut filled = 0usize;
@@ -71,7 +73,9 @@ fn class_of_field(version: u16, field: &[u8]) -> Option<Class>
 
 /// Whether the bytes are the fields of a class in a version, and their digest.
 fn is_header(bytes: &[u8; HEADER_BYTES], class: Class, version: u16) -> bool
-    ensures { result ≡ (bytes_eq (take 32 bytes.now) (fields_text class version) && bytes_eq (take 32 (drop 32 bytes.now))
+    ensures { result
+        ≡ (bytes_eq (take 32 bytes.now) (fields_text class version)
+        && bytes_eq (take 32 (drop 32 bytes.now))
         (sha256 (fields_text class version))) }
 {
     let fields = fields(class, version);
@@ -92,7 +96,8 @@ pub fn version_of(header: &[u8; HEADER_BYTES]) -> u16
 #[tactic(auto, unfolding(crate::specs::Reading::class_read))]
 pub fn read_class(header: &[u8; HEADER_BYTES]) -> Result<Class, FileFault>
     ensures read { result ≡ class_read header.now }
-    ensures whole { (bytes : List ℕ) (pages : ℕ) → IfErr result (λ e. IsReadBefore bytes pages e 64) }
+    ensures whole { (bytes : List ℕ) (pages : ℕ)
+        → IfErr result (λ e. IsReadBefore bytes pages e 64) }
 {
     let mark = &header[..8];
     if mark != b"STUDYDTM".as_slice() {
@@ -116,7 +121,8 @@ pub fn read_class(header: &[u8; HEADER_BYTES]) -> Result<Class, FileFault>
 
 /// Whether a page has the digest of its cells.
 pub fn has_page_digest(fields: &[u8; FIELDS_BYTES], number: u32, page: &[u8; PAGE_BYTES]) -> bool
-    ensures { result ≡ bytes_eq (take 32 (drop 4096 page.now)) (page_digest fields.now number (take 4096 page.now)) }
+    ensures { result ≡ bytes_eq (take 32 (drop 4096 page.now))
+        (page_digest fields.now number (take 4096 page.now)) }
 {
     let digest = page_digest(fields, number, &page[..PAGE_CELLS]);
     let tail = &page[PAGE_CELLS..];
@@ -144,9 +150,12 @@ fn read_page<'a, A: Allocator, R: Read>(
     ensures len { OnOk result (vec_len cells.new ≡ vec_len cells.old + 4096) }
     ensures ok { (bytes : List ℕ) → R.remaining input.old ≡ Some bytes
         → OnOk result ((R.remaining input.new ≡ Some (drop 4128 bytes))
-        × (cells.new.items ≡ cells.old.items ++ take 4096 bytes) × (page_fault fields.now number bytes ≡ None)) }
-    ensures fault { (bytes : List ℕ) → R.remaining input.old ≡ Some bytes → IfErr result (λ e. (e ≡ Device) ⊎ (page_fault fields.now number bytes ≡ Some e)) }
-    ensures stops { (bytes : List ℕ) (pages : ℕ) → R.remaining input.old ≡ Some (drop (64 + 4128 * number) bytes) → number < pages
+        × (cells.new.items ≡ cells.old.items ++ take 4096 bytes)
+        × (page_fault fields.now number bytes ≡ None)) }
+    ensures fault { (bytes : List ℕ) → R.remaining input.old ≡ Some bytes
+        → IfErr result (λ e. (e ≡ Device) ⊎ (page_fault fields.now number bytes ≡ Some e)) }
+    ensures stops { (bytes : List ℕ) (pages : ℕ)
+        → R.remaining input.old ≡ Some (drop (64 + 4128 * number) bytes) → number < pages
         → IfErr result (IsToldAt bytes pages (R.remaining input.new)) }
 {
     let mut page = [0u8; PAGE_BYTES];
@@ -170,9 +179,11 @@ fn read_pages<'a, A: Allocator, R: Read>(
     ensures len { OnOk result (vec_len cells.new ≡ 4096 * pages_of class) }
     ensures ok { (bytes : List ℕ) → R.remaining input.old ≡ Some bytes
         → OnOk result ((rest : List ℕ) × (R.remaining input.new ≡ Some rest)
-        × (pages_read class version 0 (pages_of class) [] bytes ≡ table_end class cells.new.items rest)) }
+        × (pages_read class version 0 (pages_of class) [] bytes
+        ≡ table_end class cells.new.items rest)) }
     ensures fault { (bytes : List ℕ) → R.remaining input.old ≡ Some bytes
-        → IfErr result (λ e. (e ≡ Device) ⊎ (pages_read class version 0 (pages_of class) [] bytes ≡ Err e)) }
+        → IfErr result (λ e. (e ≡ Device)
+        ⊎ (pages_read class version 0 (pages_of class) [] bytes ≡ Err e)) }
     ensures ends { (bytes : List ℕ) → R.remaining input.old ≡ Some (drop 64 bytes)
         → OnOk result (R.remaining input.new ≡ Some (drop (64 + 4128 * pages_of class) bytes)) }
     ensures stops { (bytes : List ℕ) → R.remaining input.old ≡ Some (drop 64 bytes)
@@ -200,10 +211,14 @@ pub fn is_padding(bytes: &[u8]) -> bool
 
 /// Succeeds if nothing is left to read.
 fn at_end<R: Read>(input: &mut R) -> Result<(), FileFault>
-    ensures ok { (bytes : List ℕ) → R.remaining input.old ≡ Some bytes → OnOk result (length bytes ≡ 0) }
-    ensures fault { (bytes : List ℕ) → R.remaining input.old ≡ Some bytes → IfErr result (λ e. (e ≡ Device) ⊎ ((e ≡ TrailingBytes) × (0 < length bytes))) }
-    ensures ends { (bytes : List ℕ) → R.remaining input.old ≡ Some bytes → OnOk result (R.remaining input.new ≡ Some []) }
-    ensures stops { (bytes : List ℕ) (pages : ℕ) → R.remaining input.old ≡ Some (drop (64 + 4128 * pages) bytes)
+    ensures ok { (bytes : List ℕ) → R.remaining input.old ≡ Some bytes
+        → OnOk result (length bytes ≡ 0) }
+    ensures fault { (bytes : List ℕ) → R.remaining input.old ≡ Some bytes
+        → IfErr result (λ e. (e ≡ Device) ⊎ ((e ≡ TrailingBytes) × (0 < length bytes))) }
+    ensures ends { (bytes : List ℕ) → R.remaining input.old ≡ Some bytes
+        → OnOk result (R.remaining input.new ≡ Some []) }
+    ensures stops { (bytes : List ℕ) (pages : ℕ)
+        → R.remaining input.old ≡ Some (drop (64 + 4128 * pages) bytes)
         → IfErr result (IsToldAt bytes pages (R.remaining input.new)) }
 {
     let mut next = [0u8; 1];
@@ -223,10 +238,14 @@ fn finish<'a, A: Allocator, R: Read>(
 ) -> Result<Table<'a, A>, FileFault>
     requires enough { cells_of class ≤ vec_len all }
     requires full { vec_len all < cells_of class + 4096 }
-    ensures ok { (bytes : List ℕ) → R.remaining input.old ≡ Some bytes → IfOk result (λ t. table_end class all.entry.items bytes ≡ Ok t) }
-    ensures fault { (bytes : List ℕ) → R.remaining input.old ≡ Some bytes → IfErr result (λ e. (e ≡ Device) ⊎ (table_end class all.entry.items bytes ≡ Err e)) }
-    ensures ends { (bytes : List ℕ) → R.remaining input.old ≡ Some bytes → OnOk result (R.remaining input.new ≡ Some []) }
-    ensures stops { (bytes : List ℕ) → R.remaining input.old ≡ Some (drop (64 + 4128 * pages_of class) bytes)
+    ensures ok { (bytes : List ℕ) → R.remaining input.old ≡ Some bytes
+        → IfOk result (λ t. table_end class all.entry.items bytes ≡ Ok t) }
+    ensures fault { (bytes : List ℕ) → R.remaining input.old ≡ Some bytes
+        → IfErr result (λ e. (e ≡ Device) ⊎ (table_end class all.entry.items bytes ≡ Err e)) }
+    ensures ends { (bytes : List ℕ) → R.remaining input.old ≡ Some bytes
+        → OnOk result (R.remaining input.new ≡ Some []) }
+    ensures stops { (bytes : List ℕ)
+        → R.remaining input.old ≡ Some (drop (64 + 4128 * pages_of class) bytes)
         → IfErr result (IsToldAt bytes (pages_of class) (R.remaining input.new)) }
 {
     let count = cells(class) as usize;
@@ -245,15 +264,20 @@ pub fn read_table<'a, A: Allocator, R: Read>(
     alloc: &'a A,
     input: &mut R,
 ) -> Result<Table<'a, A>, FileFault>
-    ensures text { (bytes : List ℕ) → R.remaining input.old ≡ Some bytes → IfOk result (λ t. (v : ℕ) × IsVersionOf t.class v × (bytes ≡ table_text t v)) }
-    ensures ok { (bytes : List ℕ) → R.remaining input.old ≡ Some bytes → IfOk result (λ t. table_read bytes ≡ Ok t) }
+    ensures text { (bytes : List ℕ) → R.remaining input.old ≡ Some bytes
+        → IfOk result (λ t. (v : ℕ) × IsVersionOf t.class v × (bytes ≡ table_text t v)) }
+    ensures ok { (bytes : List ℕ) → R.remaining input.old ≡ Some bytes
+        → IfOk result (λ t. table_read bytes ≡ Ok t) }
     ensures fault { (bytes : List ℕ) → R.remaining input.old ≡ Some bytes
-        → IfErr result (λ e. (e ≡ Device) ⊎ ((e ≡ OutOfMemory) × HasHeader bytes) ⊎ (table_read bytes ≡ Err e)) }
+        → IfErr result (λ e. (e ≡ Device) ⊎ ((e ≡ OutOfMemory) × HasHeader bytes)
+        ⊎ (table_read bytes ≡ Err e)) }
 
     // A table is read to the end of its file, and no byte is read after the faulty part.
-    ensures ends { (bytes : List ℕ) → R.remaining input.old ≡ Some bytes → OnOk result (R.remaining input.new ≡ Some []) }
+    ensures ends { (bytes : List ℕ) → R.remaining input.old ≡ Some bytes
+        → OnOk result (R.remaining input.new ≡ Some []) }
     ensures stops { (bytes : List ℕ) → R.remaining input.old ≡ Some bytes
-        → IfErr result (IsToldAt bytes (pages_after (class_read (take 64 bytes))) (R.remaining input.new)) }
+        → IfErr result
+        (IsToldAt bytes (pages_after (class_read (take 64 bytes))) (R.remaining input.new)) }
 {
     let mut header = [0; HEADER_BYTES];
     read_exactly(input, &mut header)?;

@@ -40,7 +40,8 @@ impl<'a> MemoryReader<'a> {
     pub fn new(text: &'a [u8]) -> Self
         ensures text { result.text.now ≡ text.now }
         ensures given { result.given ≡ 0 }
-        ensures plan { (result.fails_after ≡ None) × (result.recovers ≡ false) × (result.kind ≡ ErrorKind.Other) }
+        ensures plan { (result.fails_after ≡ None) × (result.recovers ≡ false)
+            × (result.kind ≡ ErrorKind.Other) }
         ensures errors { result.errors ≡ 0 }
     {
         MemoryReader {
@@ -57,7 +58,8 @@ impl<'a> MemoryReader<'a> {
     pub fn failing_after(text: &'a [u8], count: usize) -> Self
         ensures text { result.text.now ≡ text.now }
         ensures given { result.given ≡ 0 }
-        ensures plan { (result.fails_after ≡ Some count) × (result.recovers ≡ false) × (result.kind ≡ ErrorKind.Other) }
+        ensures plan { (result.fails_after ≡ Some count) × (result.recovers ≡ false)
+            × (result.kind ≡ ErrorKind.Other) }
         ensures errors { result.errors ≡ 0 }
     {
         MemoryReader {
@@ -74,7 +76,8 @@ impl<'a> MemoryReader<'a> {
     pub fn failing_once(text: &'a [u8], count: usize) -> Self
         ensures text { result.text.now ≡ text.now }
         ensures given { result.given ≡ 0 }
-        ensures plan { (result.fails_after ≡ Some count) × (result.recovers ≡ true) × (result.kind ≡ ErrorKind.Other) }
+        ensures plan { (result.fails_after ≡ Some count) × (result.recovers ≡ true)
+            × (result.kind ≡ ErrorKind.Other) }
         ensures errors { result.errors ≡ 0 }
     {
         MemoryReader {
@@ -93,13 +96,19 @@ impl<'a> Read for MemoryReader<'a> {
 
     #[tactic(auto, using(crate::proofs::ByteGiven::byte_given))]
     fn read(&mut self, buf: &mut [u8]) -> io::Result<usize>
+        // Many clauses: those of the trait, in the terms of this text.
         ensures bound { ReadsAtMost result buf.new }
-        ensures bytes { ReadConsumes (Some (drop self.old.given self.old.text.now)) (Some (drop self.new.given self.new.text.now)) result buf.new }
+        ensures bytes { ReadConsumes (Some (drop self.old.given self.old.text.now))
+            (Some (drop self.new.given self.new.text.now)) result buf.new }
         ensures few { IfOk result (λ n. n ≤ 1) }
-        ensures given { MatchResult result (λ n. self.new.given ≡ self.old.given + n) (λ e. self.new.given ≡ self.old.given) }
+        ensures given { MatchResult result (λ n. self.new.given ≡ self.old.given + n) (λ e.
+            self.new.given ≡ self.old.given) }
         ensures text { self.new.text.now ≡ self.old.text.now }
-        ensures plan { (self.new.fails_after ≡ self.old.fails_after) × (self.new.recovers ≡ self.old.recovers) × (self.new.kind ≡ self.old.kind) }
-        ensures fails { IsErr result ↔ ((self.old.fails_after ≡ Some self.old.given) × (fails_still self.old.recovers self.old.errors ≡ true)) }
+        ensures plan { (self.new.fails_after ≡ self.old.fails_after)
+            × (self.new.recovers ≡ self.old.recovers) × (self.new.kind ≡ self.old.kind) }
+        ensures fails { IsErr result
+            ↔ ((self.old.fails_after ≡ Some self.old.given)
+            × (fails_still self.old.recovers self.old.errors ≡ true)) }
         ensures kind { IfErr result (λ e. error_kind e ≡ self.old.kind) }
         ensures errors { OnErr result (self.new.errors ≡ counted self.old.errors) }
         ensures no_error { OnOk result (self.new.errors ≡ self.old.errors) }
@@ -144,7 +153,8 @@ impl<'a, A: Allocator> MemoryWriter<'a, A> {
     pub fn new(alloc: &'a A) -> Self
         ensures taken { result.taken.items ≡ [] }
         ensures room { result.room ≡ 2 ^ 64 - 1 }
-        ensures when_full { (result.when_full ≡ WhenFull.Fail) × (result.recovers ≡ false) × (result.kind ≡ ErrorKind.Other) }
+        ensures when_full { (result.when_full ≡ WhenFull.Fail) × (result.recovers ≡ false)
+            × (result.kind ≡ ErrorKind.Other) }
         ensures errors { result.errors ≡ 0 }
     {
         MemoryWriter::with_room(alloc, usize::MAX, WhenFull::Fail)
@@ -154,7 +164,8 @@ impl<'a, A: Allocator> MemoryWriter<'a, A> {
     pub fn with_room(alloc: &'a A, room: usize, when_full: WhenFull) -> Self
         ensures taken { result.taken.items ≡ [] }
         ensures room { result.room ≡ room }
-        ensures when_full { (result.when_full ≡ when_full) × (result.recovers ≡ false) × (result.kind ≡ ErrorKind.Other) }
+        ensures when_full { (result.when_full ≡ when_full) × (result.recovers ≡ false)
+            × (result.kind ≡ ErrorKind.Other) }
         ensures errors { result.errors ≡ 0 }
     {
         MemoryWriter {
@@ -171,7 +182,8 @@ impl<'a, A: Allocator> MemoryWriter<'a, A> {
     pub fn full_once(alloc: &'a A, room: usize, when_full: WhenFull) -> Self
         ensures taken { result.taken.items ≡ [] }
         ensures room { result.room ≡ room }
-        ensures when_full { (result.when_full ≡ when_full) × (result.recovers ≡ true) × (result.kind ≡ ErrorKind.Other) }
+        ensures when_full { (result.when_full ≡ when_full) × (result.recovers ≡ true)
+            × (result.kind ≡ ErrorKind.Other) }
         ensures errors { result.errors ≡ 0 }
     {
         MemoryWriter {
@@ -189,21 +201,29 @@ impl<'a, A: Allocator> Write for MemoryWriter<'a, A> {
     ghost contents = { λ w. Some w.taken.items };
 
     fn write(&mut self, buf: &[u8]) -> io::Result<usize>
+        // Many clauses: those of the trait, in the terms of this text.
         ensures bound { WritesAtMost result buf.now }
-        ensures bytes { WriteAppends (Some self.old.taken.items) (Some self.new.taken.items) result buf.now }
-        ensures takes { 0 < length buf.now → vec_len self.old.taken < self.old.room ⊎ (fails_still self.old.recovers self.old.errors ≡ false)
+        ensures bytes { WriteAppends (Some self.old.taken.items)
+            (Some self.new.taken.items) result buf.now }
+        ensures takes { 0 < length buf.now → vec_len self.old.taken < self.old.room
+            ⊎ (fails_still self.old.recovers self.old.errors ≡ false)
             → IfOk result (λ n. n ≡ 1) }
-        ensures full { 0 < length buf.now → self.old.room ≤ vec_len self.old.taken → fails_still self.old.recovers self.old.errors ≡ true
+        ensures full { 0 < length buf.now → self.old.room ≤ vec_len self.old.taken
+            → fails_still self.old.recovers self.old.errors ≡ true
             → MatchResult result (λ n. (n ≡ 0) × (self.old.when_full ≡ WhenFull.TakeNothing))
             (λ e. self.old.when_full ≡ WhenFull.Fail) }
         ensures plan { (self.new.room ≡ self.old.room) × (self.new.when_full ≡ self.old.when_full) }
-        ensures recovers { (self.new.recovers ≡ self.old.recovers) × (self.new.kind ≡ self.old.kind) }
+        ensures recovers { (self.new.recovers ≡ self.old.recovers)
+            × (self.new.kind ≡ self.old.kind) }
         ensures fails { IfErr result (λ e. (error_kind e ≡ ErrorKind.OutOfMemory)
             ⊎ ((self.old.room ≤ vec_len self.old.taken) × (self.old.when_full ≡ WhenFull.Fail)
-            × (fails_still self.old.recovers self.old.errors ≡ true) × (error_kind e ≡ self.old.kind))) }
+            × (fails_still self.old.recovers self.old.errors ≡ true)
+            × (error_kind e ≡ self.old.kind))) }
         ensures errors { OnErr result (self.new.errors ≡ counted self.old.errors) }
-        ensures nothing { 0 < length buf.now → IfOk result (λ n. n ≡ 0 → self.new.errors ≡ counted self.old.errors) }
-        ensures no_error { IfOk result (λ n. 0 < n ⊎ (length buf.now ≡ 0) → self.new.errors ≡ self.old.errors) }
+        ensures nothing { 0 < length buf.now
+            → IfOk result (λ n. n ≡ 0 → self.new.errors ≡ counted self.old.errors) }
+        ensures no_error { IfOk result (λ n. 0 < n ⊎ (length buf.now ≡ 0)
+            → self.new.errors ≡ self.old.errors) }
     {
         if buf.is_empty() {
             return Ok(0);
@@ -227,7 +247,8 @@ impl<'a, A: Allocator> Write for MemoryWriter<'a, A> {
     fn flush(&mut self) -> io::Result<()>
         ensures bytes { Keeps (Some self.old.taken.items) (Some self.new.taken.items) }
         ensures plan { (self.new.room ≡ self.old.room) × (self.new.when_full ≡ self.old.when_full) }
-        ensures recovers { (self.new.recovers ≡ self.old.recovers) × (self.new.kind ≡ self.old.kind) }
+        ensures recovers { (self.new.recovers ≡ self.old.recovers)
+            × (self.new.kind ≡ self.old.kind) }
         ensures errors { self.new.errors ≡ self.old.errors }
         ensures succeeds { IsOk result }
     {

@@ -55,7 +55,8 @@ impl<'t, 'a, L, A: Allocator> Subtree<'t, 'a, L, A> {
     /// The child at this place, `None` if there is no such child.
     pub fn child(&self, place: u16) -> Option<Child<'t, 'a, L, A>>
         ensures { MatchOption result (node_in self.now.below place [] ≡ None)
-            (λ c. node_in self.now.below place [] ≡ Some (record { played = c.played; label = c.node.label; below = c.node.below })) }
+            (λ c. node_in self.now.below place []
+            ≡ Some (record { played = c.played; label = c.node.label; below = c.node.below })) }
     {
         match self.children.get(place as usize) {
             None => None,

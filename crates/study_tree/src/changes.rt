@@ -47,7 +47,8 @@ pub fn update_below<'a, L, A: Allocator, C: LabelChange<L>>(
     requires found { IsTrue (has_node (forest_of children.old.items) (first ∷ rest.now)) }
     requires short { depth + length rest.now < 2 ^ 64 }
     ensures { plain (forest_of children.new.items)
-        ≡ changed_along (C.changed change.now) depth (plain (forest_of children.old.items)) (first ∷ rest.now) }
+        ≡ changed_along (C.changed change.now) depth
+        (plain (forest_of children.old.items)) (first ∷ rest.now) }
 {
     let child = &mut children[first as usize];
     change.change(depth, &mut child.label);
@@ -68,9 +69,11 @@ pub fn rewrite_below<'a, L, A: Allocator, W: Rewriting<L>>(
     requires deep { depth + nodes_in (forest_of children.old.items) < 2 ^ 16 }
     requires numbers { number + nodes_in (forest_of children.old.items) < 2 ^ 16 }
     ensures label { parent.new
-        ≡ (rewritten (W.pass by.now) depth 0 number parent.old (plain (forest_of children.old.items))).0 }
+        ≡ (rewritten (W.pass by.now) depth 0 number parent.old
+        (plain (forest_of children.old.items))).0 }
     ensures below { plain (forest_of children.new.items)
-        ≡ (rewritten (W.pass by.now) depth 0 number parent.old (plain (forest_of children.old.items))).1 }
+        ≡ (rewritten (W.pass by.now) depth 0 number parent.old
+        (plain (forest_of children.old.items))).1 }
     ensures number { result ≡ number + nodes_in (forest_of children.old.items) }
 {
     let mut next = number;

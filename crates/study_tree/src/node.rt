@@ -94,8 +94,10 @@ pub fn add_below<'a, L: Drop, A: Allocator>(
     ensures place { IfOk result (λ k. k ≡ children_at (forest_of children.old.items) steps.now) }
     ensures added { IfSome label.old (λ l. OnOk result (plain (forest_of children.new.items)
         ≡ add_last (plain (forest_of children.old.items)) steps.now played l)) }
-    ensures room { 0 < spare_at (vec_capacity children.old - vec_len children.old) (forest_of children.old.items) steps.now → IsOk result }
-    ensures err { OnErr result (plain (forest_of children.new.items) ≡ plain (forest_of children.old.items)) }
+    ensures room { 0 < spare_at (vec_capacity children.old - vec_len children.old)
+        (forest_of children.old.items) steps.now → IsOk result }
+    ensures err { OnErr result (plain (forest_of children.new.items)
+        ≡ plain (forest_of children.old.items)) }
 {
     match steps.split_first() {
         None => push_node(alloc, children, played, label),
@@ -113,7 +115,9 @@ pub fn reserve_below<'a, L, A: Allocator>(
 ) -> Result<(), AllocError>
     requires found { IsTrue (has_node (forest_of children.old.items) steps.now) }
     ensures same { plain (forest_of children.new.items) ≡ plain (forest_of children.old.items) }
-    ensures room { OnOk result (0 < spare_at (vec_capacity children.new - vec_len children.new) (forest_of children.new.items) steps.now) }
+    ensures room { OnOk result
+        (0 < spare_at (vec_capacity children.new - vec_len children.new)
+        (forest_of children.new.items) steps.now) }
 {
     match steps.split_first() {
         None => children.reserve_exact(1),
@@ -133,7 +137,9 @@ pub fn relabel_below<'a, L, A: Allocator>(
     label: &mut L,
 )
     requires found { IsTrue (has_node (forest_of children.old.items) (first ∷ rest.now)) }
-    ensures { plain (forest_of children.new.items) ≡ place_edited (labelled_at label.old) (plain (forest_of children.old.items)) first rest.now }
+    ensures { plain (forest_of children.new.items)
+        ≡ place_edited (labelled_at label.old)
+        (plain (forest_of children.old.items)) first rest.now }
 {
     let child = &mut children[first as usize];
     match rest.split_first() {
@@ -162,8 +168,10 @@ pub fn remove_below<'a, L, A: Allocator>(
     rest: &[u16],
 ) -> Node<'a, L, A>
     requires found { IsTrue (has_node (forest_of children.old.items) (first ∷ rest.now)) }
-    ensures removed { plain (forest_of children.new.items) ≡ place_edited dropped_at (plain (forest_of children.old.items)) first rest.now }
-    ensures counted { nodes_in (forest_of children.new.items) + nodes_from result ≡ nodes_in (forest_of children.old.items) }
+    ensures removed { plain (forest_of children.new.items)
+        ≡ place_edited dropped_at (plain (forest_of children.old.items)) first rest.now }
+    ensures counted { nodes_in (forest_of children.new.items) + nodes_from result
+        ≡ nodes_in (forest_of children.old.items) }
 {
     match rest.split_first() {
         None => take_node(children, first as usize),
@@ -182,7 +190,8 @@ pub fn move_up_below<'a, L, A: Allocator>(
 )
     requires found { IsTrue (has_node (forest_of children.old.items) (first ∷ rest.now)) }
     requires not_first { 0 < last_place first rest.now }
-    ensures { plain (forest_of children.new.items) ≡ place_edited raised_at (plain (forest_of children.old.items)) first rest.now }
+    ensures { plain (forest_of children.new.items)
+        ≡ place_edited raised_at (plain (forest_of children.old.items)) first rest.now }
 {
     match rest.split_first() {
         None => children.swap(first as usize - 1, first as usize),

@@ -140,7 +140,8 @@ impl<'a, L, A: Allocator> Tree<'a, L, A> {
     /// Whether the node may have one more child, apart from memory.
     fn check_child(&self, steps: &[u16]) -> Result<(), TreeFault>
         ensures ok { OnOk result (child_refusal (plain_tree self.now) steps.now ≡ None) }
-        ensures err { IfErr result (λ fault. child_refusal (plain_tree self.now) steps.now ≡ Some fault) }
+        ensures err { IfErr result (λ fault.
+            child_refusal (plain_tree self.now) steps.now ≡ Some fault) }
     {
         if !self.has(steps) {
             Err(TreeFault::NoSuchNode)
@@ -155,7 +156,8 @@ impl<'a, L, A: Allocator> Tree<'a, L, A> {
 
     /// Makes room for one more child of the node, with the faults of `add_last`; changes no node and no count.
     pub fn reserve(&mut self, steps: &[u16]) -> Result<(), TreeFault>
-        ensures refusal { MatchOption (child_refusal (plain_tree self.old) steps.now) (IsOkUnless result TreeFault.OutOfMemory) (λ fault. result ≡ Err fault) }
+        ensures refusal { MatchOption (child_refusal (plain_tree self.old) steps.now)
+            (IsOkUnless result TreeFault.OutOfMemory) (λ fault. result ≡ Err fault) }
         ensures tree { plain_tree self.new ≡ plain_tree self.old }
         ensures count { self.new.relabelled ≡ self.old.relabelled }
         ensures room { OnOk result (0 < spare_of self.new steps.now) }
@@ -169,8 +171,10 @@ impl<'a, L, A: Allocator> Tree<'a, L, A> {
 impl<'a, L: Drop, A: Allocator> Tree<'a, L, A> {
     /// Adds a last child to the node, and returns its place.
     pub fn add_last(&mut self, steps: &[u16], played: Move, label: L) -> Result<u16, TreeFault>
-        ensures refusal { MatchOption (child_refusal (plain_tree self.old) steps.now) (IsOkUnless result TreeFault.OutOfMemory) (λ fault. result ≡ Err fault) }
-        ensures added { OnOk result (plain_tree self.new ≡ with_child (plain_tree self.old) steps.now played label) }
+        ensures refusal { MatchOption (child_refusal (plain_tree self.old) steps.now)
+            (IsOkUnless result TreeFault.OutOfMemory) (λ fault. result ≡ Err fault) }
+        ensures added { OnOk result
+            (plain_tree self.new ≡ with_child (plain_tree self.old) steps.now played label) }
         ensures place { IfOk result (λ k. k ≡ children_at (plain self.old.below) steps.now) }
         ensures count { OnOk result (self.new.relabelled ≡ counted self.old.relabelled) }
         ensures room { 0 < spare_of self.old steps.now → result ≢ Err TreeFault.OutOfMemory }
@@ -192,8 +196,10 @@ impl<'a, L: Drop, A: Allocator> Tree<'a, L, A> {
 
     /// Writes the node's label.
     pub fn relabel(&mut self, steps: &[u16], mut label: L) -> Result<(), TreeFault>
-        ensures refusal { MatchOption (label_refusal (plain_tree self.old) steps.now) (IsOk result) (λ fault. result ≡ Err fault) }
-        ensures written { OnOk result (plain_tree self.new ≡ with_label (plain_tree self.old) steps.now label) }
+        ensures refusal { MatchOption (label_refusal (plain_tree self.old) steps.now) (IsOk result)
+            (λ fault. result ≡ Err fault) }
+        ensures written { OnOk result
+            (plain_tree self.new ≡ with_label (plain_tree self.old) steps.now label) }
         ensures count { OnOk result (self.new.relabelled ≡ counted self.old.relabelled) }
         ensures same { OnErr result (self.new ≡ self.old) }
     {
@@ -214,9 +220,13 @@ impl<'a, L: Drop, A: Allocator> Tree<'a, L, A> {
         steps: &[u16],
         change: &C,
     ) -> Result<(), TreeFault>
-        ensures refusal { MatchOption (label_refusal (plain_tree self.old) steps.now) (IsOk result) (λ fault. result ≡ Err fault) }
-        ensures changed { OnOk result (plain_tree self.new ≡ with_changes (C.changed change.now) (plain_tree self.old) steps.now) }
-        ensures count { OnOk result (self.new.relabelled ≡ counted_by (length steps.now + 1) self.old.relabelled) }
+        ensures refusal { MatchOption (label_refusal (plain_tree self.old) steps.now) (IsOk result)
+            (λ fault. result ≡ Err fault) }
+        ensures changed { OnOk result
+            (plain_tree self.new
+            ≡ with_changes (C.changed change.now) (plain_tree self.old) steps.now) }
+        ensures count { OnOk result
+            (self.new.relabelled ≡ counted_by (length steps.now + 1) self.old.relabelled) }
         ensures same { OnErr result (self.new ≡ self.old) }
     {
         if !self.has(steps) {
@@ -232,8 +242,10 @@ impl<'a, L: Drop, A: Allocator> Tree<'a, L, A> {
 
     /// Writes all labels, in written order.
     pub fn rewrite<W: Rewriting<L>>(&mut self, by: &W)
-        ensures written { plain_tree self.new ≡ rewritten_tree (W.pass by.now) (plain_tree self.old) }
-        ensures count { self.new.relabelled ≡ counted_by (size_of (plain_tree self.old)) self.old.relabelled }
+        ensures written { plain_tree self.new
+            ≡ rewritten_tree (W.pass by.now) (plain_tree self.old) }
+        ensures count { self.new.relabelled
+            ≡ counted_by (size_of (plain_tree self.old)) self.old.relabelled }
     {
         by.begin(&mut self.label);
         rewrite_below(by, 0, 1, &mut self.label, &mut self.children);
@@ -242,8 +254,10 @@ impl<'a, L: Drop, A: Allocator> Tree<'a, L, A> {
 
     /// Removes the node, with all nodes below it.
     pub fn remove(&mut self, steps: &[u16]) -> Result<(), TreeFault>
-        ensures refusal { MatchOption (removal_refusal (plain_tree self.old) steps.now) (IsOk result) (λ fault. result ≡ Err fault) }
-        ensures removed { OnOk result (plain_tree self.new ≡ without (plain_tree self.old) steps.now) }
+        ensures refusal { MatchOption (removal_refusal (plain_tree self.old) steps.now)
+            (IsOk result) (λ fault. result ≡ Err fault) }
+        ensures removed { OnOk result
+            (plain_tree self.new ≡ without (plain_tree self.old) steps.now) }
         ensures count { self.new.relabelled ≡ self.old.relabelled }
         ensures same { OnErr result (self.new ≡ self.old) }
     {
@@ -262,8 +276,10 @@ impl<'a, L: Drop, A: Allocator> Tree<'a, L, A> {
 
     /// Exchanges the node with the one before it.
     pub fn move_up(&mut self, steps: &[u16]) -> Result<(), TreeFault>
-        ensures refusal { MatchOption (move_up_refusal (plain_tree self.old) steps.now) (IsOk result) (λ fault. result ≡ Err fault) }
-        ensures moved { OnOk result (plain_tree self.new ≡ moved_up (plain_tree self.old) steps.now) }
+        ensures refusal { MatchOption (move_up_refusal (plain_tree self.old) steps.now)
+            (IsOk result) (λ fault. result ≡ Err fault) }
+        ensures moved { OnOk result
+            (plain_tree self.new ≡ moved_up (plain_tree self.old) steps.now) }
         ensures count { self.new.relabelled ≡ self.old.relabelled }
         ensures same { OnErr result (self.new ≡ self.old) }
     {

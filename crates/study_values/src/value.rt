@@ -29,7 +29,8 @@ pub fn value_at(cell: u8) -> Value
 impl Value {
     /// The plies to the mate; `None` for a draw.
     pub fn distance(self) -> Option<u8>
-        ensures { MatchOption result (self ≡ Value.Draw) (λ n. (self ≢ Value.Draw) × (distance_of self ≡ n)) }
+        ensures { MatchOption result (self ≡ Value.Draw) (λ n. (self ≢ Value.Draw)
+            × (distance_of self ≡ n)) }
     {
         match self {
             Value::Draw => None,

@@ -53,18 +53,23 @@ pub trait Values: Drop {
 
     /// The value of a position.
     fn value(&mut self, p: &Position) -> Result<Value, ProbeFault>
+        // Many clauses: each kind of answer, and what stays of the values and their counts.
         ensures game { source.is_honest self.old → IfOk result (IsValueOf p.now) }
         ensures no_damage { source.is_honest self.old → IfErr result IsNotDamage }
         ensures stays_honest { source.is_honest self.old → source.is_honest self.new }
         ensures given { source.gives self.old p.now result }
-        ensures failed_so { (c : AClass) (f : ASourceFault) → IsOf c p.now → IsErrOf result (ProbeFault.TableRead f) → source.may_fail self.old c f }
-        ensures fails_as_before { (c : AClass) (f : ASourceFault) → source.may_fail self.new c f → source.may_fail self.old c f }
-        ensures no_table { (c : AClass) → IsErrOf result (ProbeFault.NoTable c) ↔ (IsOf c p.now × (source.held self.old c ≡ false)) }
+        ensures failed_so { (c : AClass) (f : ASourceFault) → IsOf c p.now
+            → IsErrOf result (ProbeFault.TableRead f) → source.may_fail self.old c f }
+        ensures fails_as_before { (c : AClass) (f : ASourceFault) → source.may_fail self.new c f
+            → source.may_fail self.old c f }
+        ensures no_table { (c : AClass) → IsErrOf result (ProbeFault.NoTable c)
+            ↔ (IsOf c p.now × (source.held self.old c ≡ false)) }
         ensures damaged { (c : AClass) (n : ℕ) → IsErrOf result (ProbeFault.PageDamaged c n)
             → IsOf c p.now × (n ≡ page_number p.now) }
         ensures same_tables { (c : AClass) → source.held self.new c ≡ source.held self.old c }
         ensures asked { source.asked_of self.new ≡ counted (source.asked_of self.old) }
-        ensures failures { source.failed_of self.new ≡ faults_after (source.failed_of self.old) result };
+        ensures failures { source.failed_of self.new
+            ≡ faults_after (source.failed_of self.old) result };
 
     /// Whether a table of the class is loaded.
     fn holds(&self, class: Class) -> bool

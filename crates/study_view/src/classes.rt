@@ -59,7 +59,8 @@ fn push_class(class: Class, list: &mut ArrayVec<Class, CLASS_COUNT>)
 /// Adds those of these classes that the positions need.
 fn add_needed(positions: &[Position], classes: &[Class], list: &mut ArrayVec<Class, CLASS_COUNT>)
     requires { array_vec_len list.old + length classes.now ≤ 36 }
-    ensures { (more : List AClass) × AreThose (IsNeededBy positions.now) classes.now more × (list.new.items ≡ list.old.items ++ more) }
+    ensures { (more : List AClass) × AreThose (IsNeededBy positions.now) classes.now more
+        × (list.new.items ≡ list.old.items ++ more) }
 {
     match classes.split_first() {
         None => {}

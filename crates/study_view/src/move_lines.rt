@@ -45,7 +45,8 @@ fn mark_of(here: &ViewNode<'_>, count: usize, after: Value) -> MoveMark
     requires depth { here.now.depth + 1 < 2 ^ 64 }
     requires few { count ≤ MAX_MOVES }
     ensures { result ≡ mark_of (hero_moves here.now.aim.now here.now.depth)
-        (holds here.now.aim.now here.now.depth here.now.value) (holds here.now.aim.now (here.now.depth + 1) after) count }
+        (holds here.now.aim.now here.now.depth here.now.value)
+        (holds here.now.aim.now (here.now.depth + 1) after) count }
 {
     let held = holds(here.aim, here.depth, here.value);
     let holds_after = holds(here.aim, here.depth + 1, after);
@@ -75,7 +76,8 @@ fn add_told<A: Allocator>(
     requires few { count ≤ MAX_MOVES }
     requires legal { is_legal here.now.start.now.position x.now.played ≡ true }
     ensures { OnOk result (text.new ≡ text.old
-        ++ told_line here.now.aim.now here.now.depth here.now.start.now here.now.value count x.now) }
+        ++ told_line here.now.aim.now here.now.depth here.now.start.now
+        here.now.value count x.now) }
 {
     let mark = mark_of(here, count, x.value);
     add_move(text, here.start, &x.played, x.value, Some(mark))
@@ -92,7 +94,9 @@ fn add_each<A: Allocator>(
     requires few { count ≤ MAX_MOVES }
     requires legal { All (λ x. is_legal here.now.start.now.position x.played ≡ true) list.now }
     ensures { OnOk result (text.new ≡ text.old
-        ++ flat_map (told_line here.now.aim.now here.now.depth here.now.start.now here.now.value count) list.now) }
+        ++ flat_map
+        (told_line here.now.aim.now here.now.depth here.now.start.now
+        here.now.value count) list.now) }
 {
     for x in list {
         add_told(text, here, count, x)?;

@@ -75,7 +75,8 @@ fn add_zugzwang<A: Allocator, V: Values>(
     p: &Position,
     values: &mut V,
 ) -> Result<(), ViewFault>
-    ensures text { V.source.is_honest values.old → OnOk result ((z : Option AZugzwang) × IsZugzwangOf p.now z
+    ensures text { V.source.is_honest values.old
+        → OnOk result ((z : Option AZugzwang) × IsZugzwangOf p.now z
         × (text.new ≡ text.old ++ zugzwang_line steps.now z)) }
     ensures asked { HasWalked (within p.now V.source) values.old result values.new }
 {
@@ -106,10 +107,14 @@ fn add_own<'b, A: Allocator, B: Allocator, V: Values>(
 ) -> Result<(), ViewFault>
     requires before { before.now ≡ start_to (marked bench.now) (parent_path steps.now) }
     requires here { here.now ≡ start_to (marked bench.now) steps.now }
-    ensures nodes { OnOk result (lines.new.nodes ≡ lines.old.nodes ++ node_line (marked bench.now) steps.now) }
+    ensures nodes { OnOk result
+        (lines.new.nodes ≡ lines.old.nodes ++ node_line (marked bench.now) steps.now) }
     ensures zugzwangs { V.source.is_honest values.old
-        → OnOk result (Grew (ZugzwangLines (marked bench.now) steps.now) lines.old.zugzwangs lines.new.zugzwangs) }
-    ensures asked { HasWalked (within (marked bench.now).start.position V.source) values.old result values.new }
+        → OnOk result
+        (Grew (ZugzwangLines (marked bench.now) steps.now)
+        lines.old.zugzwangs lines.new.zugzwangs) }
+    ensures asked { HasWalked (within (marked bench.now).start.position V.source)
+        values.old result values.new }
 {
     let first = bench.start();
     add_node_at(&mut lines.nodes, bench, steps, before, here)?;
@@ -129,12 +134,17 @@ pub fn add_nodes<'b, A: Allocator, B: Allocator, V: Values>(
     requires before { before.now ≡ start_to (marked bench.now) (parent_path steps.old.items) }
     requires here { here.now ≡ start_to (marked bench.now) steps.old.items }
     ensures nodes { OnOk result (Grew (LinesOfEach (IsNodeLine (marked bench.now))
-        (steps.old.items ∷ paths_from steps.old.items 0 (below_at (marked bench.now).tree.below steps.old.items))) lines.old.nodes lines.new.nodes) }
-    ensures zugzwangs { V.source.is_honest values.old → OnOk result (Grew (LinesOfEach (ZugzwangLines (marked bench.now))
-        (steps.old.items ∷ paths_from steps.old.items 0 (below_at (marked bench.now).tree.below steps.old.items)))
+        (steps.old.items
+        ∷ paths_from steps.old.items 0 (below_at (marked bench.now).tree.below steps.old.items)))
+        lines.old.nodes lines.new.nodes) }
+    ensures zugzwangs { V.source.is_honest values.old
+        → OnOk result (Grew (LinesOfEach (ZugzwangLines (marked bench.now))
+        (steps.old.items
+        ∷ paths_from steps.old.items 0 (below_at (marked bench.now).tree.below steps.old.items)))
         lines.old.zugzwangs lines.new.zugzwangs) }
     ensures path { OnOk result (steps.new.items ≡ steps.old.items) }
-    ensures asked { HasWalked (within (marked bench.now).start.position V.source) values.old result values.new }
+    ensures asked { HasWalked (within (marked bench.now).start.position V.source)
+        values.old result values.new }
 {
     add_own(lines, bench, steps.as_slice(), before, here, values)?;
     let count = child_count(bench, steps.as_slice());

@@ -23,9 +23,12 @@ pub fn evaluate_legal_moves<V: Values>(
     requires depth { node.now.depth + 1 < 2 ^ 64 }
     ensures game { V.source.is_honest values.old → IfOk result (λ list.
         AreChosen (λ v. true) node.now.position.now (legal_list node.now.position.now) list.items) }
-    ensures legal { IfOk result (λ list. All (λ x. is_legal node.now.position.now x.played ≡ true) list.items) }
+    ensures legal { IfOk result (λ list.
+        All (λ x. is_legal node.now.position.now x.played ≡ true) list.items) }
     ensures asked { HasToldEach V.source
-        node.now.position.now (positions_after node.now.position.now (legal_list node.now.position.now)) values.old result values.new }
+        node.now.position.now
+        (positions_after node.now.position.now (legal_list node.now.position.now))
+        values.old result values.new }
 {
     missing_moves(node, &[], values)
 }
@@ -46,7 +49,8 @@ pub fn ask_first_moves<V: Values>(
     q: &Position,
     values: &mut V,
 ) -> Result<ArrayVec<EvaluatedMove, MAX_MOVES>, ProbeFault>
-    ensures game { V.source.is_honest values.old → IfOk result (λ list. AreHoldingMoves aim.now 0 q.now list.items) }
+    ensures game { V.source.is_honest values.old
+        → IfOk result (λ list. AreHoldingMoves aim.now 0 q.now list.items) }
     ensures legal { IfOk result (λ list. All (λ x. is_legal q.now x.played ≡ true) list.items) }
     ensures asked { HasToldSome (within q.now V.source) values.old result values.new }
 {

@@ -75,7 +75,8 @@ fn moved_men(from: Square, to: Square, men: &[Man]) -> ArrayVec<Man, 4>
 /// The position with the man of one square on another, if it is valid.
 pub fn with_man_at(p: &Position, from: Square, to: Square) -> Option<Position>
     ensures none { IfNone result (IsSome (fault_of_man_moved p.now from to)) }
-    ensures some { IfSome result (λ q. (fault_of_man_moved p.now from to ≡ None) × (q ≡ with_man_moved p.now from to)) }
+    ensures some { IfSome result (λ q. (fault_of_man_moved p.now from to ≡ None)
+        × (q ≡ with_man_moved p.now from to)) }
     ensures valid { IfSome result IsValid }
 {
     let men = moved_men(from, to, p.men());
@@ -154,8 +155,10 @@ fn result_on<V: Values>(
 ) -> Result<SquareResult, ProbeFault>
     ensures game { V.source.is_honest values.old → IfOk result
         (IsStanding question.now.position.now question.now.square question.now.stipulation.now x) }
-    ensures legal { IfOk result (λ s. IsShown question.now.position.now question.now.square (record { at = x; standing = s })) }
-    ensures asked { HasToldSome (within question.now.position.now V.source) values.old result values.new }
+    ensures legal { IfOk result (λ s.
+        IsShown question.now.position.now question.now.square (record { at = x; standing = s })) }
+    ensures asked { HasToldSome (within question.now.position.now V.source)
+        values.old result values.new }
 {
     match with_man_at(question.position, question.square, x) {
         None => Ok(SquareResult::Impossible),
@@ -171,9 +174,11 @@ fn push_result(
     list: &mut ArrayVec<SurveyedSquare, 64>,
 )
     requires room { array_vec_len list.old < 64 }
-    requires shown { IsShown question.now.position.now question.now.square (record { at = at; standing = standing }) }
+    requires shown { IsShown question.now.position.now question.now.square
+        (record { at = at; standing = standing }) }
     requires listed { All (IsShown question.now.position.now question.now.square) list.old.items }
-    ensures items { list.new.items ≡ list.old.items ++ (record { at = at; standing = standing }) ∷ [] }
+    ensures items { list.new.items ≡ list.old.items
+        ++ (record { at = at; standing = standing }) ∷ [] }
     ensures len { array_vec_len list.new ≡ array_vec_len list.old + 1 }
     ensures listed { All (IsShown question.now.position.now question.now.square) list.new.items }
 {
@@ -191,10 +196,13 @@ fn push_results_from<V: Values>(
     requires room { array_vec_len list.old ≤ number }
     requires listed { All (IsShown question.now.position.now question.now.square) list.old.items }
     ensures listed { All (IsShown question.now.position.now question.now.square) list.new.items }
-    ensures game { V.source.is_honest values.old → OnOk result ((more : List AStood) × AreStandings question.now.position.now
-        question.now.square question.now.stipulation.now (squares_but question.now.square number (64 - number)) more
+    ensures game { V.source.is_honest values.old
+        → OnOk result ((more : List AStood) × AreStandings question.now.position.now
+        question.now.square question.now.stipulation.now
+        (squares_but question.now.square number (64 - number)) more
         × (list.new.items ≡ list.old.items ++ more)) }
-    ensures asked { HasToldSome (within question.now.position.now V.source) values.old result values.new }
+    ensures asked { HasToldSome (within question.now.position.now V.source)
+        values.old result values.new }
 {
     if number >= 64 {
         return Ok(());
@@ -217,10 +225,14 @@ pub fn push_results<V: Values>(
     question: &SurveyQuestion<'_>,
     values: &mut V,
 ) -> Result<ArrayVec<SurveyedSquare, 64>, ProbeFault>
-    ensures game { V.source.is_honest values.old → IfOk result (λ list. AreStandings question.now.position.now
-        question.now.square question.now.stipulation.now (other_squares question.now.square) list.items) }
-    ensures listed { IfOk result (λ list. All (IsShown question.now.position.now question.now.square) list.items) }
-    ensures asked { HasToldSome (within question.now.position.now V.source) values.old result values.new }
+    ensures game { V.source.is_honest values.old
+        → IfOk result (λ list. AreStandings question.now.position.now
+        question.now.square question.now.stipulation.now
+        (other_squares question.now.square) list.items) }
+    ensures listed { IfOk result (λ list.
+        All (IsShown question.now.position.now question.now.square) list.items) }
+    ensures asked { HasToldSome (within question.now.position.now V.source)
+        values.old result values.new }
 {
     let mut list = ArrayVec::new();
     match push_results_from(question, 0, values, &mut list) {
@@ -234,11 +246,16 @@ pub fn survey<V: Values>(
     question: &SurveyQuestion<'_>,
     values: &mut V,
 ) -> Result<ArrayVec<SurveyedSquare, 64>, SurveyFault>
-    ensures game { V.source.is_honest values.old → IfOk result (λ list. AreStandings question.now.position.now
-        question.now.square question.now.stipulation.now (other_squares question.now.square) list.items) }
-    ensures no_man { (result ≡ Err SurveyFault.NoMan) ↔ (man_at question.now.position.now.men question.now.square ≡ None) }
-    ensures only { IfErr result (λ f. (f ≡ SurveyFault.NoMan) ⊎ ((fault : AProbeFault) × (f ≡ SurveyFault.Values fault))) }
-    ensures asked { HasSurveyed (within question.now.position.now V.source) values.old result values.new }
+    ensures game { V.source.is_honest values.old
+        → IfOk result (λ list. AreStandings question.now.position.now
+        question.now.square question.now.stipulation.now
+        (other_squares question.now.square) list.items) }
+    ensures no_man { (result ≡ Err SurveyFault.NoMan)
+        ↔ (man_at question.now.position.now.men question.now.square ≡ None) }
+    ensures only { IfErr result (λ f. (f ≡ SurveyFault.NoMan)
+        ⊎ ((fault : AProbeFault) × (f ≡ SurveyFault.Values fault))) }
+    ensures asked { HasSurveyed (within question.now.position.now V.source)
+        values.old result values.new }
 {
     match question.position.man_at(question.square) {
         None => Err(SurveyFault::NoMan),

@@ -52,7 +52,8 @@ fn add_only<A: Allocator>(
     m: Move,
 ) -> Result<(), AllocError>
     requires { is_legal q.now m ≡ true }
-    ensures { OnOk result (text.new ≡ text.old ++ square_result_text q.now (SquareResult.Only value m)) }
+    ensures { OnOk result (text.new ≡ text.old
+        ++ square_result_text q.now (SquareResult.Only value m)) }
 {
     text.add(b"only ")?;
     add_value(text, value)?;
@@ -66,7 +67,8 @@ fn add_many<A: Allocator>(
     value: Value,
     count: u16,
 ) -> Result<(), AllocError>
-    ensures { OnOk result (text.new ≡ text.old ++ (codes "holds " ++ (value_words value ++ (codes " " ++ decimal count)))) }
+    ensures { OnOk result (text.new ≡ text.old
+        ++ (codes "holds " ++ (value_words value ++ (codes " " ++ decimal count)))) }
 {
     text.add(b"holds ")?;
     add_value(text, value)?;
@@ -92,7 +94,9 @@ fn add_standing<A: Allocator>(
     x: &SurveyedSquare,
 ) -> Result<(), AllocError>
     requires { IsShown question.now.position.now question.now.square x.now }
-    ensures { OnOk result (text.new ≡ text.old ++ square_result_text (with_man_moved question.now.position.now question.now.square x.now.at) x.now.standing) }
+    ensures { OnOk result (text.new ≡ text.old
+        ++ square_result_text
+        (with_man_moved question.now.position.now question.now.square x.now.at) x.now.standing) }
 {
     match x.standing {
         SquareResult::Impossible => text.add(b"-"),
@@ -118,7 +122,8 @@ fn add_line<A: Allocator>(
     x: &SurveyedSquare,
 ) -> Result<(), AllocError>
     requires { IsShown question.now.position.now question.now.square x.now }
-    ensures { OnOk result (text.new ≡ text.old ++ standing_line question.now.position.now question.now.square x.now) }
+    ensures { OnOk result (text.new ≡ text.old
+        ++ standing_line question.now.position.now question.now.square x.now) }
 {
     add_square(text, x.at)?;
     text.add(b" ")?;
@@ -133,7 +138,8 @@ fn add_lines<A: Allocator>(
     list: &[SurveyedSquare],
 ) -> Result<(), AllocError>
     requires { All (IsShown question.now.position.now question.now.square) list.now }
-    ensures { OnOk result (text.new ≡ text.old ++ flat_map (standing_line question.now.position.now question.now.square) list.now) }
+    ensures { OnOk result (text.new ≡ text.old
+        ++ flat_map (standing_line question.now.position.now question.now.square) list.now) }
 {
     for x in list {
         add_line(text, question, x)?;
@@ -166,9 +172,11 @@ fn survey_text<'a, A: Allocator, V: Values>(
 ) -> Result<Text<'a, A>, SurveyFault>
     ensures text { V.source.is_honest values.old → IfOk result
         (IsSurvey question.now.position.now question.now.square question.now.stipulation.now) }
-    ensures no_man { (result ≡ Err SurveyFault.NoMan) ↔ (man_at question.now.position.now.men question.now.square ≡ None) }
+    ensures no_man { (result ≡ Err SurveyFault.NoMan)
+        ↔ (man_at question.now.position.now.men question.now.square ≡ None) }
     ensures device { ¬ (result ≡ Err SurveyFault.Device) }
-    ensures asked { HasSurveyed (within question.now.position.now V.source) values.old result values.new }
+    ensures asked { HasSurveyed (within question.now.position.now V.source)
+        values.old result values.new }
 {
     match question.position.man_at(question.square) {
         None => Err(SurveyFault::NoMan),
@@ -193,14 +201,18 @@ pub fn write_survey<'a, A: Allocator, V: Values, W: Write>(
     ensures ok { V.source.is_honest values.old → OnOk result ((text : List ℕ)
         × IsSurvey question.now.position.now question.now.square question.now.stipulation.now text
         × Appends (W.contents out.old) (W.contents out.new) text) }
-    ensures no_man { (result ≡ Err SurveyFault.NoMan) ↔ (man_at question.now.position.now.men question.now.square ≡ None) }
-    ensures device { V.source.is_honest values.old → result ≡ Err SurveyFault.Device → (text : List ℕ)
+    ensures no_man { (result ≡ Err SurveyFault.NoMan)
+        ↔ (man_at question.now.position.now.men question.now.square ≡ None) }
+    ensures device { V.source.is_honest values.old
+        → result ≡ Err SurveyFault.Device → (text : List ℕ)
         × IsSurvey question.now.position.now question.now.square question.now.stipulation.now text
         × TakesPrefix (W.contents out.old) (W.contents out.new) text }
     ensures gone { result ≡ Err SurveyFault.NoMan → out.new ≡ out.old }
     ensures memory { result ≡ Err SurveyFault.OutOfMemory → out.new ≡ out.old }
-    ensures untold { (fault : AProbeFault) → result ≡ Err (SurveyFault.Values fault) → out.new ≡ out.old }
-    ensures asked { HasSurveyed (within question.now.position.now V.source) values.old result values.new }
+    ensures untold { (fault : AProbeFault)
+        → result ≡ Err (SurveyFault.Values fault) → out.new ≡ out.old }
+    ensures asked { HasSurveyed (within question.now.position.now V.source)
+        values.old result values.new }
 {
     let text = survey_text(alloc, question, values)?;
     write_text(out, text.as_slice())?;

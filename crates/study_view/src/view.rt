@@ -54,10 +54,13 @@ fn tree_lines<'a, 'b, A: Allocator, B: Allocator, V: Values>(
     bench: &Bench<'b, B>,
     values: &mut V,
 ) -> Result<Lines<'a, A>, ViewFault>
-    ensures nodes { IfOk result (λ lines. lines.nodes ≡ flat_map (node_line (marked bench.now)) (written_order (marked bench.now))) }
+    ensures nodes { IfOk result (λ lines.
+        lines.nodes ≡ flat_map (node_line (marked bench.now)) (written_order (marked bench.now))) }
     ensures zugzwangs { V.source.is_honest values.old → IfOk result (λ lines.
-        LinesOfEach (ZugzwangLines (marked bench.now)) (written_order (marked bench.now)) lines.zugzwangs) }
-    ensures asked { HasWalked (within (marked bench.now).start.position V.source) values.old result values.new }
+        LinesOfEach (ZugzwangLines (marked bench.now))
+        (written_order (marked bench.now)) lines.zugzwangs) }
+    ensures asked { HasWalked (within (marked bench.now).start.position V.source)
+        values.old result values.new }
 {
     let mut lines = Lines {
         nodes: Text::new(alloc),
@@ -85,7 +88,8 @@ fn text_of<'a, 'b, A: Allocator, B: Allocator>(
     ensures { IfOk result (λ text. text ≡ head_lines (marked bench.now)
         ++ (lines.now.nodes ++ (at_line steps.now here.now.start.now.position
         ++ (flat_map (told_line here.now.aim.now here.now.depth here.now.start.now here.now.value
-        (holding_count here.now.aim.now here.now.depth list.now)) list.now ++ lines.now.zugzwangs)))) }
+        (holding_count here.now.aim.now here.now.depth list.now)) list.now
+        ++ lines.now.zugzwangs)))) }
 {
     let mut text = Text::new(alloc);
     add_head(&mut text, bench)?;
@@ -107,11 +111,13 @@ fn view_from<'a, 'b, A: Allocator, B: Allocator, V: Values>(
     requires short { length steps.now ≤ 256 }
     requires found { IsTrue (has_spot (marked bench.now).tree steps.now) }
     requires start { start.now ≡ start_to (marked bench.now) steps.now }
-    ensures text { V.source.is_honest values.old → IfOk result (IsView (marked bench.now) steps.now) }
+    ensures text { V.source.is_honest values.old
+        → IfOk result (IsView (marked bench.now) steps.now) }
     ensures found { ¬ (result ≡ Err ViewFault.NoSuchNode) }
     ensures device { ¬ (result ≡ Err ViewFault.Device) }
     ensures asked { HasViewed V.source
-        (marked bench.now).start.position (asked_at (marked bench.now) steps.now) values.old result values.new }
+        (marked bench.now).start.position
+        (asked_at (marked bench.now) steps.now) values.old result values.new }
 {
     let stipulation = bench.stipulation();
     let aim = aim_of(&stipulation, bench.start().position.to_move());
@@ -139,11 +145,14 @@ fn view_at<'a, 'b, A: Allocator, B: Allocator, V: Values>(
     path: &Path<'b, B>,
     values: &mut V,
 ) -> Result<Text<'a, A>, ViewFault>
-    ensures text { V.source.is_honest values.old → IfOk result (IsView (marked bench.now) path.now) }
-    ensures no_node { (result ≡ Err ViewFault.NoSuchNode) ↔ (spot_at (marked bench.now).tree path.now ≡ None) }
+    ensures text { V.source.is_honest values.old
+        → IfOk result (IsView (marked bench.now) path.now) }
+    ensures no_node { (result ≡ Err ViewFault.NoSuchNode)
+        ↔ (spot_at (marked bench.now).tree path.now ≡ None) }
     ensures device { ¬ (result ≡ Err ViewFault.Device) }
     ensures asked { HasViewed V.source
-        (marked bench.now).start.position (asked_at (marked bench.now) path.now) values.old result values.new }
+        (marked bench.now).start.position
+        (asked_at (marked bench.now) path.now) values.old result values.new }
 {
     let _first = bench.start();
     match bench.start_at(path) {
@@ -164,18 +173,25 @@ pub fn write_view<'a, 'b, A: Allocator, B: Allocator, V: Values, W: Write>(
     values: &mut V,
     out: &mut W,
 ) -> Result<(), ViewFault>
-    ensures ok { V.source.is_honest values.old → OnOk result ((text : List ℕ) × IsView (marked bench.now) path.now text
+    ensures ok { V.source.is_honest values.old
+        → OnOk result ((text : List ℕ) × IsView (marked bench.now) path.now text
         × Appends (W.contents out.old) (W.contents out.new) text) }
-    ensures plain { V.source.is_honest values.old → IsKeptRight bench.now → OnOk result ((text : List ℕ)
-        × IsViewOf (plain_study (marked bench.now)) path.now text × Appends (W.contents out.old) (W.contents out.new) text) }
-    ensures no_node { (result ≡ Err ViewFault.NoSuchNode) ↔ (spot_at (marked bench.now).tree path.now ≡ None) }
-    ensures device { V.source.is_honest values.old → result ≡ Err ViewFault.Device → (text : List ℕ) × IsView (marked bench.now) path.now text
+    ensures plain { V.source.is_honest values.old → IsKeptRight bench.now
+        → OnOk result ((text : List ℕ)
+        × IsViewOf (plain_study (marked bench.now)) path.now text
+        × Appends (W.contents out.old) (W.contents out.new) text) }
+    ensures no_node { (result ≡ Err ViewFault.NoSuchNode)
+        ↔ (spot_at (marked bench.now).tree path.now ≡ None) }
+    ensures device { V.source.is_honest values.old → result ≡ Err ViewFault.Device → (text : List ℕ)
+        × IsView (marked bench.now) path.now text
         × TakesPrefix (W.contents out.old) (W.contents out.new) text }
     ensures gone { result ≡ Err ViewFault.NoSuchNode → out.new ≡ out.old }
     ensures memory { result ≡ Err ViewFault.OutOfMemory → out.new ≡ out.old }
-    ensures untold { (fault : AProbeFault) → result ≡ Err (ViewFault.Values fault) → out.new ≡ out.old }
+    ensures untold { (fault : AProbeFault)
+        → result ≡ Err (ViewFault.Values fault) → out.new ≡ out.old }
     ensures asked { HasViewed V.source
-        (marked bench.now).start.position (asked_at (marked bench.now) path.now) values.old result values.new }
+        (marked bench.now).start.position
+        (asked_at (marked bench.now) path.now) values.old result values.new }
 {
     let text = view_at(alloc, bench, path, values)?;
     write_text(out, text.as_slice())?;

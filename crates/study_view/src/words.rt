@@ -194,7 +194,8 @@ pub fn add_node<A: Allocator>(
     here: &Start,
 ) -> Result<(), AllocError>
     requires { IfSome node.now.played (λ m. is_legal before.now m ≡ true) }
-    ensures { OnOk result (text.new ≡ text.old ++ node_words steps.now before.now (node_seen node.now) here.now) }
+    ensures { OnOk result (text.new ≡ text.old
+        ++ node_words steps.now before.now (node_seen node.now) here.now) }
 {
     add_line_start(text, b"node ", steps)?;
     add_move_to_node(text, before, node.played)?;

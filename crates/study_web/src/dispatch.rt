@@ -46,7 +46,8 @@ pub fn answer<'f, 'a, A: Allocator>(
     saved: &[Saved<'a, A>],
 ) -> Answer<'a, A>
     requires { IfSome files.now.pages (λ n. (1 ≤ n) × (n ≤ 4096)) }
-    ensures { IsAnswer files.now.spans.now files.now.bytes.now (is_some files.now.pages) script.now (request_of request.now) result.text.items result.ended }
+    ensures { IsAnswer files.now.spans.now files.now.bytes.now (is_some files.now.pages) script.now
+        (request_of request.now) result.text.items result.ended }
 {
     match read_request(request) {
         Err(refusal) => fault_answer(alloc, RequestFault::Refused(refusal)),
@@ -72,7 +73,8 @@ fn answer_run<'f, 'a, A: Allocator>(
     saved: &[Saved<'a, A>],
 ) -> Answer<'a, A>
     requires { IfSome files.now.pages (λ n. (1 ≤ n) × (n ≤ 4096)) }
-    ensures { IsRun files.now.spans.now files.now.bytes.now (is_some files.now.pages) script.now result.text.items result.ended }
+    ensures { IsRun files.now.spans.now files.now.bytes.now
+        (is_some files.now.pages) script.now result.text.items result.ended }
 {
     let ended = replies_over(alloc, script, files.spans, files.bytes, saved, files.pages);
     ran(ended.text, ended.summary)
@@ -129,7 +131,8 @@ fn view_over<'f, 'a, A: Allocator>(
 ) -> Answer<'a, A>
     requires pages { IfSome files.now.pages (λ n. (1 ≤ n) × (n ≤ 4096)) }
     requires path { is_path_word path.now ≡ true }
-    ensures { IsViewed files.now.spans.now files.now.bytes.now script.now (steps_of path.now) result.text.items result.ended }
+    ensures { IsViewed files.now.spans.now files.now.bytes.now script.now
+        (steps_of path.now) result.text.items result.ended }
 {
     let mut store = SpanStore::new(alloc, files.spans, files.bytes, &[]);
     told(alloc, view_of(alloc, path, script, &mut store, files.pages))
@@ -141,7 +144,8 @@ fn review_over<'f, 'a, A: Allocator>(
     files: &TableFiles<'f>,
 ) -> Answer<'a, A>
     requires { IfSome files.now.pages (λ n. (1 ≤ n) × (n ≤ 4096)) }
-    ensures { IsReviewed files.now.spans.now files.now.bytes.now script.now result.text.items result.ended }
+    ensures { IsReviewed files.now.spans.now files.now.bytes.now script.now
+        result.text.items result.ended }
 {
     let mut store = SpanStore::new(alloc, files.spans, files.bytes, &[]);
     match review_of(alloc, script, &mut store, files.pages) {
@@ -156,7 +160,8 @@ fn report_over<'f, 'a, A: Allocator>(
     files: &TableFiles<'f>,
 ) -> Answer<'a, A>
     requires { IfSome files.now.pages (λ n. (1 ≤ n) × (n ≤ 4096)) }
-    ensures { IsPrinted files.now.spans.now files.now.bytes.now script.now result.text.items result.ended }
+    ensures { IsPrinted files.now.spans.now files.now.bytes.now script.now
+        result.text.items result.ended }
 {
     let mut store = SpanStore::new(alloc, files.spans, files.bytes, &[]);
     match printed_of(alloc, script, &mut store, files.pages) {
@@ -195,7 +200,8 @@ fn answer_view<'a, A: Allocator>(
     requires pages { IfSome files.now.pages (λ n. (1 ≤ n) × (n ≤ 4096)) }
     requires path { is_path_word path.now ≡ true }
     ensures { OverNeeded files.now.spans.now script.now
-        (λ those. IsViewed those files.now.bytes.now script.now (steps_of path.now)) result.text.items result.ended }
+        (λ those. IsViewed those files.now.bytes.now script.now (steps_of path.now))
+        result.text.items result.ended }
 {
     match files_for(alloc, script, files.spans) {
         Err(why) => told(alloc, Err(why)),
@@ -216,7 +222,8 @@ fn answer_review<'a, A: Allocator>(
     files: &TableFiles<'_>,
 ) -> Answer<'a, A>
     requires { IfSome files.now.pages (λ n. (1 ≤ n) × (n ≤ 4096)) }
-    ensures { OverNeeded files.now.spans.now script.now (λ those. IsReviewed those files.now.bytes.now script.now) result.text.items result.ended }
+    ensures { OverNeeded files.now.spans.now script.now (λ those.
+        IsReviewed those files.now.bytes.now script.now) result.text.items result.ended }
 {
     match files_for(alloc, script, files.spans) {
         Err(why) => told(alloc, Err(why)),
@@ -237,7 +244,8 @@ fn answer_report<'a, A: Allocator>(
     files: &TableFiles<'_>,
 ) -> Answer<'a, A>
     requires { IfSome files.now.pages (λ n. (1 ≤ n) × (n ≤ 4096)) }
-    ensures { OverNeeded files.now.spans.now script.now (λ those. IsPrinted those files.now.bytes.now script.now) result.text.items result.ended }
+    ensures { OverNeeded files.now.spans.now script.now (λ those.
+        IsPrinted those files.now.bytes.now script.now) result.text.items result.ended }
 {
     match files_for(alloc, script, files.spans) {
         Err(why) => told(alloc, Err(why)),
@@ -259,7 +267,8 @@ fn answer_survey<'a, A: Allocator>(
     files: &TableFiles<'_>,
 ) -> Answer<'a, A>
     requires { IfSome files.now.pages (λ n. (1 ≤ n) × (n ≤ 4096)) }
-    ensures { IsSurveyedTo files.now.spans.now files.now.bytes.now asked.now.square asked.now.stipulation asked.now.start result.text.items result.ended }
+    ensures { IsSurveyedTo files.now.spans.now files.now.bytes.now asked.now.square
+        asked.now.stipulation asked.now.start result.text.items result.ended }
 {
     let classes = classes_needed(&[asked.start.position.copied()]);
     match spans_for(alloc, classes.as_slice(), files.spans) {
@@ -274,7 +283,8 @@ fn answer_survey<'a, A: Allocator>(
 /// Opens only the files that the position needs.
 fn of_row<'a, A: Allocator>(alloc: &'a A, row: &Rowed, files: &TableFiles<'_>) -> Answer<'a, A>
     requires { IfSome files.now.pages (λ n. (1 ≤ n) × (n ≤ 4096)) }
-    ensures { IsRowTo files.now.spans.now files.now.bytes.now row.now.outcome row.now.start result.text.items result.ended }
+    ensures { IsRowTo files.now.spans.now files.now.bytes.now row.now.outcome row.now.start
+        result.text.items result.ended }
 {
     let classes = classes_needed(&[row.start.position.copied()]);
     match spans_for(alloc, classes.as_slice(), files.spans) {
@@ -301,7 +311,8 @@ fn answer_passed<'a, A: Allocator>(alloc: &'a A, start: &Start) -> Answer<'a, A>
 /// Opens only the files that are needed.
 fn of_find<'a, A: Allocator>(alloc: &'a A, piece: &Piece, files: &TableFiles<'_>) -> Answer<'a, A>
     requires { IfSome files.now.pages (λ n. (1 ≤ n) × (n ≤ 4096)) }
-    ensures { IsFoundTo files.now.spans.now files.now.bytes.now piece.now result.text.items result.ended }
+    ensures { IsFoundTo files.now.spans.now files.now.bytes.now piece.now
+        result.text.items result.ended }
 {
     let classes = classes_for(&piece.request);
     match spans_for(alloc, classes.as_slice(), files.spans) {

@@ -37,7 +37,8 @@ pub fn answer_into<'a, A: Allocator>(
     out: &mut [u8],
 ) -> usize
     ensures { IsNothing out.old out.new result ⊎ ((text : List ℕ) × (ended : AnEnding)
-        × IsAnswer (spans_of handed_in.now.spans.now) handed_in.now.bytes.now (is_paged handed_in.now.pages) handed_in.now.script.now
+        × IsAnswer (spans_of handed_in.now.spans.now) handed_in.now.bytes.now
+        (is_paged handed_in.now.pages) handed_in.now.script.now
         (request_of handed_in.now.request.now) text ended
         × IsHanded (ending_text ended ++ text) out.old out.new result) }
 {
@@ -87,7 +88,8 @@ fn pages_of(pages: u16) -> Option<u16>
 
 /// Copies as much of the answer to the front of `out` as fits. The result is the length of the answer, or 0 if there is no memory.
 fn hand_back<'a, A: Allocator>(alloc: &'a A, reply: &Answer<'a, A>, out: &mut [u8]) -> usize
-    ensures { IsNothing out.old out.new result ⊎ IsHanded (ending_text reply.now.ended ++ reply.now.text.items) out.old out.new result }
+    ensures { IsNothing out.old out.new result
+        ⊎ IsHanded (ending_text reply.now.ended ++ reply.now.text.items) out.old out.new result }
 {
     let mut text = Vec::new(alloc);
     match put_reply(&mut text, reply) {
@@ -104,14 +106,16 @@ fn put_reply<'a, A: Allocator>(
     text: &mut Vec<u8, &'a A>,
     reply: &Answer<'a, A>,
 ) -> Result<(), DeviceFailed>
-    ensures { OnOk result (text.new.items ≡ text.old.items ++ (ending_text reply.now.ended ++ reply.now.text.items)) }
+    ensures { OnOk result (text.new.items ≡ text.old.items
+        ++ (ending_text reply.now.ended ++ reply.now.text.items)) }
 {
     put_ending(text, reply.ended)?;
     write_text(text, reply.text.as_slice())
 }
 
 fn copy_front(text: &[u8], out: &mut [u8])
-    ensures { out.new ≡ take (min (length text.now) (length out.old)) text.now ++ drop (min (length text.now) (length out.old)) out.old }
+    ensures { out.new ≡ take (min (length text.now) (length out.old)) text.now
+        ++ drop (min (length text.now) (length out.old)) out.old }
 {
     let count = text.len().min(out.len());
     out[..count].copy_from_slice(&text[..count]);

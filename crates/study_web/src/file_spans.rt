@@ -38,7 +38,8 @@ fn is_file_of(class: Class, bytes: &[u8], span: &FileSpan) -> bool
 
 /// The file of a class: the bytes of the first valid span for it. Spans may overlap.
 pub fn file_in<'f>(spans: &[FileSpan], bytes: &'f [u8], class: Class) -> Option<&'f [u8]>
-    ensures { MatchOption result (file_in spans.now bytes.now class ≡ None) (λ file. file_in spans.now bytes.now class ≡ Some file.now) }
+    ensures { MatchOption result (file_in spans.now bytes.now class ≡ None) (λ file.
+        file_in spans.now bytes.now class ≡ Some file.now) }
 {
     for span in spans {
         if is_file_of(class, bytes, span) {

@@ -35,9 +35,12 @@ fn piece_text<'a, V: CellPages, A: Allocator>(
     piece: &Piece,
     values: &mut V,
 ) -> Result<Vec<u8, &'a A>, Stop>
-    ensures text { V.source.is_honest values.old → IfOk result (λ text. IsPiece piece.now text.items) }
-    ensures no_table { (c : AClass) → IsErrOf result (Stop.Values (ProbeFault.NoTable c)) → V.source.held values.old c ≡ false }
-    ensures failed_so { (f : ASourceFault) → IsErrOf result (Stop.Values (ProbeFault.TableRead f)) → (c : AClass) × V.source.may_fail values.old c f }
+    ensures text { V.source.is_honest values.old
+        → IfOk result (λ text. IsPiece piece.now text.items) }
+    ensures no_table { (c : AClass) → IsErrOf result (Stop.Values (ProbeFault.NoTable c))
+        → V.source.held values.old c ≡ false }
+    ensures failed_so { (f : ASourceFault) → IsErrOf result (Stop.Values (ProbeFault.TableRead f))
+        → (c : AClass) × V.source.may_fail values.old c f }
     ensures no_damage { V.source.is_honest values.old → IfErr result StopsUndamaged }
 {
     let mut text = Vec::new(alloc);
@@ -56,8 +59,11 @@ pub fn found_of<'a, S: TableStore, A: Allocator>(
     pages: Option<u16>,
 ) -> Result<Vec<u8, &'a A>, AnswerFault>
     requires { IfSome pages (λ n. (1 ≤ n) × (n ≤ 4096)) }
-    ensures text { ((c : AClass) → S.honest store.old true c) → IfOk result (λ text. IsPiece piece.now text.items) }
-    ensures none { IfErr result (MayEnd (IsOfSearch (S.headers store.old) (S.faults store.old) ((c : AClass) → S.honest store.old true c)) IsNoMemory) }
+    ensures text { ((c : AClass) → S.honest store.old true c)
+        → IfOk result (λ text. IsPiece piece.now text.items) }
+    ensures none { IfErr result
+        (MayEnd (IsOfSearch (S.headers store.old) (S.faults store.old) ((c : AClass)
+        → S.honest store.old true c)) IsNoMemory) }
 {
     match open_tables(alloc, store, pages) {
         Err(denial) => Err(AnswerFault::Denied(denial)),

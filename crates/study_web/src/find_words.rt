@@ -19,7 +19,8 @@ const MAX_WORDS: usize = 16;
 
 /// The words of a text, unless there are too many.
 fn words_in(text: &[u8]) -> Option<ArrayVec<&[u8], MAX_WORDS>>
-    ensures { MatchOption result (16 < length (words text.now)) (λ list. map (λ word. word.now) list.items ≡ words text.now) }
+    ensures { MatchOption result (16 < length (words text.now)) (λ list.
+        map (λ word. word.now) list.items ≡ words text.now) }
 {
     let mut list = ArrayVec::new();
     let mut rest = text;

@@ -72,7 +72,8 @@ pub fn make_file<'a, A: Allocator>(
     spans: &[FileSpan],
     bytes: &[u8],
 ) -> Result<Vec<u8, &'a A>, MakeFault>
-    ensures right { HasRightNeeds spans.now bytes.now class → IfOk result (λ file. IsRightFileOf class file.items) }
+    ensures right { HasRightNeeds spans.now bytes.now class
+        → IfOk result (λ file. IsRightFileOf class file.items) }
     ensures fault { IfErr result (IsMakeFault spans.now bytes.now class) }
 {
     let tables = needed_tables(alloc, class, spans, bytes)?;
@@ -89,7 +90,8 @@ fn built<'a, A: Allocator>(
 ) -> Result<Table<'a, A>, MakeFault>
     ensures class { IfOk result (λ t. t.class ≡ class) }
     ensures right { TablesAreRight tables.now.tables → IfOk result IsRight }
-    ensures fault { (spans : List ASpan) (bytes : List ℕ) → (HasRightNeeds spans bytes class → TablesAreRight tables.now.tables)
+    ensures fault { (spans : List ASpan) (bytes : List ℕ)
+        → (HasRightNeeds spans bytes class → TablesAreRight tables.now.tables)
         → ((d : AClass) → IsNeeded class d → IsSettled spans bytes class tables.now.tables d)
         → HaveFiles spans bytes tables.now.tables
         → IfErr result (IsMakeFault spans bytes class) }
@@ -106,8 +108,10 @@ fn text_of<'a, A: Allocator>(
     alloc: &'a A,
     table: &Table<'a, A>,
 ) -> Result<Vec<u8, &'a A>, MakeFault>
-    ensures ok { (c : AClass) → table.now.class ≡ c → IsRight table.now → IfOk result (λ file. IsRightFileOf c file.items) }
-    ensures err { (spans : List ASpan) (bytes : List ℕ) (c : AClass) → IfErr result (IsMakeFault spans bytes c) }
+    ensures ok { (c : AClass) → table.now.class ≡ c → IsRight table.now
+        → IfOk result (λ file. IsRightFileOf c file.items) }
+    ensures err { (spans : List ASpan) (bytes : List ℕ) (c : AClass)
+        → IfErr result (IsMakeFault spans bytes c) }
 {
     let _class = table.class();
     let mut file = Vec::new(alloc);
@@ -124,8 +128,10 @@ fn needed_tables<'a, A: Allocator>(
     spans: &[FileSpan],
     bytes: &[u8],
 ) -> Result<WholeTables<'a, A>, MakeFault>
-    ensures right { HasRightNeeds spans.now bytes.now class → IfOk result (λ w. TablesAreRight w.tables) }
-    ensures settled { (d : AClass) → IsNeeded class d → IfOk result (λ w. IsSettled spans.now bytes.now class w.tables d) }
+    ensures right { HasRightNeeds spans.now bytes.now class
+        → IfOk result (λ w. TablesAreRight w.tables) }
+    ensures settled { (d : AClass) → IsNeeded class d
+        → IfOk result (λ w. IsSettled spans.now bytes.now class w.tables d) }
     ensures files { IfOk result (λ w. HaveFiles spans.now bytes.now w.tables) }
     ensures fault { IfErr result (IsMakeFault spans.now bytes.now class) }
 {
@@ -147,10 +153,14 @@ fn load_classes<'a, A: Allocator>(
 ) -> Result<(), MakeFault>
     requires needed { (d : AClass) → Contains needed.now d → IsNeeded class d }
     requires ascending { is_ascending needed.now ≡ true }
-    requires settled { (d : AClass) → IsNeeded class d → (Contains needed.now d → ⊥) → IsSettled spans.now bytes.now class tables.old.tables d }
-    ensures right { HasRightNeeds spans.now bytes.now class → TablesAreRight tables.old.tables → OnOk result (TablesAreRight tables.new.tables) }
-    ensures settled { (d : AClass) → IsNeeded class d → OnOk result (IsSettled spans.now bytes.now class tables.new.tables d) }
-    ensures files { HaveFiles spans.now bytes.now tables.old.tables → OnOk result (HaveFiles spans.now bytes.now tables.new.tables) }
+    requires settled { (d : AClass) → IsNeeded class d → (Contains needed.now d → ⊥)
+        → IsSettled spans.now bytes.now class tables.old.tables d }
+    ensures right { HasRightNeeds spans.now bytes.now class → TablesAreRight tables.old.tables
+        → OnOk result (TablesAreRight tables.new.tables) }
+    ensures settled { (d : AClass) → IsNeeded class d
+        → OnOk result (IsSettled spans.now bytes.now class tables.new.tables d) }
+    ensures files { HaveFiles spans.now bytes.now tables.old.tables
+        → OnOk result (HaveFiles spans.now bytes.now tables.new.tables) }
     ensures fault { IfErr result (IsFirstFault spans.now bytes.now class needed.now) }
 {
     needs_come_first();
@@ -173,13 +183,18 @@ fn load_needed<'a, A: Allocator>(
     bytes: &[u8],
 ) -> Result<(), MakeFault>
     requires { IsNeeded class need }
-    ensures right { HasRightNeeds spans.now bytes.now class → TablesAreRight tables.old.tables → OnOk result (TablesAreRight tables.new.tables) }
-    ensures settled { ((d : AClass) → Contains (needs_of need) d → IsSettled spans.now bytes.now class tables.old.tables d)
+    ensures right { HasRightNeeds spans.now bytes.now class → TablesAreRight tables.old.tables
+        → OnOk result (TablesAreRight tables.new.tables) }
+    ensures settled { ((d : AClass) → Contains (needs_of need) d
+        → IsSettled spans.now bytes.now class tables.old.tables d)
         → OnOk result (IsSettled spans.now bytes.now class tables.new.tables need) }
-    ensures keeps { (d : AClass) → is_some (table_of tables.old.tables d) ≡ true → OnOk result (is_some (table_of tables.new.tables d) ≡ true) }
-    ensures files { HaveFiles spans.now bytes.now tables.old.tables → OnOk result (HaveFiles spans.now bytes.now tables.new.tables) }
+    ensures keeps { (d : AClass) → is_some (table_of tables.old.tables d) ≡ true
+        → OnOk result (is_some (table_of tables.new.tables d) ≡ true) }
+    ensures files { HaveFiles spans.now bytes.now tables.old.tables
+        → OnOk result (HaveFiles spans.now bytes.now tables.new.tables) }
     ensures sound { need ≢ class → OnOk result (IsSoundIn (file_in spans.now bytes.now need) need) }
-    ensures fault { IfErr result (λ fault. (need ≢ class) × IsFaultIn (file_in spans.now bytes.now need) need fault) }
+    ensures fault { IfErr result (λ fault. (need ≢ class)
+        × IsFaultIn (file_in spans.now bytes.now need) need fault) }
 {
     needs_come_first();
     if need == class {
@@ -196,11 +211,15 @@ fn load_class<'a, A: Allocator>(
     spans: &[FileSpan],
     bytes: &[u8],
 ) -> Result<(), MakeFault>
-    ensures right { IsHonestIn false (file_in spans.now bytes.now class) → TablesAreRight tables.old.tables
+    ensures right { IsHonestIn false (file_in spans.now bytes.now class)
+        → TablesAreRight tables.old.tables
         → OnOk result (TablesAreRight tables.new.tables) }
-    ensures taken { OnOk result (IsTaken spans.now bytes.now class tables.old.tables tables.new.tables) }
-    ensures keeps { (d : AClass) → is_some (table_of tables.old.tables d) ≡ true → OnOk result (is_some (table_of tables.new.tables d) ≡ true) }
-    ensures files { HaveFiles spans.now bytes.now tables.old.tables → OnOk result (HaveFiles spans.now bytes.now tables.new.tables) }
+    ensures taken { OnOk result
+        (IsTaken spans.now bytes.now class tables.old.tables tables.new.tables) }
+    ensures keeps { (d : AClass) → is_some (table_of tables.old.tables d) ≡ true
+        → OnOk result (is_some (table_of tables.new.tables d) ≡ true) }
+    ensures files { HaveFiles spans.now bytes.now tables.old.tables
+        → OnOk result (HaveFiles spans.now bytes.now tables.new.tables) }
     ensures sound { OnOk result (IsSoundIn (file_in spans.now bytes.now class) class) }
     ensures fault { IfErr result (IsFaultIn (file_in spans.now bytes.now class) class) }
 {

@@ -30,10 +30,13 @@ pub fn replies_over<'f, 'a, A: Allocator>(
     requires { IfSome pages (λ n. (1 ≤ n) × (n ≤ 4096)) }
     ensures own { IsOwnEnd result.summary }
     ensures shape { (left : Option (List ℕ)) × Shape script.now left result.summary }
-    ensures fits { (left : Option (List ℕ)) × Fits script.now left (Some []) (Some result.text.items) result.summary }
-    ensures outcome { (trusted : AClass → Bool) → AreRightFiles trusted (is_some pages) spans.now bytes.now → AreTrusted trusted script.now
+    ensures fits { (left : Option (List ℕ))
+        × Fits script.now left (Some []) (Some result.text.items) result.summary }
+    ensures outcome { (trusted : AClass → Bool)
+        → AreRightFiles trusted (is_some pages) spans.now bytes.now → AreTrusted trusted script.now
         → (shelf : StoreKnowledge) × IsShelf spans.now bytes.now shelf × (left : Option (List ℕ))
-        × Outcome true (initial_state shelf (is_some pages)) script.now left (Some []) (Some result.text.items) result.summary }
+        × Outcome true (initial_state shelf (is_some pages)) script.now left (Some [])
+        (Some result.text.items) result.summary }
 {
     let mut store = SpanStore::new(alloc, spans, bytes, saved);
     let mut reader = script;

@@ -64,7 +64,8 @@ pub fn told<'a, A: Allocator>(
     alloc: &'a A,
     made: Result<Vec<u8, &'a A>, AnswerFault>,
 ) -> Answer<'a, A>
-    ensures text { IfOk made.entry (λ text. (result.ended ≡ Ending.Answered) × (result.text.items ≡ text.items)) }
+    ensures text { IfOk made.entry (λ text. (result.ended ≡ Ending.Answered)
+        × (result.text.items ≡ text.items)) }
     ensures none { IfErr made.entry (λ why. IsAnswerFault why result.text.items result.ended) }
 {
     match made {

@@ -21,8 +21,11 @@ pub fn printed_of<'a, S: TableStore, A: Allocator>(
 ) -> Result<RunOutput<'a, A>, RequestFault>
     requires { IfSome pages (λ n. (1 ≤ n) × (n ≤ 4096)) }
     ensures own { IfOk result (λ told. IsOwnEnd told.summary) }
-    ensures file { IfOk result (λ told. ((told.summary ≡ Err RunFault.OutOfMemory) × (told.text.items ≡ [])) ⊎ (((c : AClass) → S.honest store.old true c)
-        → OverStore (S.headers store.old) (S.faults store.old) (IsFileOver script.now told.text.items told.summary))) }
+    ensures file { IfOk result (λ told.
+        ((told.summary ≡ Err RunFault.OutOfMemory) × (told.text.items ≡ []))
+        ⊎ (((c : AClass) → S.honest store.old true c)
+        → OverStore (S.headers store.old) (S.faults store.old)
+        (IsFileOver script.now told.text.items told.summary))) }
     ensures denied { IfErr result (IsOfTables (S.headers store.old) (S.faults store.old)) }
 {
     match open_tables(alloc, store, pages) {

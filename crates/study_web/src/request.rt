@@ -181,8 +181,10 @@ fn read_passed(rest: &[u8]) -> Result<Request<'_>, Refusal>
 /// `win`, `draw` or `mate K`, and the rest.
 #[tactic(auto, using(study_command::proofs::Printable::printable_behind))]
 fn read_goal(rest: &[u8]) -> Option<(Goal, &[u8])>
-    ensures value { option_map (λ found. (found.0, found.1.now)) result ≡ goal_begun (words rest.now) rest.now }
-    ensures printable { list_all is_printable rest.now ≡ true → IfSome result (λ found. list_all is_printable found.1.now ≡ true) }
+    ensures value { option_map (λ found. (found.0, found.1.now)) result
+        ≡ goal_begun (words rest.now) rest.now }
+    ensures printable { list_all is_printable rest.now ≡ true
+        → IfSome result (λ found. list_all is_printable found.1.now ≡ true) }
 {
     let (word, rest) = next_word(rest)?;
     if word == b"win".as_slice() {
@@ -202,8 +204,10 @@ fn read_goal(rest: &[u8]) -> Option<(Goal, &[u8])>
 /// `SIDE GOAL`, and the rest.
 #[tactic(auto, using(study_command::proofs::Printable::printable_behind))]
 fn read_stipulation(rest: &[u8]) -> Option<(Stipulation, &[u8])>
-    ensures value { option_map (λ found. (found.0, found.1.now)) result ≡ stipulation_begun (words rest.now) rest.now }
-    ensures printable { list_all is_printable rest.now ≡ true → IfSome result (λ found. list_all is_printable found.1.now ≡ true) }
+    ensures value { option_map (λ found. (found.0, found.1.now)) result
+        ≡ stipulation_begun (words rest.now) rest.now }
+    ensures printable { list_all is_printable rest.now ≡ true
+        → IfSome result (λ found. list_all is_printable found.1.now ≡ true) }
 {
     let (side, rest) = next_word(rest)?;
     match (read_side(side), read_goal(rest)) {

@@ -47,7 +47,8 @@ fn row_text<'a, A: Allocator>(alloc: &'a A, most: Option<u8>) -> Result<Vec<u8, 
 /// The same, or want of memory.
 fn told_row<'a, A: Allocator>(alloc: &'a A, most: Option<u8>) -> Result<Vec<u8, &'a A>, AnswerFault>
     ensures text { IfOk result (λ text. text.items ≡ row_text most) }
-    ensures none { IfErr result (λ why. why ≡ AnswerFault.Denied (RequestFault.Refused Refusal.OutOfMemory)) }
+    ensures none { IfErr result (λ why.
+        why ≡ AnswerFault.Denied (RequestFault.Refused Refusal.OutOfMemory)) }
 {
     match row_text(alloc, most) {
         Ok(text) => Ok(text),
@@ -57,7 +58,8 @@ fn told_row<'a, A: Allocator>(alloc: &'a A, most: Option<u8>) -> Result<Vec<u8, 
 
 /// The number, or why a value cannot be read.
 fn most_of<V: Values>(asked: &Rowed, values: &mut V) -> Result<Option<u8>, ProbeFault>
-    ensures game { V.source.is_honest values.old → IfOk result (IsMost asked.now.outcome asked.now.start.position 12) }
+    ensures game { V.source.is_honest values.old
+        → IfOk result (IsMost asked.now.outcome asked.now.start.position 12) }
     ensures faults { IfErr result (CanReport V.source values.old) }
 {
     most_only_moves(&asked.start.position, asked.outcome, LIMIT, values)
@@ -74,7 +76,9 @@ pub fn row_of<'a, S: TableStore, A: Allocator>(
     requires { IfSome pages (λ n. (1 ≤ n) × (n ≤ 4096)) }
     ensures text { ((c : AClass) → S.honest store.old true c)
         → IfOk result (λ text. IsRow asked.now.outcome asked.now.start.position text.items) }
-    ensures none { IfErr result (MayEnd (IsOfSearch (S.headers store.old) (S.faults store.old) ((c : AClass) → S.honest store.old true c)) IsNoMemory) }
+    ensures none { IfErr result
+        (MayEnd (IsOfSearch (S.headers store.old) (S.faults store.old) ((c : AClass)
+        → S.honest store.old true c)) IsNoMemory) }
 {
     match open_tables(alloc, store, pages) {
         Err(denial) => Err(AnswerFault::Denied(denial)),

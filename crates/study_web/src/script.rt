@@ -43,7 +43,8 @@ pub fn review_of<'a, S: TableStore, A: Allocator>(
     requires { IfSome pages (λ n. (1 ≤ n) × (n ≤ 4096)) }
     ensures own { IfOk result (λ told. IsOwnEnd told.summary) }
     ensures review { ((c : AClass) → S.honest store.old true c) → IfOk result (λ told.
-        OverStore (S.headers store.old) (S.faults store.old) (IsReviewOver script.now told.text.items told.summary)) }
+        OverStore (S.headers store.old) (S.faults store.old)
+        (IsReviewOver script.now told.text.items told.summary)) }
     ensures denied { IfErr result (IsOfTables (S.headers store.old) (S.faults store.old)) }
 {
     match open_tables(alloc, store, pages) {
@@ -78,7 +79,8 @@ fn bench_view<'a, A: Allocator, V: Values>(
         values.old fault values.new)
         (has_spot (plain_study (marked bench.now)).tree (steps_of path.now) ≡ false)) IsNever) }
     ensures text { V.source.is_honest values.old → IsKeptRight bench.now
-        → IfOk result (λ text. IsViewOf (plain_study (marked bench.now)) (steps_of path.now) text.items) }
+        → IfOk result (λ text.
+        IsViewOf (plain_study (marked bench.now)) (steps_of path.now) text.items) }
 {
     let first = bench.start();
     let Ok(path) = read_path(alloc, path) else {
@@ -112,7 +114,8 @@ fn lines_of<'a, A: Allocator>(alloc: &'a A, start: &Start) -> Result<Vec<u8, &'a
 
 /// The view of a start without a stipulation.
 fn start_view<'a, A: Allocator>(alloc: &'a A, start: &Start) -> Result<Vec<u8, &'a A>, AnswerFault>
-    ensures none { IfErr result (λ why. why ≡ AnswerFault.Denied (RequestFault.Refused Refusal.OutOfMemory)) }
+    ensures none { IfErr result (λ why.
+        why ≡ AnswerFault.Denied (RequestFault.Refused Refusal.OutOfMemory)) }
     ensures text { IfOk result (λ text. text.items ≡ start_lines start.now) }
 {
     match lines_of(alloc, start) {
@@ -125,7 +128,9 @@ fn start_view<'a, A: Allocator>(alloc: &'a A, start: &Start) -> Result<Vec<u8, &
 #[tactic(auto, using(crate::proofs::Nodes::places_other), unfolding(study_command::specs::Paths::steps_of))]
 fn require_root(path: &[u8]) -> Result<(), AnswerFault>
     ensures root { OnOk result (steps_of path.now ≡ []) }
-    ensures none { IfErr result (λ why. (why ≡ AnswerFault.Denied (RequestFault.Refused Refusal.NoSuchNode)) × (steps_of path.now ≢ [])) }
+    ensures none { IfErr result (λ why.
+        (why ≡ AnswerFault.Denied (RequestFault.Refused Refusal.NoSuchNode))
+        × (steps_of path.now ≢ [])) }
 {
     if path == b"root".as_slice() {
         Ok(())
@@ -146,7 +151,8 @@ fn document_view<'a, A: Allocator, V: Values>(
         (λ fault. StudyStopped V.source (document_seen document.now) values.old fault values.new)
         (LacksNode (document_seen document.now) (steps_of path.now))) IsNever) }
     ensures text { V.source.is_honest values.old → IsMarked document.now
-        → IfOk result (λ text. IsDocumentView (document_seen document.now) (steps_of path.now) text.items) }
+        → IfOk result (λ text.
+        IsDocumentView (document_seen document.now) (steps_of path.now) text.items) }
 {
     match document {
         Document::Study(bench) => bench_view(alloc, bench, path, values),
@@ -178,9 +184,17 @@ fn run_to_end<'a, S: TableStore, A: Allocator>(
 ) -> Result<ScriptEnd<'a, S::Pages, A>, RunFault>
     ensures left { (classes : List AClass) → SourcesAreRight S.Pages.honest tables.entry.sources
         → ((c : AClass) → is_some (held_of tables.entry.sources c) ≡ is_among classes c)
-        → ((c : AClass) (f : ASourceFault) → MayFail S.Pages.gives (held_of tables.entry.sources c) c f → S.faults store.old c f ≡ true)
-        → IfOk result (λ left. (state : State) × Holds S.Pages.honest S.Pages.gives left.document left.tables state
-        × IsLeft classes (record { files = S.files store.old; headers = S.headers store.old; faults = S.faults store.old })
+        → ((c : AClass) (f : ASourceFault)
+        → MayFail S.Pages.gives (held_of tables.entry.sources c) c f
+        → S.faults store.old c f ≡ true)
+        → IfOk result (λ left. (state : State)
+        × Holds S.Pages.honest S.Pages.gives left.document left.tables state
+        × IsLeft classes
+        (record {
+          files = S.files store.old;
+          headers = S.headers store.old;
+          faults = S.faults store.old;
+        })
         script.now state left.refused.items) }
     ensures stops { IfErr result (IsUnread script.now) }
 {
@@ -227,10 +241,13 @@ fn view_of_end<'a, P: PageSource, A: Allocator>(
 ) -> Result<Vec<u8, &'a A>, AnswerFault>
     requires { is_path_word path.now ≡ true }
     ensures none { IfErr result (MayEnd (IsViewDenial
-        (λ fault. (state : State) → Holds P.honest P.gives left.entry.document left.entry.tables state → IsViewUntold state fault)
+        (λ fault. (state : State)
+        → Holds P.honest P.gives left.entry.document left.entry.tables state
+        → IsViewUntold state fault)
         (LacksNode (document_seen left.entry.document) (steps_of path.now))) IsNever) }
     ensures text { tables_honest P.honest left.entry.tables → IsMarked left.entry.document
-        → IfOk result (λ text. (view : List ℕ) × IsDocumentView (document_seen left.entry.document) (steps_of path.now) view
+        → IfOk result (λ text. (view : List ℕ)
+        × IsDocumentView (document_seen left.entry.document) (steps_of path.now) view
         × (text.items ≡ view ++ left.entry.refused.items)) }
 {
     let ScriptEnd {
@@ -256,10 +273,16 @@ pub fn view_of<'a, S: TableStore, A: Allocator>(
     requires pages { IfSome pages (λ n. (1 ≤ n) × (n ≤ 4096)) }
     requires path { is_path_word path.now ≡ true }
     ensures text { ((c : AClass) → S.honest store.old true c)
-        → IfOk result (λ text. OverStore (S.headers store.old) (S.faults store.old) (IsViewOver script.now (steps_of path.now) text.items)) }
-    ensures none { IfErr result (MayEnd (λ d. IsOfTables (S.headers store.old) (S.faults store.old) d ⊎ IsViewDenial
-        (λ fault. ((c : AClass) → S.honest store.old true c) → OverStore (S.headers store.old) (S.faults store.old) (IsUntoldOver script.now fault))
-        (((c : AClass) → S.honest store.old true c) → OverStore (S.headers store.old) (S.faults store.old) (LacksNodeOver script.now (steps_of path.now)))
+        → IfOk result (λ text.
+        OverStore (S.headers store.old) (S.faults store.old)
+        (IsViewOver script.now (steps_of path.now) text.items)) }
+    ensures none { IfErr result
+        (MayEnd (λ d. IsOfTables (S.headers store.old) (S.faults store.old) d ⊎ IsViewDenial
+        (λ fault. ((c : AClass) → S.honest store.old true c)
+        → OverStore (S.headers store.old) (S.faults store.old) (IsUntoldOver script.now fault))
+        (((c : AClass) → S.honest store.old true c)
+        → OverStore (S.headers store.old) (S.faults store.old)
+        (LacksNodeOver script.now (steps_of path.now)))
         d) (IsUnread script.now)) }
 {
     match open_tables(alloc, store, pages) {

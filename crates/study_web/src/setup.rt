@@ -121,7 +121,8 @@ fn needs_of<'a, A: Allocator>(
     alloc: &'a A,
     positions: &[Position],
 ) -> Result<Vec<u8, &'a A>, AllocError>
-    ensures { IfOk result (λ text. (classes : List AClass) × AreClassesNeeded positions.now classes × (text.items ≡ classes_text classes)) }
+    ensures { IfOk result (λ text. (classes : List AClass) × AreClassesNeeded positions.now classes
+        × (text.items ≡ classes_text classes)) }
 {
     let classes = classes_needed(positions);
     let mut text = Vec::new(alloc);
@@ -151,7 +152,9 @@ pub fn passed_of<'a, A: Allocator>(
     alloc: &'a A,
     start: &Start,
 ) -> Result<Vec<u8, &'a A>, AnswerFault>
-    ensures text { IfOk result (λ text. text.items ≡ squares_text (passed_squares start.now.position.men start.now.position.to_move)) }
+    ensures text { IfOk result (λ text.
+        text.items
+        ≡ squares_text (passed_squares start.now.position.men start.now.position.to_move)) }
     ensures none { IfErr result (MayEnd IsOutOfMemory IsNoMemory) }
 {
     let p = &start.position;

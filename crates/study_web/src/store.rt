@@ -46,8 +46,10 @@ impl<'f, 'w, 'a, A: Allocator> SpanStore<'f, 'w, 'a, A> {
 
     /// The file of a class; over this store, a file that was written cannot be read again.
     fn file(&self, class: Class) -> Result<&'f [u8], StoreFault>
-        ensures ok { IfOk result (λ file. IsFileGiven self.now.spans.now self.now.bytes.now self.now.written class file.now) }
-        ensures err { IfErr result (IsWithheld self.now.spans.now self.now.bytes.now self.now.written class) }
+        ensures ok { IfOk result (λ file.
+            IsFileGiven self.now.spans.now self.now.bytes.now self.now.written class file.now) }
+        ensures err { IfErr result
+            (IsWithheld self.now.spans.now self.now.bytes.now self.now.written class) }
     {
         if self.written[class as usize] {
             return Err(StoreFault::Device);

@@ -24,9 +24,11 @@ pub fn survey_of<'a, S: TableStore, A: Allocator>(
 ) -> Result<Vec<u8, &'a A>, AnswerFault>
     requires { IfSome pages (λ n. (1 ≤ n) × (n ≤ 4096)) }
     ensures text { ((c : AClass) → S.honest store.old true c)
-        → IfOk result (λ text. IsSurvey asked.now.start.position asked.now.square asked.now.stipulation text.items) }
+        → IfOk result (λ text.
+        IsSurvey asked.now.start.position asked.now.square asked.now.stipulation text.items) }
     ensures none { IfErr result (MayEnd (IsSurveyDenial
-        (IsOfValues (S.headers store.old) (S.faults store.old) ((c : AClass) → S.honest store.old true c) asked.now.start.position)
+        (IsOfValues (S.headers store.old) (S.faults store.old) ((c : AClass)
+        → S.honest store.old true c) asked.now.start.position)
         asked.now.start asked.now.square)
         IsNoMemory) }
 {

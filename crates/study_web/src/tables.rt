@@ -38,18 +38,24 @@ fn open_table<'a, S: TableStore, A: Allocator>(
     store: &mut S,
     class: Class,
 ) -> Result<(), RequestFault>
-    ensures right { S.honest store.old true class → SourcesAreRight S.Pages.honest tables.old.sources
+    ensures right { S.honest store.old true class
+        → SourcesAreRight S.Pages.honest tables.old.sources
         → OnOk result (SourcesAreRight S.Pages.honest tables.new.sources) }
-    ensures grows { (c : AClass) → is_some (held_of tables.old.sources c) ≡ true → OnOk result (is_some (held_of tables.new.sources c) ≡ true) }
+    ensures grows { (c : AClass) → is_some (held_of tables.old.sources c) ≡ true
+        → OnOk result (is_some (held_of tables.new.sources c) ≡ true) }
     ensures opened { (c : AClass) → OnOk result (is_some (held_of tables.new.sources c) ≡ true
         → (is_some (held_of tables.old.sources c) ≡ true) ⊎ IsOpened (S.headers store.old c)) }
-    ensures given { OnOk result (is_some (held_of tables.new.sources class) ≡ false → IsGiven (S.headers store.old class) (Err NoFile)) }
-    ensures fails { (c : AClass) (f : ASourceFault) → OnOk result (MayFail S.Pages.gives (held_of tables.new.sources c) c f
-        → MayFail S.Pages.gives (held_of tables.old.sources c) c f ⊎ (S.faults store.old c f ≡ true)) }
+    ensures given { OnOk result (is_some (held_of tables.new.sources class) ≡ false
+        → IsGiven (S.headers store.old class) (Err NoFile)) }
+    ensures fails { (c : AClass) (f : ASourceFault)
+        → OnOk result (MayFail S.Pages.gives (held_of tables.new.sources c) c f
+        → MayFail S.Pages.gives (held_of tables.old.sources c) c f
+        ⊎ (S.faults store.old c f ≡ true)) }
     ensures named { IfErr result (IsOfTables (S.headers store.old) (S.faults store.old)) }
     ensures stays { (c : AClass) → S.honest store.old true c → S.honest store.new true c }
     ensures headers { (c : AClass) → S.headers store.new c ≡ S.headers store.old c }
-    ensures faults { (c : AClass) (f : ASourceFault) → S.faults store.new c f ≡ S.faults store.old c f }
+    ensures faults { (c : AClass) (f : ASourceFault)
+        → S.faults store.new c f ≡ S.faults store.old c f }
 {
     if tables.holds(class) {
         return Ok(());
@@ -70,17 +76,24 @@ fn open_each<'a, S: TableStore, A: Allocator>(
     store: &mut S,
     classes: &[Class],
 ) -> Result<(), RequestFault>
-    ensures right { ((c : AClass) → S.honest store.old true c) → SourcesAreRight S.Pages.honest tables.old.sources
+    ensures right { ((c : AClass) → S.honest store.old true c)
+        → SourcesAreRight S.Pages.honest tables.old.sources
         → OnOk result (SourcesAreRight S.Pages.honest tables.new.sources) }
-    ensures grows { (c : AClass) → is_some (held_of tables.old.sources c) ≡ true → OnOk result (is_some (held_of tables.new.sources c) ≡ true) }
+    ensures grows { (c : AClass) → is_some (held_of tables.old.sources c) ≡ true
+        → OnOk result (is_some (held_of tables.new.sources c) ≡ true) }
     ensures opened { (c : AClass) → OnOk result (is_some (held_of tables.new.sources c) ≡ true
         → (is_some (held_of tables.old.sources c) ≡ true) ⊎ IsOpened (S.headers store.old c)) }
-    ensures fails { (c : AClass) (f : ASourceFault) → OnOk result (MayFail S.Pages.gives (held_of tables.new.sources c) c f
-        → MayFail S.Pages.gives (held_of tables.old.sources c) c f ⊎ (S.faults store.old c f ≡ true)) }
+    ensures fails { (c : AClass) (f : ASourceFault)
+        → OnOk result (MayFail S.Pages.gives (held_of tables.new.sources c) c f
+        → MayFail S.Pages.gives (held_of tables.old.sources c) c f
+        ⊎ (S.faults store.old c f ≡ true)) }
     ensures named { IfErr result (IsOfTables (S.headers store.old) (S.faults store.old)) }
-    ensures given { (c : AClass) → OnOk result (is_among classes.now c ≡ true → is_some (held_of tables.new.sources c) ≡ false
+    ensures given { (c : AClass)
+        → OnOk result (is_among classes.now c ≡ true
+        → is_some (held_of tables.new.sources c) ≡ false
         → IsGiven (S.headers store.old c) (Err NoFile)) }
-    ensures faults { (c : AClass) (f : ASourceFault) → S.faults store.new c f ≡ S.faults store.old c f }
+    ensures faults { (c : AClass) (f : ASourceFault)
+        → S.faults store.new c f ≡ S.faults store.old c f }
 {
     match classes.split_first() {
         None => Ok(()),
@@ -98,11 +111,15 @@ pub fn open_tables<'a, S: TableStore, A: Allocator>(
     pages: Option<u16>,
 ) -> Result<PagedTables<'a, S::Pages, A>, RequestFault>
     requires { IfSome pages (λ n. (1 ≤ n) × (n ≤ 4096)) }
-    ensures right { ((c : AClass) → S.honest store.old true c) → IfOk result (λ w. SourcesAreRight S.Pages.honest w.sources) }
+    ensures right { ((c : AClass) → S.honest store.old true c)
+        → IfOk result (λ w. SourcesAreRight S.Pages.honest w.sources) }
     ensures named { IfErr result (IsOfTables (S.headers store.old) (S.faults store.old)) }
-    ensures fails { IfOk result (λ w. (c : AClass) (f : ASourceFault) → MayFail S.Pages.gives (held_of w.sources c) c f → S.faults store.old c f ≡ true) }
-    ensures held { IfOk result (λ w. (c : AClass) → IsHeldAs (S.headers store.old c) (is_some (held_of w.sources c))) }
-    ensures faults { (c : AClass) (f : ASourceFault) → S.faults store.new c f ≡ S.faults store.old c f }
+    ensures fails { IfOk result (λ w. (c : AClass) (f : ASourceFault)
+        → MayFail S.Pages.gives (held_of w.sources c) c f → S.faults store.old c f ≡ true) }
+    ensures held { IfOk result (λ w. (c : AClass)
+        → IsHeldAs (S.headers store.old c) (is_some (held_of w.sources c))) }
+    ensures faults { (c : AClass) (f : ASourceFault)
+        → S.faults store.new c f ≡ S.faults store.old c f }
 {
     let room = match pages {
         None => PAGES,

@@ -23,7 +23,8 @@ fn put_number<W: Write>(out: &mut W, number: u32) -> Result<(), DeviceFailed>
 }
 
 fn put_argument<W: Write>(out: &mut W, argument: Argument) -> Result<(), DeviceFailed>
-    ensures { OnOk result (Appends (W.contents out.old) (W.contents out.new) (argument_text argument)) }
+    ensures { OnOk result
+        (Appends (W.contents out.old) (W.contents out.new) (argument_text argument)) }
 {
     match argument {
         Argument::None => write_text(out, b""),
@@ -43,14 +44,17 @@ fn put_words<W: Write>(out: &mut W, refusal: Refusal) -> Result<(), DeviceFailed
 
 /// The same, and a line feed.
 fn put_refusal<W: Write>(out: &mut W, refusal: Refusal) -> Result<(), DeviceFailed>
-    ensures { OnOk result (Appends (W.contents out.old) (W.contents out.new) (line_of (words_of refusal))) }
+    ensures { OnOk result
+        (Appends (W.contents out.old) (W.contents out.new) (line_of (words_of refusal))) }
 {
     put_words(out, refusal)?;
     write_text(out, b"\n")
 }
 
 fn put_file_fault<W: Write>(out: &mut W, class: Class, refusal: Refusal) -> Result<(), DeviceFailed>
-    ensures { OnOk result (Appends (W.contents out.old) (W.contents out.new) (name_of class ++ (codes " " ++ line_of (words_of refusal)))) }
+    ensures { OnOk result
+        (Appends (W.contents out.old) (W.contents out.new)
+        (name_of class ++ (codes " " ++ line_of (words_of refusal)))) }
 {
     write_text(out, class.name().as_bytes())?;
     write_text(out, b" ")?;
@@ -81,7 +85,8 @@ fn unread_text(fault: Unread) -> &'static [u8]
 }
 
 fn put_counted<W: Write>(out: &mut W, word: &[u8], number: u32) -> Result<(), DeviceFailed>
-    ensures { OnOk result (Appends (W.contents out.old) (W.contents out.new) (word.now ++ line_of (decimal number))) }
+    ensures { OnOk result
+        (Appends (W.contents out.old) (W.contents out.new) (word.now ++ line_of (decimal number))) }
 {
     write_text(out, word)?;
     put_number(out, number)?;
@@ -89,7 +94,8 @@ fn put_counted<W: Write>(out: &mut W, word: &[u8], number: u32) -> Result<(), De
 }
 
 fn put_ran<W: Write>(out: &mut W, summary: Summary) -> Result<(), DeviceFailed>
-    ensures { OnOk result (Appends (W.contents out.old) (W.contents out.new) (ending_text (Ending.Ran summary))) }
+    ensures { OnOk result
+        (Appends (W.contents out.old) (W.contents out.new) (ending_text (Ending.Ran summary))) }
 {
     write_text(out, b"ran ")?;
     put_number(out, summary.lines)?;

@@ -13,7 +13,8 @@ use study_values::{ProbeFault, Values};
 
 /// Refuses a request, before the first line, if the table of the class is missing, or of a class that its moves lead to.
 fn need_tables<V: Values>(request: &Request, values: &V) -> Result<(), ProbeFault>
-    ensures { (c : AClass) → IsErrOf result (ProbeFault.NoTable c) → V.source.held values.now c ≡ false }
+    ensures { (c : AClass) → IsErrOf result (ProbeFault.NoTable c)
+        → V.source.held values.now c ≡ false }
 {
     let class = request.class();
     for each in order(class) {
@@ -45,7 +46,8 @@ fn write_count<V: CellPages, W: Write, H: Watch>(
     out: &mut W,
     watch: &mut H,
 ) -> Result<(), Stop>
-    ensures { V.source.is_honest values.old → OnOk result (HasCounted selection (W.contents out.old) (W.contents out.new)) }
+    ensures { V.source.is_honest values.old
+        → OnOk result (HasCounted selection (W.contents out.old) (W.contents out.new)) }
 {
     match count_of(selection, values, watch) {
         Err(fault) => Err(Stop::Values(fault)),
@@ -64,7 +66,8 @@ fn write_list<V: CellPages, W: Write, H: Watch>(
     out: &mut W,
     watch: &mut H,
 ) -> Result<(), Stop>
-    ensures { V.source.is_honest values.old → OnOk result (HasListed form selection (W.contents out.old) (W.contents out.new)) }
+    ensures { V.source.is_honest values.old
+        → OnOk result (HasListed form selection (W.contents out.old) (W.contents out.new)) }
 {
     match selection {
         None => Ok(()),
@@ -82,7 +85,8 @@ fn write<V: CellPages, W: Write, H: Watch>(
     out: &mut W,
     watch: &mut H,
 ) -> Result<(), Stop>
-    ensures { V.source.is_honest values.old → OnOk result (HasPut output selection (W.contents out.old) (W.contents out.new)) }
+    ensures { V.source.is_honest values.old
+        → OnOk result (HasPut output selection (W.contents out.old) (W.contents out.new)) }
 {
     match output {
         Output::Count => write_count(selection, values, out, watch),
@@ -98,7 +102,8 @@ pub fn answer<V: CellPages, W: Write, H: Watch>(
     out: &mut W,
     watch: &mut H,
 ) -> Result<(), Stop>
-    ensures { V.source.is_honest values.old → OnOk result (HasAnswered request.now output (W.contents out.old) (W.contents out.new)) }
+    ensures { V.source.is_honest values.old
+        → OnOk result (HasAnswered request.now output (W.contents out.old) (W.contents out.new)) }
 {
     if let Err(fault) = need_tables(request, values) {
         return Err(Stop::Values(fault));

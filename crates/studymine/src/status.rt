@@ -27,7 +27,8 @@ pub fn status_of(answer: &Result<(), Stop>) -> u8
 /// Writes why a list stopped, in a line of its own: `studymine: NoTable KRK`.
 pub fn put_stop<W: Write>(out: &mut W, stop: Stop) -> Result<(), DeviceFailed>
     ensures ok { OnOk result (Appends (W.contents out.old) (W.contents out.new) (stop_text stop)) }
-    ensures err { OnErr result (TakesPrefix (W.contents out.old) (W.contents out.new) (stop_text stop)) }
+    ensures err { OnErr result
+        (TakesPrefix (W.contents out.old) (W.contents out.new) (stop_text stop)) }
 {
     match stop {
         Stop::TooManyStudies => write_text(out, b"studymine: TooManyStudies\n"),
@@ -37,8 +38,10 @@ pub fn put_stop<W: Write>(out: &mut W, stop: Stop) -> Result<(), DeviceFailed>
 }
 
 fn put_probe_fault<W: Write>(out: &mut W, fault: ProbeFault) -> Result<(), DeviceFailed>
-    ensures ok { OnOk result (Appends (W.contents out.old) (W.contents out.new) (probe_text fault)) }
-    ensures err { OnErr result (TakesPrefix (W.contents out.old) (W.contents out.new) (probe_text fault)) }
+    ensures ok { OnOk result
+        (Appends (W.contents out.old) (W.contents out.new) (probe_text fault)) }
+    ensures err { OnErr result
+        (TakesPrefix (W.contents out.old) (W.contents out.new) (probe_text fault)) }
 {
     match fault {
         ProbeFault::NoTable(class) => put_no_table(out, class),
@@ -48,8 +51,10 @@ fn put_probe_fault<W: Write>(out: &mut W, fault: ProbeFault) -> Result<(), Devic
 }
 
 fn put_no_table<W: Write>(out: &mut W, class: Class) -> Result<(), DeviceFailed>
-    ensures ok { OnOk result (Appends (W.contents out.old) (W.contents out.new) (no_table_text class)) }
-    ensures err { OnErr result (TakesPrefix (W.contents out.old) (W.contents out.new) (no_table_text class)) }
+    ensures ok { OnOk result
+        (Appends (W.contents out.old) (W.contents out.new) (no_table_text class)) }
+    ensures err { OnErr result
+        (TakesPrefix (W.contents out.old) (W.contents out.new) (no_table_text class)) }
 {
     put_line(out, b"studymine: NoTable ", class.name().as_bytes())
 }
@@ -97,24 +102,32 @@ pub fn without_error(reply: &[u8]) -> &[u8]
 
 /// Writes why the file of a class is not a table: `studymine: KRK.dtm: HeaderDamaged`. The words end with a line feed.
 pub fn put_file_fault<W: Write>(out: &mut W, class: Class, words: &[u8]) -> Result<(), DeviceFailed>
-    ensures ok { OnOk result (Appends (W.contents out.old) (W.contents out.new) (file_fault_text class words.now)) }
-    ensures err { OnErr result (TakesPrefix (W.contents out.old) (W.contents out.new) (file_fault_text class words.now)) }
+    ensures ok { OnOk result
+        (Appends (W.contents out.old) (W.contents out.new) (file_fault_text class words.now)) }
+    ensures err { OnErr result
+        (TakesPrefix (W.contents out.old) (W.contents out.new) (file_fault_text class words.now)) }
 {
     write_text(out, b"studymine: ")?;
     put_file_words(out, class.name().as_bytes(), words)
 }
 
 fn put_file_words<W: Write>(out: &mut W, name: &[u8], words: &[u8]) -> Result<(), DeviceFailed>
-    ensures ok { OnOk result (Appends (W.contents out.old) (W.contents out.new) (name.now ++ (codes ".dtm: " ++ words.now))) }
-    ensures err { OnErr result (TakesPrefix (W.contents out.old) (W.contents out.new) (name.now ++ (codes ".dtm: " ++ words.now))) }
+    ensures ok { OnOk result
+        (Appends (W.contents out.old) (W.contents out.new)
+        (name.now ++ (codes ".dtm: " ++ words.now))) }
+    ensures err { OnErr result
+        (TakesPrefix (W.contents out.old) (W.contents out.new)
+        (name.now ++ (codes ".dtm: " ++ words.now))) }
 {
     write_text(out, name)?;
     put_both(out, b".dtm: ", words)
 }
 
 fn put_both<W: Write>(out: &mut W, front: &[u8], back: &[u8]) -> Result<(), DeviceFailed>
-    ensures ok { OnOk result (Appends (W.contents out.old) (W.contents out.new) (front.now ++ back.now)) }
-    ensures err { OnErr result (TakesPrefix (W.contents out.old) (W.contents out.new) (front.now ++ back.now)) }
+    ensures ok { OnOk result
+        (Appends (W.contents out.old) (W.contents out.new) (front.now ++ back.now)) }
+    ensures err { OnErr result
+        (TakesPrefix (W.contents out.old) (W.contents out.new) (front.now ++ back.now)) }
 {
     write_text(out, front)?;
     write_text(out, back)
@@ -149,8 +162,10 @@ pub fn put_progress<W: Write>(
     end: u32,
     found: u32,
 ) -> Result<(), DeviceFailed>
-    ensures ok { OnOk result (Appends (W.contents out.old) (W.contents out.new) (progress_text number end found)) }
-    ensures err { OnErr result (TakesPrefix (W.contents out.old) (W.contents out.new) (progress_text number end found)) }
+    ensures ok { OnOk result
+        (Appends (W.contents out.old) (W.contents out.new) (progress_text number end found)) }
+    ensures err { OnErr result
+        (TakesPrefix (W.contents out.old) (W.contents out.new) (progress_text number end found)) }
 {
     write_text(out, progress_line(number, end, found).as_str().as_bytes())
 }
@@ -167,8 +182,10 @@ fn count_line(found: u32) -> ArrayString<32>
 
 /// Writes how many positions were found, in a line of its own.
 pub fn put_count<W: Write>(out: &mut W, found: u32) -> Result<(), DeviceFailed>
-    ensures ok { OnOk result (Appends (W.contents out.old) (W.contents out.new) (decimal found ++ 10 ∷ [])) }
-    ensures err { OnErr result (TakesPrefix (W.contents out.old) (W.contents out.new) (decimal found ++ 10 ∷ [])) }
+    ensures ok { OnOk result
+        (Appends (W.contents out.old) (W.contents out.new) (decimal found ++ 10 ∷ [])) }
+    ensures err { OnErr result
+        (TakesPrefix (W.contents out.old) (W.contents out.new) (decimal found ++ 10 ∷ [])) }
 {
     write_text(out, count_line(found).as_str().as_bytes())
 }

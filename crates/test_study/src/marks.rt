@@ -273,16 +273,14 @@ struct Draws {
 impl Values for Draws {
     ghost use Rattle.study_values.specs.declared.value.Value.TheVariants.{Draw};
 
-    ghost source = {
-        record {
-          is_honest = λ v. ⊥;
-          held = λ v c. true;
-          gives = λ v p answer. answer ≡ Ok Draw;
-          may_fail = λ v c f. ⊥;
-          asked_of = λ v. v.asked;
-          failed_of = λ v. 0;
-        }
-    };
+    ghost source = { record {
+      is_honest = λ v. ⊥;
+      held = λ v c. true;
+      gives = λ v p answer. answer ≡ Ok Draw;
+      may_fail = λ v c f. ⊥;
+      asked_of = λ v. v.asked;
+      failed_of = λ v. 0;
+    } };
 
     fn value(&mut self, p: &Position) -> Result<Value, ProbeFault> {
         let _men = p.men();

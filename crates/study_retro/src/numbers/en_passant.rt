@@ -44,7 +44,8 @@ fn add_predecessor(
     requires by { CanHaveLed at.now by.now }
     requires room { array_vec_len list.old ≤ 382 }
     ensures few { array_vec_len list.new ≤ array_vec_len list.old + 2 }
-    ensures more { (n : ℕ) → Contains list.new.items n ↔ Contains list.old.items n ⊎ IsNumberBefore class at.now number by.now n }
+    ensures more { (n : ℕ) → Contains list.new.items n ↔ Contains list.old.items n
+        ⊎ IsNumberBefore class at.now number by.now n }
 {
     if let Some(plain) = plain_number(class, at, number, by) {
         list.push(plain);
@@ -61,7 +62,8 @@ fn plain_number(class: Class, at: &Position, number: u32, by: &Move) -> Option<u
     requires by { CanHaveLed at.now by.now }
     ensures small { IfSome result (λ n. n < 16777216) }
     ensures some { IfSome result (λ n. IsPlainNumber at.now number by.now n) }
-    ensures none { IfNone result ((p : Seen) → LeadsQuietly p by.now at.now → index_of (after p by.now) ≢ number) }
+    ensures none { IfNone result ((p : Seen) → LeadsQuietly p by.now at.now
+        → index_of (after p by.now) ≢ number) }
 {
     if leads_to_number(class, at, number, by) {
         Some(index_after_move(class, number, by.target, by.origin))
@@ -75,7 +77,8 @@ fn plain_number(class: Class, at: &Position, number: u32, by: &Move) -> Option<u
 fn leads_to_number(class: Class, at: &Position, number: u32, by: &Move) -> bool
     requires at { position_numbered class number ≡ Some at.now }
     requires by { CanHaveLed at.now by.now }
-    ensures { (p : Seen) → LeadsQuietly p by.now at.now → (IsTrue result ↔ (index_of (after p by.now) ≡ number)) }
+    ensures { (p : Seen) → LeadsQuietly p by.now at.now
+        → (IsTrue result ↔ (index_of (after p by.now) ≡ number)) }
 {
     if !has_both_pawns(class) {
         return true;
@@ -88,8 +91,10 @@ fn leads_to_number(class: Class, at: &Position, number: u32, by: &Move) -> bool
 pub fn leads_to_number_from(class: Class, number: u32, man: &Man, origin: Square) -> bool
     requires numbered { (q : Seen) × (position_numbered class number ≡ Some q) }
     requires plain { number < 16777216 }
-    requires led { (q : Seen) → position_numbered class number ≡ Some q → CanHaveLed q (move_from man.now origin) }
-    ensures { (q p : Seen) → position_numbered class number ≡ Some q → LeadsQuietly p (move_from man.now origin) q
+    requires led { (q : Seen) → position_numbered class number ≡ Some q
+        → CanHaveLed q (move_from man.now origin) }
+    ensures { (q p : Seen) → position_numbered class number ≡ Some q
+        → LeadsQuietly p (move_from man.now origin) q
         → (IsTrue result ↔ (index_of (after p (move_from man.now origin)) ≡ number)) }
 {
     if !may_leave_capture(class, origin, man.at, number) {
@@ -160,7 +165,8 @@ pub fn may_allow_en_passant(class: Class, origin: Square, target: Square) -> boo
 /// Whether two squares are side by side on a rank from which a pawn can capture in passing.
 #[inline]
 fn are_adjacent_on_rank(a: u32, b: u32) -> bool
-    ensures { result ≡ false → rank_of a ≡ rank_of b → files_apart a b ≡ 1 → (3 ≤ rank_of a) → (rank_of a ≤ 4) → ⊥ }
+    ensures { result ≡ false → rank_of a ≡ rank_of b → files_apart a b ≡ 1
+        → (3 ≤ rank_of a) → (rank_of a ≤ 4) → ⊥ }
 {
     let rank = a / 8;
     (rank == 3 || rank == 4) && rank == b / 8 && (a + 1 == b || b + 1 == a)
@@ -177,7 +183,8 @@ pub fn may_have_en_passant(class: Class, number: u32) -> bool
 /// The squares beside this one from which a pawn can capture in passing; at the edge of the board one of them is the next square by number.
 #[inline]
 fn adjacent_squares(a: Square) -> SquareSet
-    ensures { (y : ℕ) → y < 64 → has result y ≡ false → rank_of a ≡ rank_of y → files_apart a y ≡ 1 → (3 ≤ rank_of a) → (rank_of a ≤ 4) → ⊥ }
+    ensures { (y : ℕ) → y < 64 → has result y ≡ false → rank_of a ≡ rank_of y → files_apart a y ≡ 1
+        → (3 ≤ rank_of a) → (rank_of a ≤ 4) → ⊥ }
 {
     let number = a.number();
     if number < 24 || number > 39 {
@@ -210,7 +217,8 @@ pub fn may_leave_capture(class: Class, origin: Square, target: Square, number: u
 #[inline]
 pub fn has_en_passant(class: Class, number: u32) -> bool
     requires { number < 16777216 }
-    ensures { IsTrue result ↔ ((p : Seen) × (position_numbered class (number + 16777216) ≡ Some p)) }
+    ensures { IsTrue result
+        ↔ ((p : Seen) × (position_numbered class (number + 16777216) ≡ Some p)) }
 {
     may_have_en_passant(class, number) && is_numbered(class, number + EN_PASSANT_BIT)
 }

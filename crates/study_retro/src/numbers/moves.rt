@@ -59,12 +59,15 @@ fn wins_after<A: Allocator>(
     level: u8,
 ) -> bool
     requires laws { IsNumberedClass (class_game game.now.class game.now.tables.now) }
-    requires legal { (q : Seen) → position_numbered game.now.class number ≡ Some q → is_legal q (move_to man.now target) ≡ true }
+    requires legal { (q : Seen) → position_numbered game.now.class number ≡ Some q
+        → is_legal q (move_to man.now target) ≡ true }
     requires numbered { (q : Seen) × (position_numbered game.now.class number ≡ Some q) }
     requires cells { length cells.now ≡ cells_of game.now.class }
     ensures yes { IsTrue result → (q : Seen) → position_numbered game.now.class number ≡ Some q
-        → IsWonAfter (class_game game.now.class game.now.tables.now) cells.now level q (move_to man.now target) }
-    ensures no { result ≡ false → NoLossBy (class_game game.now.class game.now.tables.now) cells.now level number }
+        → IsWonAfter (class_game game.now.class game.now.tables.now) cells.now level
+        q (move_to man.now target) }
+    ensures no { result ≡ false
+        → NoLossBy (class_game game.now.class game.now.tables.now) cells.now level number }
 {
     match decode(game.class, number) {
         None => unreachable!(),
@@ -85,22 +88,30 @@ pub fn loses_after<A: Allocator>(
     target: Square,
     level: u8,
 ) -> bool
+    // Many clauses: what the caller has already found of the numbers is required, fact by fact.
     requires laws { IsNumberedClass (class_game game.now.class game.now.tables.now) }
     requires class { departure.now.class ≡ game.now.class }
     requires from { departure.now.from ≡ mover.man.now.at }
-    requires numbered { (q : Seen) × (position_numbered game.now.class departure.now.number ≡ Some q) }
+    requires numbered { (q : Seen)
+        × (position_numbered game.now.class departure.now.number ≡ Some q) }
     requires plain { departure.now.number < 16777216 }
-    requires told { AreTold game.now.class departure.now.number mover.setup.now.men.items mover.setup.now.to_move }
+    requires told { AreTold game.now.class departure.now.number
+        mover.setup.now.men.items mover.setup.now.to_move }
     requires man { Contains mover.setup.now.men.items mover.man.now }
     requires side { same_side mover.man.now.side mover.setup.now.to_move ≡ true }
     requires on { target < 64 }
-    requires safe { is_safe_target mover.setup.now.men.items mover.setup.now.to_move mover.man.now target ≡ true }
+    requires safe { is_safe_target mover.setup.now.men.items mover.setup.now.to_move
+        mover.man.now target ≡ true }
     requires free { is_occupied mover.setup.now.men.items target ≡ false }
     requires cells { length cells.now ≡ cells_of game.now.class }
-    ensures yes { IsTrue result → (reaches_last_rank mover.entry.man.now target ≡ false) → (q : Seen)
+    ensures yes { IsTrue result
+        → (reaches_last_rank mover.entry.man.now target ≡ false) → (q : Seen)
         → position_numbered game.now.class departure.now.number ≡ Some q
-        → IsWonAfter (class_game game.now.class game.now.tables.now) cells.now level q (move_to mover.entry.man.now target) }
-    ensures no { result ≡ false → NoLossBy (class_game game.now.class game.now.tables.now) cells.now level departure.now.number }
+        → IsWonAfter (class_game game.now.class game.now.tables.now) cells.now level q
+        (move_to mover.entry.man.now target) }
+    ensures no { result ≡ false
+        → NoLossBy (class_game game.now.class game.now.tables.now) cells.now
+        level departure.now.number }
 {
     let man = mover.man;
     if reaches_last_rank(man, target) {
@@ -133,13 +144,18 @@ pub fn quiet_moves_of<A: Allocator>(
     requires laws { IsNumberedClass (class_game game.now.class game.now.tables.now) }
     requires numbered { (q : Seen) × (position_numbered game.now.class number ≡ Some q) }
     requires plain { number < 16777216 }
-    requires told { AreTold game.now.class number mover.setup.now.men.items mover.setup.now.to_move }
+    requires told { AreTold game.now.class number
+        mover.setup.now.men.items mover.setup.now.to_move }
     requires man { Contains mover.setup.now.men.items mover.man.now }
     requires cells { length cells.now ≡ cells_of game.now.class }
-    ensures yes { IsTrue result.escape → NoLossBy (class_game game.now.class game.now.tables.now) cells.now level number }
-    ensures no { result.escape ≡ false → (q : Seen) → position_numbered game.now.class number ≡ Some q
-        → QuietMovesLoseBy (class_game game.now.class game.now.tables.now) cells.now level q mover.entry.man.now }
-    ensures some { IsTrue result.some → (q : Seen) → position_numbered game.now.class number ≡ Some q → HasMove q }
+    ensures yes { IsTrue result.escape
+        → NoLossBy (class_game game.now.class game.now.tables.now) cells.now level number }
+    ensures no { result.escape ≡ false → (q : Seen)
+        → position_numbered game.now.class number ≡ Some q
+        → QuietMovesLoseBy (class_game game.now.class game.now.tables.now) cells.now
+        level q mover.entry.man.now }
+    ensures some { IsTrue result.some → (q : Seen)
+        → position_numbered game.now.class number ≡ Some q → HasMove q }
 {
     let (setup, man) = (mover.setup, mover.man);
     let mut some = false;
@@ -182,10 +198,13 @@ pub fn quiet_moves<A: Allocator>(
     requires plain { number < 16777216 }
     requires told { AreTold game.now.class number setup.now.men.items setup.now.to_move }
     requires cells { length cells.now ≡ cells_of game.now.class }
-    ensures yes { IsTrue result.escape → NoLossBy (class_game game.now.class game.now.tables.now) cells.now level number }
-    ensures no { result.escape ≡ false → (q : Seen) → position_numbered game.now.class number ≡ Some q
+    ensures yes { IsTrue result.escape
+        → NoLossBy (class_game game.now.class game.now.tables.now) cells.now level number }
+    ensures no { result.escape ≡ false → (q : Seen)
+        → position_numbered game.now.class number ≡ Some q
         → QuietMovesLose (class_game game.now.class game.now.tables.now) cells.now level q }
-    ensures some { IsTrue result.some → (q : Seen) → position_numbered game.now.class number ≡ Some q → HasMove q }
+    ensures some { IsTrue result.some → (q : Seen)
+        → position_numbered game.now.class number ≡ Some q → HasMove q }
 {
     let mut some = false;
     for (slot, man) in setup.men.as_slice().iter().enumerate() {
@@ -205,7 +224,8 @@ pub fn quiet_moves<A: Allocator>(
 /// Whether the man belongs to the side to move, and has a legal move.
 #[inline]
 fn can_move(setup: &DecodedMen, man: &Man) -> bool
-    ensures yes { IsTrue result → (same_side man.now.side setup.now.to_move ≡ true) × ((x : ℕ) × (x < 64)
+    ensures yes { IsTrue result
+        → (same_side man.now.side setup.now.to_move ≡ true) × ((x : ℕ) × (x < 64)
         × (is_safe_target setup.now.men.items setup.now.to_move man.now x ≡ true)) }
     ensures no { result ≡ false → same_side man.now.side setup.now.to_move ≡ true → (x : ℕ) → x < 64
         → is_safe_target setup.now.men.items setup.now.to_move man.now x ≡ false }
@@ -225,8 +245,10 @@ fn can_move(setup: &DecodedMen, man: &Man) -> bool
 pub fn has_move(class: Class, number: u32, setup: &DecodedMen) -> bool
     requires plain { number < 16777216 }
     requires told { AreTold class number setup.now.men.items setup.now.to_move }
-    ensures yes { IsTrue result → (q : Seen) → position_numbered class number ≡ Some q → (m : AMove) × (is_legal q m ≡ true) }
-    ensures no { result ≡ false → (q : Seen) → position_numbered class number ≡ Some q → (m : AMove) → is_legal q m ≡ true → ⊥ }
+    ensures yes { IsTrue result → (q : Seen) → position_numbered class number ≡ Some q
+        → (m : AMove) × (is_legal q m ≡ true) }
+    ensures no { result ≡ false → (q : Seen) → position_numbered class number ≡ Some q → (m : AMove)
+        → is_legal q m ≡ true → ⊥ }
 {
     let _read = (class, number);
     for man in setup.men.as_slice() {

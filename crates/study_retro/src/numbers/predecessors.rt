@@ -52,11 +52,14 @@ pub fn write_from(
     requires from { departure.now.from ≡ man.now.at }
     requires numbered { (q : Seen) × (position_numbered class departure.now.number ≡ Some q) }
     requires plain { departure.now.number < 16777216 }
-    requires led { (q : Seen) → position_numbered class departure.now.number ≡ Some q → CanHaveLed q (move_from man.now origin) }
+    requires led { (q : Seen) → position_numbered class departure.now.number ≡ Some q
+        → CanHaveLed q (move_from man.now origin) }
     requires cell { 0 < change.cell }
     requires cells { length cells.old ≡ cells_of class }
-    ensures rise { AreSet (IsBeforeFrom class departure.now.number man.now origin) change.cell change.over cells.old cells.new }
-    ensures done { (n : ℕ) → IsBeforeFrom class departure.now.number man.now origin n → IsSetWhere change.cell change.over cells.new n }
+    ensures rise { AreSet (IsBeforeFrom class departure.now.number man.now origin) change.cell
+        change.over cells.old cells.new }
+    ensures done { (n : ℕ) → IsBeforeFrom class departure.now.number man.now origin n
+        → IsSetWhere change.cell change.over cells.new n }
 {
     if !leads_to_number_from(class, departure.number, man, origin) {
         return;
@@ -84,8 +87,10 @@ pub fn write_before_man(
     requires man { Contains mover.setup.now.men.items mover.man.now }
     requires cell { 0 < change.cell }
     requires cells { length cells.old ≡ cells_of class }
-    ensures rise { AreSet (IsBeforeBy class number mover.entry.man.now) change.cell change.over cells.old cells.new }
-    ensures done { (n : ℕ) → IsBeforeBy class number mover.entry.man.now n → IsSetWhere change.cell change.over cells.new n }
+    ensures rise { AreSet (IsBeforeBy class number mover.entry.man.now) change.cell
+        change.over cells.old cells.new }
+    ensures done { (n : ℕ) → IsBeforeBy class number mover.entry.man.now n
+        → IsSetWhere change.cell change.over cells.new n }
 {
     let (setup, man) = (mover.setup, mover.man);
     if man.side != setup.to_move.other() {
@@ -111,7 +116,8 @@ pub fn write_before(class: Class, cells: &mut [u8], number: u32, change: CellWri
     requires cell { 0 < change.cell }
     requires cells { length cells.old ≡ cells_of class }
     ensures rise { AreSet (IsBefore class number) change.cell change.over cells.old cells.new }
-    ensures done { (n : ℕ) → IsBefore class number n → IsSetWhere change.cell change.over cells.new n }
+    ensures done { (n : ℕ) → IsBefore class number n
+        → IsSetWhere change.cell change.over cells.new n }
 {
     let setup = decode_men(class, number);
     let mut count = 0u64;

@@ -33,7 +33,8 @@ pub fn rank_before_last(side: Side) -> u8
 /// The squares on which the man bears, if it is of the side.
 #[inline]
 fn attacks_if_side(men: &[Man], m: &Man, side: Side) -> SquareSet
-    ensures { (x : ℕ) → x < 64 → has result x ≡ (same_side m.now.side side && attacks_square men.now m.now x) }
+    ensures { (x : ℕ) → x < 64
+        → has result x ≡ (same_side m.now.side side && attacks_square men.now m.now x) }
 {
     if m.side == side {
         attacks(men, m)
@@ -85,7 +86,8 @@ pub fn has_king_in(men: &[Man], side: Side, set: SquareSet) -> bool
 /// Whether a pawn of the side is one step from its last rank.
 #[inline]
 pub fn may_promote(men: &[Man], side: Side) -> bool
-    ensures { result ≡ list_any (λ m. is_man side Pawn m && (rank_of m.at == rank_before_last side)) men.now }
+    ensures { result ≡ list_any (λ m.
+        is_man side Pawn m && (rank_of m.at == rank_before_last side)) men.now }
 {
     men.iter().any(|m| m.is(side, Kind::Pawn) && m.at.rank() == rank_before_last(side))
 }
@@ -95,8 +97,10 @@ pub fn may_promote(men: &[Man], side: Side) -> bool
 fn stays_by(class: Class, number: u32, setup: &DecodedMen, attacked: SquareSet) -> bool
     requires plain { number < 16777216 }
     requires told { AreTold class number setup.now.men.items setup.now.to_move }
-    requires attacked { (x : ℕ) → x < 64 → has attacked x ≡ is_attacked setup.now.men.items setup.now.to_move x }
-    ensures { IsTrue result → (q : Seen) → position_numbered class number ≡ Some q → HasOnlyQuiet q }
+    requires attacked { (x : ℕ) → x < 64
+        → has attacked x ≡ is_attacked setup.now.men.items setup.now.to_move x }
+    ensures { IsTrue result → (q : Seen)
+        → position_numbered class number ≡ Some q → HasOnlyQuiet q }
 {
     let _read = (class, number);
     let men = setup.men.as_slice();
@@ -110,7 +114,8 @@ fn stays_by(class: Class, number: u32, setup: &DecodedMen, attacked: SquareSet) 
 pub fn stays(class: Class, number: u32, setup: &DecodedMen) -> bool
     requires plain { number < 16777216 }
     requires told { AreTold class number setup.now.men.items setup.now.to_move }
-    ensures { IsTrue result → (q : Seen) → position_numbered class number ≡ Some q → HasOnlyQuiet q }
+    ensures { IsTrue result → (q : Seen)
+        → position_numbered class number ≡ Some q → HasOnlyQuiet q }
 {
     let attacked = attacked_squares(setup.men.as_slice(), setup.to_move);
     stays_by(class, number, setup, attacked)
@@ -120,7 +125,8 @@ pub fn stays(class: Class, number: u32, setup: &DecodedMen) -> bool
 #[inline]
 fn is_checked(class: Class, number: u32, setup: &DecodedMen) -> bool
     requires { AreTold class number setup.now.men.items setup.now.to_move }
-    ensures { (q : Seen) → position_numbered class number ≡ Some q → in_check q.men q.to_move ≡ result }
+    ensures { (q : Seen) → position_numbered class number ≡ Some q
+        → in_check q.men q.to_move ≡ result }
 {
     let _read = (class, number);
     let men = setup.men.as_slice();
@@ -132,7 +138,8 @@ fn is_checked(class: Class, number: u32, setup: &DecodedMen) -> bool
 #[inline]
 fn could_take_king(class: Class, number: u32, setup: &DecodedMen, attacked: SquareSet) -> bool
     requires told { AreTold class number setup.now.men.items setup.now.to_move }
-    requires attacked { (x : ℕ) → x < 64 → has attacked x ≡ is_attacked setup.now.men.items setup.now.to_move x }
+    requires attacked { (x : ℕ) → x < 64
+        → has attacked x ≡ is_attacked setup.now.men.items setup.now.to_move x }
     ensures { IsTrue result → (q : Seen) → position_numbered class number ≡ Some q → ⊥ }
 {
     let _read = (class, number);
@@ -157,7 +164,8 @@ fn is_no_mate(class: Class, number: u32, setup: &DecodedMen) -> bool
 #[inline]
 fn begins_still(class: Class, number: u32) -> bool
     requires { number < 16777216 }
-    ensures { IsTrue result → (q : Seen) → position_numbered class number ≡ Some q → IsQuietPosition q }
+    ensures { IsTrue result → (q : Seen)
+        → position_numbered class number ≡ Some q → IsQuietPosition q }
 {
     let setup = decode_men(class, number);
     let attacked = attacked_squares(setup.men.as_slice(), setup.to_move);
@@ -169,7 +177,8 @@ fn begins_still(class: Class, number: u32) -> bool
 
 /// Whether nothing is known of the number before the levels. For numbers with the bit only the squares of their pawns are used.
 pub fn starts_undecided(class: Class, number: u32) -> bool
-    ensures { IsTrue result → (q : Seen) → position_numbered class number ≡ Some q → (number < 16777216) × IsQuietPosition q }
+    ensures { IsTrue result → (q : Seen) → position_numbered class number ≡ Some q
+        → (number < 16777216) × IsQuietPosition q }
 {
     if number < EN_PASSANT_BIT {
         return begins_still(class, number);

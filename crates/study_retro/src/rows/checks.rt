@@ -16,7 +16,8 @@ use study_board::{Kind, Man, Side, Square, SquareSet, attacks, between};
 /// The squares on which a further man does not interrupt the man's line to the square.
 #[inline]
 fn non_blocking_squares(m: &Man, x: Square) -> SquareSet
-    ensures { (y : ℕ) → y < 64 → has result y ≡ not (is_slider m.now.kind && strictly_between m.now.at y x) }
+    ensures { (y : ℕ) → y < 64
+        → has result y ≡ not (is_slider m.now.kind && strictly_between m.now.at y x) }
 {
     if m.kind.is_slider() {
         between(m.at, x).complement()
@@ -49,7 +50,8 @@ fn side_attacks_past(others: &[Man], by: Side, m: &Man, x: Square) -> bool
 /// The squares of a further man with which the man, of the side, bears on the square.
 #[inline]
 fn squares_keeping_attack(others: &[Man], by: Side, m: &Man, x: Square) -> SquareSet
-    ensures { (y : ℕ) → y < 64 → has result y ≡ ((same_side m.now.side by && attacks_square others.now m.now x)
+    ensures { (y : ℕ) → y < 64
+        → has result y ≡ ((same_side m.now.side by && attacks_square others.now m.now x)
         && not (is_slider m.now.kind && strictly_between m.now.at y x)) }
 {
     if !side_attacks_past(others, by, m, x) {
@@ -61,7 +63,9 @@ fn squares_keeping_attack(others: &[Man], by: Side, m: &Man, x: Square) -> Squar
 /// The squares of a further man with which some man of the side bears on the square.
 #[inline]
 fn squares_attacking(others: &[Man], by: Side, x: Square) -> SquareSet
-    ensures { (y : ℕ) → y < 64 → has result y ≡ list_any (λ m. same_side m.side by && keeps_attack_with others.now y m x) others.now }
+    ensures { (y : ℕ) → y < 64
+        → has result y ≡ list_any (λ m.
+        same_side m.side by && keeps_attack_with others.now y m x) others.now }
 {
     let mut set = SquareSet::empty();
     for m in others {
@@ -73,7 +77,9 @@ fn squares_attacking(others: &[Man], by: Side, x: Square) -> SquareSet
 /// The squares from which the man of the last slot, if it is of the side, bears on the square.
 #[inline]
 fn squares_of_last(others: &[Man], last: &Man, by: Side, x: Square) -> SquareSet
-    ensures { (y : ℕ) → y < 64 → has result y ≡ (same_side last.now.side by && attacks_square others.now (facing last.now x) y) }
+    ensures { (y : ℕ) → y < 64
+        → has result y
+        ≡ (same_side last.now.side by && attacks_square others.now (facing last.now x) y) }
 {
     if last.side != by {
         return SquareSet::empty();
@@ -97,7 +103,8 @@ fn squares_attacking_with(others: &[Man], last: &Man, by: Side, x: Square) -> Sq
 /// The squares of the man of the last slot with which the man, if it is a king of the side, is attacked.
 #[inline]
 fn squares_attacking_king(others: &[Man], last: &Man, side: Side, k: &Man) -> SquareSet
-    ensures { (y : ℕ) → y < 64 → has result y ≡ king_attacked_with others.now last.now side y k.now }
+    ensures { (y : ℕ) → y < 64
+        → has result y ≡ king_attacked_with others.now last.now side y k.now }
 {
     if !k.is(side, Kind::King) {
         return SquareSet::empty();
@@ -109,7 +116,8 @@ fn squares_attacking_king(others: &[Man], last: &Man, side: Side, k: &Man) -> Sq
 #[inline]
 pub fn squares_of_check(others: &[Man], last: &Man, side: Side) -> SquareSet
     requires { same_kind last.now.kind King ≡ false }
-    ensures { (y : ℕ) → y < 64 → has result y ≡ in_check (others.now ++ on_square last.now y ∷ []) side }
+    ensures { (y : ℕ) → y < 64
+        → has result y ≡ in_check (others.now ++ on_square last.now y ∷ []) side }
 {
     let mut set = SquareSet::empty();
     for k in others {
@@ -151,7 +159,8 @@ impl CheckInfo {
     #[inline(always)]
     pub fn new(others: &[Man], last: &Man, man: &Man, side: Side) -> Self
         requires { length others.now ≤ 4 }
-        ensures { IsCheckInfo others.now last.now man.now side result.men.items result.bearers.items result.attacked result.king
+        ensures { IsCheckInfo others.now last.now man.now side result.men.items result.bearers.items
+            result.attacked result.king
             result.checks result.checks_of_man }
     {
         let by = side.other();
@@ -256,7 +265,8 @@ fn squares_attacked_by(bearers: &[Attacker]) -> SquareSet
 /// The squares of a further man with which the man bears on the square.
 #[inline]
 fn squares_bearing(b: &Attacker, x: Square) -> SquareSet
-    ensures { (y : ℕ) → y < 64 → has result y ≡ (has b.now.squares x && does_not_block b.now.man x y) }
+    ensures { (y : ℕ) → y < 64
+        → has result y ≡ (has b.now.squares x && does_not_block b.now.man x y) }
 {
     if !b.squares.contains(x) {
         return SquareSet::empty();
@@ -268,7 +278,8 @@ fn squares_bearing(b: &Attacker, x: Square) -> SquareSet
 #[inline(always)]
 fn squares_attacking_of(bearers: &[Attacker], attacked: SquareSet, x: Square) -> SquareSet
     requires { (z : ℕ) → z < 64 → has attacked z ≡ list_any (λ b. has b.squares z) bearers.now }
-    ensures { (y : ℕ) → y < 64 → has result y ≡ list_any (λ b. has b.squares x && does_not_block b.man x y) bearers.now }
+    ensures { (y : ℕ) → y < 64
+        → has result y ≡ list_any (λ b. has b.squares x && does_not_block b.man x y) bearers.now }
 {
     let _square = x.number();
     let mut set = SquareSet::empty();
@@ -331,7 +342,8 @@ fn squares_attacking_by(
     x: Square,
 ) -> SquareSet
     requires bear { AreBearers staying.now by bearers.now }
-    requires attacked { (z : ℕ) → z < 64 → has attacked z ≡ list_any (λ b. has b.squares z) bearers.now }
+    requires attacked { (z : ℕ) → z < 64
+        → has attacked z ≡ list_any (λ b. has b.squares z) bearers.now }
     ensures { (y : ℕ) → y < 64 → has result y ≡ attacked_with_last staying.now last.now by x y }
 {
     let _square = x.number();
@@ -341,7 +353,8 @@ fn squares_attacking_by(
 /// The squares of a further man with which the man, on `to`, bears on the square, given the squares from which it does so without the further man.
 #[inline(always)]
 fn squares_keeping_attack_from(checks: SquareSet, man: &Man, to: Square, x: Square) -> SquareSet
-    ensures { (y : ℕ) → y < 64 → has result y ≡ (has checks to && does_not_block (on_square man.now to) x y) }
+    ensures { (y : ℕ) → y < 64
+        → has result y ≡ (has checks to && does_not_block (on_square man.now to) x y) }
 {
     if !checks.contains(to) {
         return SquareSet::empty();
@@ -364,8 +377,10 @@ fn squares_of_last_past(
     to: Square,
     x: Square,
 ) -> SquareSet
-    requires { (y : ℕ) → y < 64 → has checks y ≡ true → attacks_square [] (facing last.now x) y ≡ true }
-    ensures { (y : ℕ) → y < 64 → has result y ≡ (has checks y && does_not_block (facing last.now x) y to) }
+    requires { (y : ℕ) → y < 64 → has checks y ≡ true
+        → attacks_square [] (facing last.now x) y ≡ true }
+    ensures { (y : ℕ) → y < 64
+        → has result y ≡ (has checks y && does_not_block (facing last.now x) y to) }
 {
     if !last.kind.is_slider() {
         return checks;
@@ -396,11 +411,14 @@ fn squares_attacking_after(
 ) -> SquareSet
     requires few { length others.now ≤ 4 }
     requires man { Contains others.now man.now }
-    requires staying { IsCheckInfo others.now last.now man.now side staying.now.men.items staying.now.bearers.items staying.now.attacked
+    requires staying { IsCheckInfo others.now last.now man.now side staying.now.men.items
+        staying.now.bearers.items staying.now.attacked
         staying.now.king staying.now.checks staying.now.checks_of_man }
     requires king { staying.now.king ≡ Some king }
-    ensures { (y : ℕ) → y < 64 → AreOnDistinctSquares (others.now ++ on_square last.now y ∷ []) → has result y
-        ≡ attacked_with_last (map (moved_if man.now.at to) others.now) last.now (other_side side) (gone_to man.now.at to king) y }
+    ensures { (y : ℕ) → y < 64
+        → AreOnDistinctSquares (others.now ++ on_square last.now y ∷ []) → has result y
+        ≡ attacked_with_last (map (moved_if man.now.at to) others.now) last.now (other_side side)
+        (gone_to man.now.at to king) y }
 {
     let _read = (others.len(), king.number(), to.number());
     let by = side.other();
@@ -442,10 +460,12 @@ pub fn squares_of_check_after(
     requires few { length others.now ≤ 4 }
     requires last { same_kind last.now.kind King ≡ false }
     requires man { Contains others.now man.now }
-    requires staying { IsCheckInfo others.now last.now man.now side staying.now.men.items staying.now.bearers.items staying.now.attacked
+    requires staying { IsCheckInfo others.now last.now man.now side staying.now.men.items
+        staying.now.bearers.items staying.now.attacked
         staying.now.king staying.now.checks staying.now.checks_of_man }
     ensures { (y : ℕ) → y < 64 → AreOnDistinctSquares (others.now ++ on_square last.now y ∷ [])
-        → has result y ≡ in_check (map (moved_if man.now.at to) others.now ++ on_square last.now y ∷ []) side }
+        → has result y
+        ≡ in_check (map (moved_if man.now.at to) others.now ++ on_square last.now y ∷ []) side }
 {
     match staying.king {
         Some(king) => squares_attacking_after(others, staying, last, side, man, to, king),

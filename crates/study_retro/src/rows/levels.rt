@@ -32,8 +32,10 @@ pub fn lower_one_by_one<G: Game>(
     requires level { level < 254 }
     requires numbered { HavePositions (G.numbered game.now) row decided }
     requires cells { length cells.old ≡ (G.numbered game.now).size }
-    ensures rise { AreLowered (LeadsIntoRow (G.numbered game.now) row decided) level cells.old cells.new }
-    ensures done { (i y : ℕ) → y < 64 → has decided y ≡ true → StepLeads (G.numbered game.now) i (64 * row + y) → IsSetBy (level + 2) cells.new i }
+    ensures rise { AreLowered (LeadsIntoRow (G.numbered game.now) row decided)
+        level cells.old cells.new }
+    ensures done { (i y : ℕ) → y < 64 → has decided y ≡ true
+        → StepLeads (G.numbered game.now) i (64 * row + y) → IsSetBy (level + 2) cells.new i }
 {
     let _size = game.cells();
     let mut count = 0u64;
@@ -61,8 +63,10 @@ pub fn mark_one_by_one<G: Game>(
     requires level { level < 254 }
     requires numbered { HavePositions (G.numbered game.now) row decided }
     requires cells { length cells.old ≡ (G.numbered game.now).size }
-    ensures rise { AreAdded (LeadsIntoRow (G.numbered game.now) row decided) level cells.old cells.new }
-    ensures done { (i y : ℕ) → y < 64 → has decided y ≡ true → StepLeads (G.numbered game.now) i (64 * row + y) → slice_index cells.new i ≢ 0 }
+    ensures rise { AreAdded (LeadsIntoRow (G.numbered game.now) row decided)
+        level cells.old cells.new }
+    ensures done { (i y : ℕ) → y < 64 → has decided y ≡ true
+        → StepLeads (G.numbered game.now) i (64 * row + y) → slice_index cells.new i ≢ 0 }
 {
     let _size = game.cells();
     let mut count = 0u64;
@@ -91,7 +95,8 @@ pub fn lost_one_by_one<G: LabelledGame>(
     requires cells { length cells.now ≡ (G.numbered game.now).size }
     ensures only { (y : ℕ) → y < 64 → has result y ≡ true → has candidates y ≡ true }
     ensures yes { (y : ℕ) → y < 64 → has result y ≡ true → (p : G.Position)
-        × ((G.numbered game.now).position (64 * row + y) ≡ Some p) × LosesBy (G.numbered game.now) cells.now level p }
+        × ((G.numbered game.now).position (64 * row + y) ≡ Some p)
+        × LosesBy (G.numbered game.now) cells.now level p }
     ensures no { (y : ℕ) → y < 64 → has candidates y ≡ true → has result y ≡ false
         → NoLossBy (G.numbered game.now) cells.now level (64 * row + y) }
 {
@@ -124,8 +129,10 @@ pub fn write_before_each(
     requires plain { 64 * row < 16777216 }
     requires cell { 0 < change.cell }
     requires cells { length cells.old ≡ cells_of class }
-    ensures rise { AreSet (IsBeforeRow class row decided) change.cell change.over cells.old cells.new }
-    ensures done { (n y : ℕ) → y < 64 → has decided y ≡ true → IsBefore class (64 * row + y) n → IsSetWhere change.cell change.over cells.new n }
+    ensures rise { AreSet (IsBeforeRow class row decided) change.cell
+        change.over cells.old cells.new }
+    ensures done { (n y : ℕ) → y < 64 → has decided y ≡ true → IsBefore class (64 * row + y) n
+        → IsSetWhere change.cell change.over cells.new n }
 {
     let mut count = 0u64;
     let mut rest = decided;
@@ -148,7 +155,8 @@ fn is_lost_plainly<A: Allocator>(game: &ClassGame<A>, cells: &[u8], number: u32,
     requires cells { length cells.now ≡ (class_game game.now.class game.now.tables.now).size }
     ensures yes { IsTrue result → (p : Seen) × (position_numbered game.now.class number ≡ Some p)
         × LosesBy (class_game game.now.class game.now.tables.now) cells.now level p }
-    ensures no { result ≡ false → NoLossBy (class_game game.now.class game.now.tables.now) cells.now level number }
+    ensures no { result ≡ false
+        → NoLossBy (class_game game.now.class game.now.tables.now) cells.now level number }
 {
     let setup = decode_men(game.class, number);
     let moves = quiet_moves(game, cells, number, &setup, level);
@@ -170,11 +178,13 @@ pub fn lost_plainly_each<A: Allocator>(
     level: u8,
 ) -> SquareSet
     requires laws { IsNumberedClass (class_game game.now.class game.now.tables.now) }
-    requires numbered { HavePositions (class_game game.now.class game.now.tables.now) row candidates }
+    requires numbered { HavePositions
+        (class_game game.now.class game.now.tables.now) row candidates }
     requires plain { 64 * row < 16777216 }
     requires cells { length cells.now ≡ (class_game game.now.class game.now.tables.now).size }
     ensures only { (y : ℕ) → y < 64 → has result y ≡ true → has candidates y ≡ true }
-    ensures yes { (y : ℕ) → y < 64 → has result y ≡ true → (p : Seen) × (position_numbered game.now.class (64 * row + y) ≡ Some p)
+    ensures yes { (y : ℕ) → y < 64 → has result y ≡ true → (p : Seen)
+        × (position_numbered game.now.class (64 * row + y) ≡ Some p)
         × LosesBy (class_game game.now.class game.now.tables.now) cells.now level p }
     ensures no { (y : ℕ) → y < 64 → has candidates y ≡ true → has result y ≡ false
         → NoLossBy (class_game game.now.class game.now.tables.now) cells.now level (64 * row + y) }

@@ -38,7 +38,8 @@ fn squares_not_interfering(
     requires few { length others.now ≤ 4 }
     requires last { same_kind last.now.kind King ≡ false }
     requires man { Contains others.now man.now }
-    requires staying { IsCheckInfo others.now last.now man.now side staying.now.men.items staying.now.bearers.items staying.now.attacked
+    requires staying { IsCheckInfo others.now last.now man.now side staying.now.men.items
+        staying.now.bearers.items staying.now.attacked
         staying.now.king staying.now.checks staying.now.checks_of_man }
     ensures { (y : ℕ) → y < 64 → AreOnDistinctSquares (others.now ++ on_square last.now y ∷ [])
         → has result y ≡ does_not_interfere others.now last.now side man.now.at to y }
@@ -62,12 +63,14 @@ pub fn squares_allowing_unmove(
     requires few { length others.now ≤ 4 }
     requires last { same_kind last.now.kind King ≡ false }
     requires man { Contains others.now man.now }
-    requires staying { IsCheckInfo others.now last.now man.now to_move staying.now.men.items staying.now.bearers.items staying.now.attacked
+    requires staying { IsCheckInfo others.now last.now man.now to_move staying.now.men.items
+        staying.now.bearers.items staying.now.attacked
         staying.now.king staying.now.checks staying.now.checks_of_man }
     requires side { same_side man.now.side (other_side to_move) ≡ true }
     requires comes { comes others.now man.now origin ≡ true }
     ensures { (y : ℕ) → y < 64 → AreOnDistinctSquares (others.now ++ on_square last.now y ∷ [])
-        → has result y ≡ is_unmove_origin (others.now ++ on_square last.now y ∷ []) to_move man.now origin }
+        → has result y ≡ is_unmove_origin
+        (others.now ++ on_square last.now y ∷ []) to_move man.now origin }
 {
     squares_not_interfering(others, staying, last, to_move, man, origin)
 }
@@ -97,11 +100,13 @@ pub fn squares_allowing_move(
     requires few { length others.now ≤ 4 }
     requires last { same_kind last.now.kind King ≡ false }
     requires man { Contains others.now man.now }
-    requires staying { IsCheckInfo others.now last.now man.now to_move staying.now.men.items staying.now.bearers.items staying.now.attacked
+    requires staying { IsCheckInfo others.now last.now man.now to_move staying.now.men.items
+        staying.now.bearers.items staying.now.attacked
         staying.now.king staying.now.checks staying.now.checks_of_man }
     requires side { same_side man.now.side to_move ≡ true }
     requires goes { goes_quietly others.now man.now target ≡ true }
-    ensures { (y : ℕ) → y < 64 → AreOnDistinctSquares (others.now ++ on_square last.now y ∷ []) → has result y
+    ensures { (y : ℕ) → y < 64
+        → AreOnDistinctSquares (others.now ++ on_square last.now y ∷ []) → has result y
         ≡ (is_safe_target (others.now ++ on_square last.now y ∷ []) to_move man.now target
         && not (is_occupied (others.now ++ on_square last.now y ∷ []) target)) }
 {
@@ -127,7 +132,9 @@ pub fn origins_of_last(others: &[Man], last: &Man, square: Square, check: Square
     ensures { (side : Side) → same_side last.now.side (other_side side) ≡ true
         → ((a : ℕ) → a < 64 → has check a ≡ in_check (others.now ++ on_square last.now a ∷ []) side)
         → AreOnDistinctSquares (others.now ++ on_square last.now square ∷ [])
-        → (a : ℕ) → a < 64 → has result a ≡ is_unmove_origin (others.now ++ on_square last.now square ∷ []) side (on_square last.now square) a }
+        → (a : ℕ) → a < 64
+        → has result a ≡ is_unmove_origin (others.now ++ on_square last.now square ∷ []) side
+        (on_square last.now square) a }
 {
     origins_among(others, &on(last, square)).without(check)
 }
@@ -139,7 +146,8 @@ pub fn targets_of_last(others: &[Man], last: &Man, square: Square, check: Square
         → ((x : ℕ) → x < 64 → has check x ≡ in_check (others.now ++ on_square last.now x ∷ []) side)
         → AreOnDistinctSquares (others.now ++ on_square last.now square ∷ [])
         → (x : ℕ) → x < 64 → has result x
-        ≡ (is_safe_target (others.now ++ on_square last.now square ∷ []) side (on_square last.now square) x
+        ≡ (is_safe_target (others.now ++ on_square last.now square ∷ []) side
+        (on_square last.now square) x
         && not (is_occupied (others.now ++ on_square last.now square ∷ []) x)) }
 {
     targets_among(others, &on(last, square)).without(check)

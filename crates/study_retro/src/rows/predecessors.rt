@@ -35,7 +35,8 @@ fn write_with_twin(class: Class, cells: &mut [u8], number: u32, change: CellWrit
     requires cell { 0 < change.cell }
     requires cells { length cells.old ≡ cells_of class }
     ensures rise { AreSet (IsItOrTwin class number) change.cell change.over cells.old cells.new }
-    ensures done { (n : ℕ) → IsItOrTwin class number n → IsSetWhere change.cell change.over cells.new n }
+    ensures done { (n : ℕ) → IsItOrTwin class number n
+        → IsSetWhere change.cell change.over cells.new n }
 {
     write_cell(cells, number, change);
     if has_en_passant(class, number) {
@@ -46,12 +47,15 @@ fn write_with_twin(class: Class, cells: &mut [u8], number: u32, change: CellWrit
 /// Sets the cells of some numbers of a row, each as `write_with_twin` does.
 #[inline]
 fn write_row(class: Class, cells: &mut [u8], row: u32, set: SquareSet, change: CellWrite)
-    requires numbers { (y : ℕ) → y < 64 → has set y ≡ true → (64 * row + y < cells_of class) × (64 * row + y < 16777216) }
+    requires numbers { (y : ℕ) → y < 64 → has set y ≡ true → (64 * row + y < cells_of class)
+        × (64 * row + y < 16777216) }
     requires row { row < 1048576 }
     requires cell { 0 < change.cell }
     requires cells { length cells.old ≡ cells_of class }
-    ensures rise { AreSet (IsInRowOrTwin class row set) change.cell change.over cells.old cells.new }
-    ensures done { (n y : ℕ) → y < 64 → has set y ≡ true → IsItOrTwin class (64 * row + y) n → IsSetWhere change.cell change.over cells.new n }
+    ensures rise { AreSet (IsInRowOrTwin class row set) change.cell
+        change.over cells.old cells.new }
+    ensures done { (n y : ℕ) → y < 64 → has set y ≡ true → IsItOrTwin class (64 * row + y) n
+        → IsSetWhere change.cell change.over cells.new n }
 {
     let mut rest = set;
     let mut next = 0u8;
@@ -81,8 +85,10 @@ fn write_predecessors_one_by_one(
     requires led { CanAllHaveLed departure.now.class departure.now.row led man.now origin }
     requires cell { 0 < change.cell }
     requires cells { length cells.old ≡ cells_of departure.now.class }
-    ensures rise { AreSet (IsBeforeRowFrom departure.now.class departure.now.row led man.now origin) change.cell change.over cells.old cells.new }
-    ensures done { (n y : ℕ) → y < 64 → has led y ≡ true → IsBeforeFrom departure.now.class (64 * departure.now.row + y) man.now origin n
+    ensures rise { AreSet (IsBeforeRowFrom departure.now.class departure.now.row led man.now origin)
+        change.cell change.over cells.old cells.new }
+    ensures done { (n y : ℕ) → y < 64 → has led y ≡ true
+        → IsBeforeFrom departure.now.class (64 * departure.now.row + y) man.now origin n
         → IsSetWhere change.cell change.over cells.new n }
 {
     let class = departure.class;
@@ -115,8 +121,10 @@ fn write_moved_one_by_one(
     requires led { CanAllHaveLed departure.now.class departure.now.row led man.now origin }
     requires cell { 0 < change.cell }
     requires cells { length cells.old ≡ cells_of departure.now.class }
-    ensures rise { AreSet (IsBeforeRowFrom departure.now.class departure.now.row led man.now origin) change.cell change.over cells.old cells.new }
-    ensures done { (n y : ℕ) → y < 64 → has led y ≡ true → IsBeforeFrom departure.now.class (64 * departure.now.row + y) man.now origin n
+    ensures rise { AreSet (IsBeforeRowFrom departure.now.class departure.now.row led man.now origin)
+        change.cell change.over cells.old cells.new }
+    ensures done { (n y : ℕ) → y < 64 → has led y ≡ true
+        → IsBeforeFrom departure.now.class (64 * departure.now.row + y) man.now origin n
         → IsSetWhere change.cell change.over cells.new n }
 {
     let _man = man.at;
@@ -148,8 +156,10 @@ fn write_predecessors(
     requires led { CanAllHaveLed departure.now.class departure.now.row led man.now origin }
     requires cell { 0 < change.cell }
     requires cells { length cells.old ≡ cells_of departure.now.class }
-    ensures rise { AreSet (IsBeforeRowFrom departure.now.class departure.now.row led man.now origin) change.cell change.over cells.old cells.new }
-    ensures done { (n y : ℕ) → y < 64 → has led y ≡ true → IsBeforeFrom departure.now.class (64 * departure.now.row + y) man.now origin n
+    ensures rise { AreSet (IsBeforeRowFrom departure.now.class departure.now.row led man.now origin)
+        change.cell change.over cells.old cells.new }
+    ensures done { (n y : ℕ) → y < 64 → has led y ≡ true
+        → IsBeforeFrom departure.now.class (64 * departure.now.row + y) man.now origin n
         → IsSetWhere change.cell change.over cells.new n }
 {
     if may_allow_en_passant(departure.class, origin, man.at) {
@@ -175,8 +185,10 @@ fn write_before_man_each(
     requires man { Contains row.now.others.items man.now }
     requires cell { 0 < change.cell }
     requires cells { length cells.old ≡ cells_of row.now.class }
-    ensures rise { AreSet (IsBeforeRowBy row.now.class row.now.number decided man.now) change.cell change.over cells.old cells.new }
-    ensures done { (n y : ℕ) → y < 64 → has decided y ≡ true → IsBeforeBy row.now.class (64 * row.now.number + y) man.now n
+    ensures rise { AreSet (IsBeforeRowBy row.now.class row.now.number decided man.now) change.cell
+        change.over cells.old cells.new }
+    ensures done { (n y : ℕ) → y < 64 → has decided y ≡ true
+        → IsBeforeBy row.now.class (64 * row.now.number + y) man.now n
         → IsSetWhere change.cell change.over cells.new n }
 {
     let mut count = 0u64;
@@ -205,6 +217,7 @@ fn write_before_man_from(
     departure: &RowIndexAfterMove,
     change: CellWrite,
 ) -> u64
+    // Many clauses: what the caller has already found of the numbers is required, fact by fact.
     requires class { departure.now.class ≡ row.now.class }
     requires row { departure.now.row ≡ row.now.number }
     requires from { departure.now.from ≡ man.now.at }
@@ -213,8 +226,10 @@ fn write_before_man_from(
     requires man { Contains row.now.others.items man.now }
     requires cell { 0 < change.cell }
     requires cells { length cells.old ≡ cells_of row.now.class }
-    ensures rise { AreSet (IsBeforeRowBy row.now.class row.now.number decided man.now) change.cell change.over cells.old cells.new }
-    ensures done { (n y : ℕ) → y < 64 → has decided y ≡ true → IsBeforeBy row.now.class (64 * row.now.number + y) man.now n
+    ensures rise { AreSet (IsBeforeRowBy row.now.class row.now.number decided man.now) change.cell
+        change.over cells.old cells.new }
+    ensures done { (n y : ℕ) → y < 64 → has decided y ≡ true
+        → IsBeforeBy row.now.class (64 * row.now.number + y) man.now n
         → IsSetWhere change.cell change.over cells.new n }
 {
     let others = row.others.as_slice();
@@ -253,8 +268,10 @@ fn write_before_man_of_row(
     requires man { Contains row.now.others.items man.now }
     requires cell { 0 < change.cell }
     requires cells { length cells.old ≡ cells_of row.now.class }
-    ensures rise { AreSet (IsBeforeRowBy row.now.class row.now.number decided man.now) change.cell change.over cells.old cells.new }
-    ensures done { (n y : ℕ) → y < 64 → has decided y ≡ true → IsBeforeBy row.now.class (64 * row.now.number + y) man.now n
+    ensures rise { AreSet (IsBeforeRowBy row.now.class row.now.number decided man.now) change.cell
+        change.over cells.old cells.new }
+    ensures done { (n y : ℕ) → y < 64 → has decided y ≡ true
+        → IsBeforeBy row.now.class (64 * row.now.number + y) man.now n
         → IsSetWhere change.cell change.over cells.new n }
 {
     if man.side != row.to_move.other() {
@@ -274,8 +291,10 @@ fn write_before_last_each(row: &Row, cells: &mut [u8], decided: SquareSet, chang
     requires numbered { AreNumbered row.now.class row.now.number decided }
     requires cell { 0 < change.cell }
     requires cells { length cells.old ≡ cells_of row.now.class }
-    ensures rise { AreSet (IsBeforeRow row.now.class row.now.number decided) change.cell change.over cells.old cells.new }
-    ensures done { (n y : ℕ) → y < 64 → has decided y ≡ true → IsBeforeBy row.now.class (64 * row.now.number + y) (on_square row.now.last y) n
+    ensures rise { AreSet (IsBeforeRow row.now.class row.now.number decided) change.cell
+        change.over cells.old cells.new }
+    ensures done { (n y : ℕ) → y < 64 → has decided y ≡ true
+        → IsBeforeBy row.now.class (64 * row.now.number + y) (on_square row.now.last y) n
         → IsSetWhere change.cell change.over cells.new n }
 {
     let slot = row.others.len() as u32;
@@ -314,8 +333,11 @@ struct LastManOrigins {
 fn origins_in_row(row: &Row, decided: SquareSet) -> LastManOrigins
     requires side { same_side row.now.last.side (other_side row.now.to_move) ≡ true }
     requires numbered { AreNumbered row.now.class row.now.number decided }
-    ensures only { (a : ℕ) → a < 64 → has result.squares a ≡ true → IsOriginInRow row.now.others.items row.now.last row.now.to_move decided a }
-    ensures all { (a : ℕ) → a < 64 → IsOriginInRow row.now.others.items row.now.last row.now.to_move decided a → has result.squares a ≡ true }
+    ensures only { (a : ℕ) → a < 64 → has result.squares a ≡ true
+        → IsOriginInRow row.now.others.items row.now.last row.now.to_move decided a }
+    ensures all { (a : ℕ) → a < 64
+        → IsOriginInRow row.now.others.items row.now.last row.now.to_move decided a
+        → has result.squares a ≡ true }
 {
     let others = row.others.as_slice();
     let check = squares_of_check(others, &row.last, row.to_move);
@@ -381,14 +403,18 @@ fn write_before_last_at_once(
 ) -> u64
     requires side { same_side row.now.last.side (other_side row.now.to_move) ≡ true }
     requires numbered { AreNumbered row.now.class row.now.number decided }
-    requires plainly { (y : ℕ) → y < 64 → has decided y ≡ true → ComesWithoutEnPassant row.now.class row.now.last y }
-    requires before { (y a : ℕ) (p : Seen) → y < 64 → a < 64 → IsMoved row.now.class (64 * row.now.number + y) y a p
+    requires plainly { (y : ℕ) → y < 64 → has decided y ≡ true
+        → ComesWithoutEnPassant row.now.class row.now.last y }
+    requires before { (y a : ℕ) (p : Seen) → y < 64 → a < 64
+        → IsMoved row.now.class (64 * row.now.number + y) y a p
         → index_of p ≡ 64 * before + a }
     requires small { before < 1048576 }
     requires cell { 0 < change.cell }
     requires cells { length cells.old ≡ cells_of row.now.class }
-    ensures rise { AreSet (IsBeforeRow row.now.class row.now.number decided) change.cell change.over cells.old cells.new }
-    ensures done { (n y : ℕ) → y < 64 → has decided y ≡ true → IsBeforeBy row.now.class (64 * row.now.number + y) (on_square row.now.last y) n
+    ensures rise { AreSet (IsBeforeRow row.now.class row.now.number decided) change.cell
+        change.over cells.old cells.new }
+    ensures done { (n y : ℕ) → y < 64 → has decided y ≡ true
+        → IsBeforeBy row.now.class (64 * row.now.number + y) (on_square row.now.last y) n
         → IsSetWhere change.cell change.over cells.new n }
 {
     let origins = origins_in_row(row, decided);
@@ -406,13 +432,16 @@ fn write_before_last_apart(
 ) -> u64
     requires side { same_side row.now.last.side (other_side row.now.to_move) ≡ true }
     requires numbered { AreNumbered row.now.class row.now.number decided }
-    requires before { (y a : ℕ) (p : Seen) → y < 64 → a < 64 → IsMoved row.now.class (64 * row.now.number + y) y a p
+    requires before { (y a : ℕ) (p : Seen) → y < 64 → a < 64
+        → IsMoved row.now.class (64 * row.now.number + y) y a p
         → index_of p ≡ 64 * before + a }
     requires small { before < 1048576 }
     requires cell { 0 < change.cell }
     requires cells { length cells.old ≡ cells_of row.now.class }
-    ensures rise { AreSet (IsBeforeRow row.now.class row.now.number decided) change.cell change.over cells.old cells.new }
-    ensures done { (n y : ℕ) → y < 64 → has decided y ≡ true → IsBeforeBy row.now.class (64 * row.now.number + y) (on_square row.now.last y) n
+    ensures rise { AreSet (IsBeforeRow row.now.class row.now.number decided) change.cell
+        change.over cells.old cells.new }
+    ensures done { (n y : ℕ) → y < 64 → has decided y ≡ true
+        → IsBeforeBy row.now.class (64 * row.now.number + y) (on_square row.now.last y) n
         → IsSetWhere change.cell change.over cells.new n }
 {
     let passing = passing_squares(row.class, &row.last);
@@ -426,8 +455,10 @@ fn write_before_last(row: &Row, cells: &mut [u8], decided: SquareSet, change: Ce
     requires numbered { AreNumbered row.now.class row.now.number decided }
     requires cell { 0 < change.cell }
     requires cells { length cells.old ≡ cells_of row.now.class }
-    ensures rise { AreSet (IsBeforeRow row.now.class row.now.number decided) change.cell change.over cells.old cells.new }
-    ensures done { (n y : ℕ) → y < 64 → has decided y ≡ true → IsBeforeBy row.now.class (64 * row.now.number + y) (on_square row.now.last y) n
+    ensures rise { AreSet (IsBeforeRow row.now.class row.now.number decided) change.cell
+        change.over cells.old cells.new }
+    ensures done { (n y : ℕ) → y < 64 → has decided y ≡ true
+        → IsBeforeBy row.now.class (64 * row.now.number + y) (on_square row.now.last y) n
         → IsSetWhere change.cell change.over cells.new n }
 {
     if row.last.side != row.to_move.other() {
@@ -444,8 +475,10 @@ fn write_before_men(row: &Row, cells: &mut [u8], decided: SquareSet, change: Cel
     requires numbered { AreNumbered row.now.class row.now.number decided }
     requires cell { 0 < change.cell }
     requires cells { length cells.old ≡ cells_of row.now.class }
-    ensures rise { AreSet (IsBeforeRow row.now.class row.now.number decided) change.cell change.over cells.old cells.new }
-    ensures done { (n y : ℕ) → y < 64 → has decided y ≡ true → IsBefore row.now.class (64 * row.now.number + y) n
+    ensures rise { AreSet (IsBeforeRow row.now.class row.now.number decided) change.cell
+        change.over cells.old cells.new }
+    ensures done { (n y : ℕ) → y < 64 → has decided y ≡ true
+        → IsBefore row.now.class (64 * row.now.number + y) n
         → IsSetWhere change.cell change.over cells.new n }
 {
     let mut count = write_before_last(row, cells, decided, change);
@@ -469,8 +502,10 @@ pub fn write_before_row(
     requires plain { 64 * row < 16777216 }
     requires cell { 0 < change.cell }
     requires cells { length cells.old ≡ cells_of class }
-    ensures rise { AreSet (IsBeforeRow class row decided) change.cell change.over cells.old cells.new }
-    ensures done { (n y : ℕ) → y < 64 → has decided y ≡ true → IsBefore class (64 * row + y) n → IsSetWhere change.cell change.over cells.new n }
+    ensures rise { AreSet (IsBeforeRow class row decided) change.cell
+        change.over cells.old cells.new }
+    ensures done { (n y : ℕ) → y < 64 → has decided y ≡ true → IsBefore class (64 * row + y) n
+        → IsSetWhere change.cell change.over cells.new n }
 {
     if decided.is_empty() {
         return 0;

@@ -30,7 +30,10 @@ fn is_relevant_target(last: &Man, to_move: Side, m: &Man) -> bool
 /// The squares from which the man of the last slot would bear on the other one on an empty board, if that matters.
 #[inline]
 fn squares_against(last: &Man, to_move: Side, m: &Man) -> SquareSet
-    ensures { (y : ℕ) → y < 64 → has result y ≡ (is_relevant_target last.now to_move m.now && attacks_square [] (facing last.now m.now.at) y) }
+    ensures { (y : ℕ) → y < 64
+        → has result y
+        ≡ (is_relevant_target last.now to_move m.now
+        && attacks_square [] (facing last.now m.now.at) y) }
 {
     if !is_relevant_target(last, to_move, m) {
         return SquareSet::empty();
@@ -46,7 +49,10 @@ fn squares_against(last: &Man, to_move: Side, m: &Man) -> SquareSet
 /// The squares from which the man of the last slot would, on an empty board, bear on a man for which that matters.
 #[inline]
 fn squares_bearing(others: &[Man], last: &Man, to_move: Side) -> SquareSet
-    ensures { (y : ℕ) → y < 64 → has result y ≡ list_any (λ m. is_relevant_target last.now to_move m && attacks_square [] (facing last.now m.at) y) others.now }
+    ensures { (y : ℕ) → y < 64
+        → has result y ≡ list_any (λ m.
+        is_relevant_target last.now to_move m
+        && attacks_square [] (facing last.now m.at) y) others.now }
 {
     let mut set = SquareSet::empty();
     for m in others {
@@ -70,7 +76,8 @@ fn promoting_squares(side: Side) -> SquareSet
 /// The squares that the man of the last slot must avoid: those from which it promotes, or on which it can be taken.
 #[inline]
 fn squares_exposed(last: &Man, to_move: Side, attacked: SquareSet) -> SquareSet
-    ensures { (y : ℕ) → y < 64 → has result y ≡ is_capturable_or_promotes last.now to_move attacked y }
+    ensures { (y : ℕ) → y < 64
+        → has result y ≡ is_capturable_or_promotes last.now to_move attacked y }
 {
     if last.side != to_move {
         attacked
@@ -102,7 +109,8 @@ fn are_restless(
 /// Squares of the man of the last slot with which the other king could be taken; empty if that man is a king.
 #[inline]
 fn squares_without_position(others: &[Man], last: &Man, to_move: Side) -> SquareSet
-    ensures { (y : ℕ) → y < 64 → has result y ≡ true → in_check (others.now ++ on_square last.now y ∷ []) (other_side to_move) ≡ true }
+    ensures { (y : ℕ) → y < 64 → has result y ≡ true
+        → in_check (others.now ++ on_square last.now y ∷ []) (other_side to_move) ≡ true }
 {
     if last.kind == Kind::King {
         SquareSet::empty()
@@ -131,7 +139,8 @@ fn still_squares(others: &[Man], last: &Man, to_move: Side) -> SquareSet
 #[inline]
 fn undecided_squares(others: &[Man], last: &Man, to_move: Side) -> SquareSet
     ensures { (y : ℕ) → y < 64 → has result y ≡ true → All (λ m. m.at < 64) others.now
-        → AreStillOrNone (others.now ++ on_square last.now y ∷ []) to_move ⊎ (is_occupied others.now y ≡ true) }
+        → AreStillOrNone (others.now ++ on_square last.now y ∷ []) to_move
+        ⊎ (is_occupied others.now y ≡ true) }
 {
     still_squares(others, last, to_move)
         .union(squares_without_position(others, last, to_move))
@@ -141,7 +150,8 @@ fn undecided_squares(others: &[Man], last: &Man, to_move: Side) -> SquareSet
 /// Squares of the man of the last slot in a row of numbers with which nothing is known before the levels.
 pub fn quiet_squares_in_row(class: Class, row: u32) -> SquareSet
     requires { row < 262144 }
-    ensures { (y : ℕ) → y < 64 → has result y ≡ true → (q : Seen) → position_numbered class (64 * row + y) ≡ Some q → IsQuietPosition q }
+    ensures { (y : ℕ) → y < 64 → has result y ≡ true → (q : Seen)
+        → position_numbered class (64 * row + y) ≡ Some q → IsQuietPosition q }
 {
     let setup = decode_men(class, 64 * row);
     match setup.men.as_slice() {

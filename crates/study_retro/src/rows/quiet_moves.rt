@@ -37,8 +37,10 @@ fn squares_won(cells: &[u8], row: u32, set: SquareSet, level: u8) -> SquareSet
     requires row { row < 1048576 }
     requires cells { (y : ℕ) → y < 64 → has set y ≡ true → 64 * row + y < length cells.now }
     ensures yes { (y : ℕ) → y < 64 → has result y ≡ true
-        → (has set y ≡ true) × ((m : ℕ) × (value_of (slice_index cells.now (64 * row + y)) ≡ Win m) × (m ≤ level)) }
-    ensures no { (y m : ℕ) → y < 64 → has set y ≡ true → has result y ≡ false → value_of (slice_index cells.now (64 * row + y)) ≡ Win m → m ≤ level → ⊥ }
+        → (has set y ≡ true)
+        × ((m : ℕ) × (value_of (slice_index cells.now (64 * row + y)) ≡ Win m) × (m ≤ level)) }
+    ensures no { (y m : ℕ) → y < 64 → has set y ≡ true → has result y ≡ false
+        → value_of (slice_index cells.now (64 * row + y)) ≡ Win m → m ≤ level → ⊥ }
 {
     let mut won = SquareSet::empty();
     let mut rest = set;
@@ -74,8 +76,10 @@ fn losing_each<A: Allocator>(
     requires cells { length cells.now ≡ cells_of game.now.class }
     ensures only { AreAmong result going }
     ensures yes { reaches_last_rank man.now target ≡ false
-        → AreWonAfter (class_game game.now.class game.now.tables.now) cells.now level departure.now.row result man.now target }
-    ensures no { OthersHold (class_game game.now.class game.now.tables.now) cells.now level departure.now.row going result }
+        → AreWonAfter (class_game game.now.class game.now.tables.now) cells.now level
+        departure.now.row result man.now target }
+    ensures no { OthersHold (class_game game.now.class game.now.tables.now) cells.now level
+        departure.now.row going result }
 {
     let mut losing = SquareSet::empty();
     let mut rest = going;
@@ -106,6 +110,7 @@ fn losing_each_moved<A: Allocator>(
     target: Square,
     level: u8,
 ) -> SquareSet
+    // Many clauses: what the caller has already found of the numbers is required, fact by fact.
     requires laws { IsNumberedClass (class_game game.now.class game.now.tables.now) }
     requires class { departure.now.class ≡ game.now.class }
     requires from { departure.now.from ≡ man.now.at }
@@ -117,8 +122,10 @@ fn losing_each_moved<A: Allocator>(
     requires going { CanAllGo game.now.class departure.now.row going man.now target }
     requires cells { length cells.now ≡ cells_of game.now.class }
     ensures only { AreAmong result going }
-    ensures yes { AreWonAfter (class_game game.now.class game.now.tables.now) cells.now level departure.now.row result man.now target }
-    ensures no { OthersHold (class_game game.now.class game.now.tables.now) cells.now level departure.now.row going result }
+    ensures yes { AreWonAfter (class_game game.now.class game.now.tables.now) cells.now level
+        departure.now.row result man.now target }
+    ensures no { OthersHold (class_game game.now.class game.now.tables.now) cells.now level
+        departure.now.row going result }
 {
     let _read = (game.class, man.at);
     let mut losing = SquareSet::empty();
@@ -148,6 +155,7 @@ fn losing_after<A: Allocator>(
     target: Square,
     level: u8,
 ) -> SquareSet
+    // Many clauses: what the caller has already found of the numbers is required, fact by fact.
     requires laws { IsNumberedClass (class_game game.now.class game.now.tables.now) }
     requires class { departure.now.class ≡ game.now.class }
     requires from { departure.now.from ≡ man.now.at }
@@ -158,8 +166,10 @@ fn losing_after<A: Allocator>(
     requires cells { length cells.now ≡ cells_of game.now.class }
     ensures only { AreAmong result going }
     ensures yes { reaches_last_rank man.now target ≡ false
-        → AreWonAfter (class_game game.now.class game.now.tables.now) cells.now level departure.now.row result man.now target }
-    ensures no { OthersHold (class_game game.now.class game.now.tables.now) cells.now level departure.now.row going result }
+        → AreWonAfter (class_game game.now.class game.now.tables.now) cells.now level
+        departure.now.row result man.now target }
+    ensures no { OthersHold (class_game game.now.class game.now.tables.now) cells.now level
+        departure.now.row going result }
 {
     if reaches_last_rank(man, target) {
         return going;
@@ -190,6 +200,7 @@ fn quiet_moves_of_man_each<A: Allocator>(
     slot: u32,
     level: u8,
 ) -> RowMoves
+    // Many clauses: what the caller has already found of the numbers is required, fact by fact.
     requires laws { IsNumberedClass (class_game game.now.class game.now.tables.now) }
     requires class { row.now.class ≡ game.now.class }
     requires numbered { AreNumbered game.now.class row.now.number so_far.losing }
@@ -197,8 +208,10 @@ fn quiet_moves_of_man_each<A: Allocator>(
     requires some { HaveMoves game.now.class row.now.number so_far.some }
     requires cells { length cells.now ≡ cells_of game.now.class }
     ensures only { AreAmong result.losing so_far.losing }
-    ensures no { OthersHold (class_game game.now.class game.now.tables.now) cells.now level row.now.number so_far.losing result.losing }
-    ensures yes { AllLoseBy (class_game game.now.class game.now.tables.now) cells.now level row.now.number result.losing man.now }
+    ensures no { OthersHold (class_game game.now.class game.now.tables.now) cells.now level
+        row.now.number so_far.losing result.losing }
+    ensures yes { AllLoseBy (class_game game.now.class game.now.tables.now) cells.now level
+        row.now.number result.losing man.now }
     ensures some { HaveMoves game.now.class row.now.number result.some }
 {
     let mut losing = SquareSet::empty();
@@ -234,6 +247,7 @@ fn quiet_moves_of_man_from<A: Allocator>(
     departure: &RowIndexAfterMove,
     level: u8,
 ) -> RowMoves
+    // Many clauses: what the caller has already found of the numbers is required, fact by fact.
     requires laws { IsNumberedClass (class_game game.now.class game.now.tables.now) }
     requires class { row.now.class ≡ game.now.class }
     requires departure { departure.now.class ≡ row.now.class }
@@ -245,8 +259,10 @@ fn quiet_moves_of_man_from<A: Allocator>(
     requires some { HaveMoves game.now.class row.now.number so_far.some }
     requires cells { length cells.now ≡ cells_of game.now.class }
     ensures only { AreAmong result.losing so_far.losing }
-    ensures no { OthersHold (class_game game.now.class game.now.tables.now) cells.now level row.now.number so_far.losing result.losing }
-    ensures yes { AllLoseBy (class_game game.now.class game.now.tables.now) cells.now level row.now.number result.losing man.now }
+    ensures no { OthersHold (class_game game.now.class game.now.tables.now) cells.now level
+        row.now.number so_far.losing result.losing }
+    ensures yes { AllLoseBy (class_game game.now.class game.now.tables.now) cells.now level
+        row.now.number result.losing man.now }
     ensures some { HaveMoves game.now.class row.now.number result.some }
 {
     let others = row.others.as_slice();
@@ -287,6 +303,7 @@ fn quiet_moves_of_row<A: Allocator>(
     slot: u32,
     level: u8,
 ) -> RowMoves
+    // Many clauses: what the caller has already found of the numbers is required, fact by fact.
     requires laws { IsNumberedClass (class_game game.now.class game.now.tables.now) }
     requires class { row.now.class ≡ game.now.class }
     requires numbered { AreNumbered game.now.class row.now.number so_far.losing }
@@ -294,8 +311,10 @@ fn quiet_moves_of_row<A: Allocator>(
     requires some { HaveMoves game.now.class row.now.number so_far.some }
     requires cells { length cells.now ≡ cells_of game.now.class }
     ensures only { AreAmong result.losing so_far.losing }
-    ensures no { OthersHold (class_game game.now.class game.now.tables.now) cells.now level row.now.number so_far.losing result.losing }
-    ensures yes { AllLoseBy (class_game game.now.class game.now.tables.now) cells.now level row.now.number result.losing man.now }
+    ensures no { OthersHold (class_game game.now.class game.now.tables.now) cells.now level
+        row.now.number so_far.losing result.losing }
+    ensures yes { AllLoseBy (class_game game.now.class game.now.tables.now) cells.now level
+        row.now.number result.losing man.now }
     ensures some { HaveMoves game.now.class row.now.number result.some }
 {
     if man.side != row.to_move {
@@ -326,8 +345,10 @@ fn quiet_moves_of_last_each<A: Allocator>(
     requires some { HaveMoves game.now.class row.now.number so_far.some }
     requires cells { length cells.now ≡ cells_of game.now.class }
     ensures only { AreAmong result.losing so_far.losing }
-    ensures no { OthersHold (class_game game.now.class game.now.tables.now) cells.now level row.now.number so_far.losing result.losing }
-    ensures yes { AllLoseByLast (class_game game.now.class game.now.tables.now) cells.now level row.now.number result.losing row.now.last }
+    ensures no { OthersHold (class_game game.now.class game.now.tables.now) cells.now level
+        row.now.number so_far.losing result.losing }
+    ensures yes { AllLoseByLast (class_game game.now.class game.now.tables.now) cells.now level
+        row.now.number result.losing row.now.last }
     ensures some { HaveMoves game.now.class row.now.number result.some }
 {
     let slot = row.others.len() as u32;
@@ -413,10 +434,14 @@ fn has_any(set: SquareSet) -> bool
 /// which it leaves a king of its side attacked.
 fn targets_in_row(row: &Row, set: SquareSet, check: SquareSet) -> SquareSet
     requires side { same_side row.now.last.side row.now.to_move ≡ true }
-    requires check { (x : ℕ) → x < 64 → has check x ≡ in_check (row.now.others.items ++ on_square row.now.last x ∷ []) row.now.to_move }
+    requires check { (x : ℕ) → x < 64
+        → has check x
+        ≡ in_check (row.now.others.items ++ on_square row.now.last x ∷ []) row.now.to_move }
     requires numbered { AreNumbered row.now.class row.now.number set }
-    ensures only { (x : ℕ) → x < 64 → has result x ≡ true → GoesInRow row.now.others.items row.now.last row.now.to_move set x }
-    ensures all { (x : ℕ) → x < 64 → GoesInRow row.now.others.items row.now.last row.now.to_move set x → has result x ≡ true }
+    ensures only { (x : ℕ) → x < 64 → has result x ≡ true
+        → GoesInRow row.now.others.items row.now.last row.now.to_move set x }
+    ensures all { (x : ℕ) → x < 64
+        → GoesInRow row.now.others.items row.now.last row.now.to_move set x → has result x ≡ true }
 {
     let others = row.others.as_slice();
     let mut squares = SquareSet::empty();
@@ -435,15 +460,19 @@ fn targets_in_row(row: &Row, set: SquareSet, check: SquareSet) -> SquareSet
 /// The result with the moves of the last man, of the side to move, added, given the squares on which it does not escape.
 fn moves_of_last(row: &Row, so_far: RowMoves, check: SquareSet, lost: SquareSet) -> RowMoves
     requires side { same_side row.now.last.side row.now.to_move ≡ true }
-    requires check { (x : ℕ) → x < 64 → has check x ≡ in_check (row.now.others.items ++ on_square row.now.last x ∷ []) row.now.to_move }
+    requires check { (x : ℕ) → x < 64
+        → has check x
+        ≡ in_check (row.now.others.items ++ on_square row.now.last x ∷ []) row.now.to_move }
     requires numbered { AreNumbered row.now.class row.now.number so_far.losing }
     ensures only { AreAmong result.losing so_far.losing }
     ensures yes { (y x : ℕ) → y < 64 → has result.losing y ≡ true → x < 64
-        → goes_beside row.now.others.items row.now.last row.now.to_move y x ≡ true → has lost x ≡ true }
+        → goes_beside row.now.others.items row.now.last row.now.to_move y x
+        ≡ true → has lost x ≡ true }
     ensures no { (y : ℕ) → y < 64 → has so_far.losing y ≡ true → has result.losing y ≡ false
         → GoesOutside row.now.others.items row.now.last row.now.to_move lost y }
     ensures some { (y : ℕ) → y < 64 → has result.some y ≡ true
-        → (has so_far.some y ≡ true) ⊎ (has so_far.losing y ≡ true) × Goes row.now.others.items row.now.last row.now.to_move y }
+        → (has so_far.some y ≡ true) ⊎ (has so_far.losing y ≡ true)
+        × Goes row.now.others.items row.now.last row.now.to_move y }
 {
     let others = row.others.as_slice();
     let mut losing = SquareSet::empty();
@@ -481,8 +510,10 @@ fn quiet_moves_of_last<A: Allocator>(
     requires some { HaveMoves game.now.class row.now.number so_far.some }
     requires cells { length cells.now ≡ cells_of game.now.class }
     ensures only { AreAmong result.losing so_far.losing }
-    ensures no { OthersHold (class_game game.now.class game.now.tables.now) cells.now level row.now.number so_far.losing result.losing }
-    ensures yes { AllLoseByLast (class_game game.now.class game.now.tables.now) cells.now level row.now.number result.losing row.now.last }
+    ensures no { OthersHold (class_game game.now.class game.now.tables.now) cells.now level
+        row.now.number so_far.losing result.losing }
+    ensures yes { AllLoseByLast (class_game game.now.class game.now.tables.now) cells.now level
+        row.now.number result.losing row.now.last }
     ensures some { HaveMoves game.now.class row.now.number result.some }
 {
     if row.last.side != row.to_move {
@@ -516,8 +547,10 @@ fn quiet_moves_in_row<A: Allocator>(
     requires numbered { AreNumbered game.now.class row.now.number candidates }
     requires cells { length cells.now ≡ cells_of game.now.class }
     ensures only { AreAmong result.losing candidates }
-    ensures no { OthersHold (class_game game.now.class game.now.tables.now) cells.now level row.now.number candidates result.losing }
-    ensures yes { AllLose (class_game game.now.class game.now.tables.now) cells.now level row.now.number result.losing }
+    ensures no { OthersHold (class_game game.now.class game.now.tables.now) cells.now level
+        row.now.number candidates result.losing }
+    ensures yes { AllLose (class_game game.now.class game.now.tables.now) cells.now level
+        row.now.number result.losing }
     ensures some { HaveMoves game.now.class row.now.number result.some }
 {
     let mut moves = RowMoves {
@@ -543,11 +576,13 @@ fn is_lost_after_quiet<A: Allocator>(
     requires plain { number < 16777216 }
     requires quiet { (q : Seen) → position_numbered game.now.class number ≡ Some q
         → QuietMovesLose (class_game game.now.class game.now.tables.now) cells.now level q }
-    requires some { IsTrue some → (q : Seen) → position_numbered game.now.class number ≡ Some q → HasMove q }
+    requires some { IsTrue some → (q : Seen)
+        → position_numbered game.now.class number ≡ Some q → HasMove q }
     requires cells { length cells.now ≡ cells_of game.now.class }
     ensures yes { IsTrue result → (p : Seen) × (position_numbered game.now.class number ≡ Some p)
         × LosesBy (class_game game.now.class game.now.tables.now) cells.now level p }
-    ensures no { result ≡ false → NoLossBy (class_game game.now.class game.now.tables.now) cells.now level number }
+    ensures no { result ≡ false
+        → NoLossBy (class_game game.now.class game.now.tables.now) cells.now level number }
 {
     let setup = decode_men(game.class, number);
     if stays(game.class, number, &setup) {
@@ -568,13 +603,16 @@ fn lost_after_quiet<A: Allocator>(
     requires laws { IsNumberedClass (class_game game.now.class game.now.tables.now) }
     requires plain { row < 262144 }
     requires numbered { AreNumbered game.now.class row losing }
-    requires quiet { AllLose (class_game game.now.class game.now.tables.now) cells.now level row losing }
+    requires quiet { AllLose (class_game game.now.class game.now.tables.now)
+        cells.now level row losing }
     requires some { HaveMoves game.now.class row some }
     requires cells { length cells.now ≡ cells_of game.now.class }
     ensures only { AreAmong result losing }
-    ensures yes { (y : ℕ) → y < 64 → has result y ≡ true → (p : Seen) × (position_numbered game.now.class (64 * row + y) ≡ Some p)
+    ensures yes { (y : ℕ) → y < 64 → has result y ≡ true → (p : Seen)
+        × (position_numbered game.now.class (64 * row + y) ≡ Some p)
         × LosesBy (class_game game.now.class game.now.tables.now) cells.now level p }
-    ensures no { OthersHold (class_game game.now.class game.now.tables.now) cells.now level row losing result }
+    ensures no { OthersHold (class_game game.now.class game.now.tables.now)
+        cells.now level row losing result }
 {
     let mut lost = SquareSet::empty();
     let mut rest = losing;
@@ -605,9 +643,11 @@ fn lost_of_row<A: Allocator>(
     requires numbered { AreNumbered game.now.class row.now.number candidates }
     requires cells { length cells.now ≡ cells_of game.now.class }
     ensures only { AreAmong result candidates }
-    ensures yes { (y : ℕ) → y < 64 → has result y ≡ true → (p : Seen) × (position_numbered game.now.class (64 * row.now.number + y) ≡ Some p)
+    ensures yes { (y : ℕ) → y < 64 → has result y ≡ true → (p : Seen)
+        × (position_numbered game.now.class (64 * row.now.number + y) ≡ Some p)
         × LosesBy (class_game game.now.class game.now.tables.now) cells.now level p }
-    ensures no { OthersHold (class_game game.now.class game.now.tables.now) cells.now level row.now.number candidates result }
+    ensures no { OthersHold (class_game game.now.class game.now.tables.now) cells.now level
+        row.now.number candidates result }
 {
     let moves = quiet_moves_in_row(game, cells, row, candidates, level);
     lost_after_quiet(game, cells, row.number, moves.losing, moves.some, level)
@@ -622,11 +662,13 @@ pub fn lost_in_row_without_en_passant<A: Allocator>(
     level: u8,
 ) -> SquareSet
     requires laws { IsNumberedClass (class_game game.now.class game.now.tables.now) }
-    requires numbered { HavePositions (class_game game.now.class game.now.tables.now) row candidates }
+    requires numbered { HavePositions
+        (class_game game.now.class game.now.tables.now) row candidates }
     requires plain { 64 * row < 16777216 }
     requires cells { length cells.now ≡ (class_game game.now.class game.now.tables.now).size }
     ensures only { (y : ℕ) → y < 64 → has result y ≡ true → has candidates y ≡ true }
-    ensures yes { (y : ℕ) → y < 64 → has result y ≡ true → (p : Seen) × (position_numbered game.now.class (64 * row + y) ≡ Some p)
+    ensures yes { (y : ℕ) → y < 64 → has result y ≡ true → (p : Seen)
+        × (position_numbered game.now.class (64 * row + y) ≡ Some p)
         × LosesBy (class_game game.now.class game.now.tables.now) cells.now level p }
     ensures no { (y : ℕ) → y < 64 → has candidates y ≡ true → has result y ≡ false
         → NoLossBy (class_game game.now.class game.now.tables.now) cells.now level (64 * row + y) }
