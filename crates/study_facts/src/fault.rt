@@ -1,4 +1,4 @@
-//! Why a review is not written.
+//! Why a review or a part of a report is not written.
 
 use std::alloc::{AllocError, AllocFailed};
 use study_text::DeviceFailed;
@@ -16,6 +16,15 @@ pub enum ReviewFault {
     Values(ProbeFault),
 }
 
+/// Why a text without values is not written, or not whole.
+#[derive(Clone, Copy, Debug, PartialEq, Eq, Error)]
+pub enum WriteFault {
+    #[error("no memory is left for the text")]
+    OutOfMemory,
+    #[error("the device failed")]
+    Device,
+}
+
 /// Why the text of a review is not made.
 #[derive(Clone, Copy, Debug, PartialEq, Eq)]
 pub enum TextFault {
@@ -31,6 +40,28 @@ impl From<DeviceFailed> for ReviewFault {
 
     fn from(_failed: DeviceFailed) -> ReviewFault {
         ReviewFault::Device
+    }
+}
+
+impl From<AllocError> for WriteFault {
+    ghost use Rattle.std.specs.Prelude.{◌≡◌};
+    ghost use Rattle.study_facts.specs.declared.fault.WriteFault.TheVariants.{OutOfMemory};
+
+    ghost from_gives = { λ _ fault. fault ≡ OutOfMemory };
+
+    fn from(_error: AllocError) -> WriteFault {
+        WriteFault::OutOfMemory
+    }
+}
+
+impl From<DeviceFailed> for WriteFault {
+    ghost use Rattle.std.specs.Prelude.{◌≡◌};
+    ghost use Rattle.study_facts.specs.declared.fault.WriteFault.TheVariants.{Device};
+
+    ghost from_gives = { λ _ fault. fault ≡ Device };
+
+    fn from(_failed: DeviceFailed) -> WriteFault {
+        WriteFault::Device
     }
 }
 

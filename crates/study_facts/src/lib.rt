@@ -28,7 +28,7 @@ pub use best::{best_move, best_play, better_of, play_on};
 pub use children::{child_count, children_in};
 pub use continuation::{EvaluatedMove, NodeContext, is_draw};
 pub use empty::is_empty;
-pub use fault::{ReviewFault, TextFault};
+pub use fault::{ReviewFault, TextFault, WriteFault};
 pub use line::{
     MoveContext, NodePosition, PositionHistory, fill_made, fill_place, move_context_at, move_to,
     node_position_at, position_in,

@@ -4,7 +4,8 @@ use Rattle.std.specs.Prelude.{◌==◌, if◌then◌else◌}
 use Rattle.std.proofs.lemmas.Bool.{cases_Bool}
 use Rattle.study_games.specs.declared.games.LineKind.{LineKind}
 use Rattle.study_games.specs.declared.games.LineKind.TheVariants.{Silent, Tag, EventTag, Moves}
-use Rattle.study_games.specs.Games.{Game, Begun, kind_of, longer, lines_behind, one_more, unmarked, first_line, taken_to, ends_before, game_at_hand, games_from, games_of}
+use Rattle.study_games.specs.Games.{Game, Begun, kind_of, longer, lines_behind, one_more, unmarked, first_line, taken_to, ends_before, game_at_hand}
+use Rattle.study_games.specs.Games.{games_from, games_of}
 use Rattle.study_games.specs.Laws.{number_behind, EndsWithMoves, IsTag, BeginsWithTag, lines_of, IsIsolated}
 
 -- ---- lines

@@ -7,7 +7,8 @@ use Rattle.study_games.specs.declared.token.TokenFault.TheVariants.{OpenComment,
 use Rattle.study_games.specs.declared.token.Cut.{Cut}
 use Rattle.study_games.specs.declared.token.Token.{Token as Read}
 use Rattle.study_games.specs.declared.token.Token.TheVariants as read
-use Rattle.study_games.specs.Bytes.{is_blank, is_gap, is_letter, is_digit, is_name_byte, is_sign, begins_symbol, is_symbol_byte, is_glyph, is_feed, is_brace_end}
+use Rattle.study_games.specs.Bytes.{is_blank, is_gap, is_letter, is_digit, is_name_byte, is_sign, begins_symbol, is_symbol_byte, is_glyph, is_feed}
+use Rattle.study_games.specs.Bytes.{is_brace_end}
 
 -- blank: blanks, dots and escape lines, which are ignored; aside: a NAG or a glyph
 pub data Token : Type 0 where

@@ -1,6 +1,7 @@
 //! The text of a tag's value in printable ASCII.
 ghost use Rattle.std.specs.Prelude.{◌≡◌, ◌++◌, OnOk, IfOk};
-ghost use Rattle.study_games.specs.Ascii.{first_or, behind_or, word_at, latin_1, latin_a, romanian, cyrillic, ukrainian, marks, letters_of, ascii_of, spelled_out, short_text};
+ghost use Rattle.study_games.specs.Ascii.{first_or, behind_or, word_at, latin_1, latin_a, romanian, cyrillic, ukrainian, marks, letters_of, ascii_of};
+ghost use Rattle.study_games.specs.Ascii.{spelled_out, short_text};
 ghost use Rattle.study_games.specs.Words.{first_word};
 
 use crate::characters::{is_utf8, read_at};

@@ -1,7 +1,8 @@
 //! The characters of a text, in UTF-8 or in Latin 1.
 ghost use Rattle.std.specs.Prelude.{◌≡◌, ◌≤◌, ◌-◌, true, Some, None, if◌then◌else◌};
 ghost use Rattle.std.specs.Option.{option_map};
-ghost use Rattle.study_games.specs.Characters.{is_next, code_of_two, code_of_three, code_of_four, is_two, is_three, is_four, one_byte, two_bytes, three_bytes, four_bytes, character_at, is_utf8, latin_at, read_at};
+ghost use Rattle.study_games.specs.Characters.{is_next, code_of_two, code_of_three, code_of_four, is_two, is_three, is_four, one_byte, two_bytes};
+ghost use Rattle.study_games.specs.Characters.{three_bytes, four_bytes, character_at, is_utf8, latin_at, read_at};
 
 fn is_next(b: u8) -> bool
     ensures { result ≡ is_next b }

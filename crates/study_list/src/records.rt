@@ -3,7 +3,7 @@ use crate::remarks::write_remark;
 use std::alloc::Allocator;
 use std::io::Write;
 use study_marks::Bench;
-use study_page::{PageFault, write_record, write_refused_record};
+use study_page::{write_record, write_refused_record};
 use study_print::refusal_name;
 use study_report::{Report, ReviewFault, WriteFault};
 use study_values::Values;
@@ -46,11 +46,7 @@ impl Report for Records {
         reply: &[u8],
         out: &mut W,
     ) -> Result<(), WriteFault> {
-        match write_refused_record(alloc, number, line, refusal_name(reply), out) {
-            Ok(()) => Ok(()),
-            Err(PageFault::OutOfMemory) => Err(WriteFault::OutOfMemory),
-            Err(PageFault::Device) => Err(WriteFault::Device),
-        }
+        write_refused_record(alloc, number, line, refusal_name(reply), out)
     }
 
     fn add_remark<'a, A: Allocator, W: Write>(
@@ -59,10 +55,6 @@ impl Report for Records {
         line: &[u8],
         out: &mut W,
     ) -> Result<(), WriteFault> {
-        match write_remark(alloc, line, out) {
-            Ok(()) => Ok(()),
-            Err(PageFault::OutOfMemory) => Err(WriteFault::OutOfMemory),
-            Err(PageFault::Device) => Err(WriteFault::Device),
-        }
+        write_remark(alloc, line, out)
     }
 }

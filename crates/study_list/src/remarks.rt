@@ -8,8 +8,7 @@ ghost use Rattle.study_list.specs.List.{left_out_record, remark_record};
 
 use std::alloc::{AllocError, Allocator};
 use std::io::Write;
-use study_page::PageFault;
-use study_report::{is_left_out, statement, subject};
+use study_report::{WriteFault, is_left_out, statement, subject};
 use study_text::{Text, write_text};
 
 fn add_doubled<A: Allocator>(text: &mut Text<'_, A>, byte: u8) -> Result<(), AllocError>
@@ -67,12 +66,12 @@ pub fn write_remark<'a, A: Allocator, W: Write>(
     alloc: &'a A,
     line: &[u8],
     out: &mut W,
-) -> Result<(), PageFault>
+) -> Result<(), WriteFault>
     ensures ok { OnOk result
         (Appends (W.contents out.old) (W.contents out.new) (remark_record line.now)) }
-    ensures device { result ≡ Err PageFault.Device
+    ensures device { result ≡ Err WriteFault.Device
         → TakesPrefix (W.contents out.old) (W.contents out.new) (remark_record line.now) }
-    ensures memory { result ≡ Err PageFault.OutOfMemory → out.new ≡ out.old }
+    ensures memory { result ≡ Err WriteFault.OutOfMemory → out.new ≡ out.old }
 {
     let mut text = Text::new(alloc);
     add_remark(&mut text, line)?;

@@ -1,6 +1,5 @@
 //! Why a list ends before its last position.
 
-use study_text::DeviceFailed;
 use study_values::ProbeFault;
 use thiserror::Error;
 
@@ -15,26 +14,4 @@ pub enum Stop {
     TooManyStudies,
     #[error("the device of the list failed")]
     WriteDevice,
-}
-
-impl From<DeviceFailed> for Stop {
-    ghost use Rattle.std.specs.Prelude.{◌≡◌};
-    ghost use Rattle.study_listing.specs.declared.fault.Stop.TheVariants.{WriteDevice};
-
-    ghost from_gives = { λ _ stop. stop ≡ WriteDevice };
-
-    fn from(_failed: DeviceFailed) -> Stop {
-        Stop::WriteDevice
-    }
-}
-
-impl From<ProbeFault> for Stop {
-    ghost use Rattle.std.specs.Prelude.{◌≡◌};
-    ghost use Rattle.study_listing.specs.declared.fault.Stop.TheVariants.{Values};
-
-    ghost from_gives = { λ fault stop. stop ≡ Values fault };
-
-    fn from(fault: ProbeFault) -> Stop {
-        Stop::Values(fault)
-    }
 }

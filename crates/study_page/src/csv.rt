@@ -15,11 +15,10 @@ ghost use Rattle.study_head.specs.Verdict.{stamp_words, judgement_of};
 ghost use Rattle.study_page.specs.Csv.{is_special, doubled, quoted, field, column, head_record, names, record_text, refused_record};
 ghost use Rattle.study_page.specs.Csv.{IsRecord, IsSomeRecord, IsRecordOf};
 
-use crate::fault::PageFault;
 use crate::page::parts_of;
 use std::alloc::{AllocError, Allocator};
 use std::io::Write;
-use study_facts::{ReviewFault, TextFault};
+use study_facts::{ReviewFault, TextFault, WriteFault};
 use study_head::{add_stamp_words, judgement_of, known_tag};
 use study_marks::{Bench, TagName};
 use study_notation::write_fen;
@@ -259,14 +258,14 @@ pub fn write_refused_record<'a, A: Allocator, W: Write>(
     line: &[u8],
     name: &[u8],
     out: &mut W,
-) -> Result<(), PageFault>
+) -> Result<(), WriteFault>
     ensures ok { OnOk result
         (Appends (W.contents out.old) (W.contents out.new)
         (refused_record number line.now name.now)) }
-    ensures device { result ≡ Err PageFault.Device
+    ensures device { result ≡ Err WriteFault.Device
         → TakesPrefix (W.contents out.old) (W.contents out.new)
         (refused_record number line.now name.now) }
-    ensures memory { result ≡ Err PageFault.OutOfMemory → out.new ≡ out.old }
+    ensures memory { result ≡ Err WriteFault.OutOfMemory → out.new ≡ out.old }
 {
     let mut text = Text::new(alloc);
     add_refused(alloc, &mut text, number, line, name)?;

@@ -8,7 +8,6 @@ mod cards_and_tries;
 mod csv;
 mod defence_groups;
 mod draft;
-mod fault;
 mod fault_list;
 mod laws;
 mod mark_tests;
@@ -23,7 +22,6 @@ mod walk;
 mod words;
 
 pub use csv::{write_head_record, write_record, write_refused_record};
-pub use fault::PageFault;
 pub use laws::{pages_are_unique, plain_studies_have_one_page};
 pub use page::{Listed, write_page};
 pub use sheet::write_place;

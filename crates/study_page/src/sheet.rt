@@ -9,10 +9,9 @@ ghost use Rattle.study_head.specs.Known.{known};
 ghost use Rattle.study_pgn.specs.Pgn.{stipulation_text};
 ghost use Rattle.study_page.specs.Sheet.{number_words, author_line, key_words, key_of, place_caption, place, IsPlaceOf, IsPlace};
 
-use crate::fault::PageFault;
 use std::alloc::{AllocError, Allocator};
 use std::io::Write;
-use study_facts::move_context_at;
+use study_facts::{WriteFault, move_context_at};
 use study_head::{add_label, draw_board, known_tag, moves_first};
 use study_html::{Drawing, Element, Html, put_words};
 use study_marks::{Bench, TagName};
@@ -127,16 +126,16 @@ pub fn write_place<'a, 'b, A: Allocator, B: Allocator, W: Write>(
     bench: &Bench<'b, B>,
     number: u32,
     out: &mut W,
-) -> Result<(), PageFault>
+) -> Result<(), WriteFault>
     ensures ok { OnOk result ((text : List ℕ)
         × IsPlaceOf (plain_study (marked bench.now)) number text
         × Appends (W.contents out.old) (W.contents out.new) text) }
     ensures formed { OnOk result ((text : List ℕ) × IsPlace number text
         × Appends (W.contents out.old) (W.contents out.new) text) }
-    ensures device { result ≡ Err PageFault.Device → (text : List ℕ)
+    ensures device { result ≡ Err WriteFault.Device → (text : List ℕ)
         × IsPlaceOf (plain_study (marked bench.now)) number text
         × TakesPrefix (W.contents out.old) (W.contents out.new) text }
-    ensures memory { result ≡ Err PageFault.OutOfMemory → out.new ≡ out.old }
+    ensures memory { result ≡ Err WriteFault.OutOfMemory → out.new ≡ out.old }
 {
     let html = plain_place_of(alloc, bench, number)?;
     write_text(out, html.as_slice())?;

@@ -13,9 +13,9 @@ ghost use Rattle.study_head.specs.Head.{title_words};
 ghost use Rattle.study_head.specs.Verdict.{stamp_words, judgement_of};
 ghost use Rattle.study_page.specs.Lists.{refusal_part, summary_row, two_heads, three_heads, summary_heads, summary_part};
 
-use crate::fault::PageFault;
 use std::alloc::{AllocError, Allocator};
 use std::io::Write;
+use study_facts::WriteFault;
 use study_head::{add_stamp_words, judgement_of, known_tag, title_words};
 use study_html::{Element, Html, put_words};
 use study_marks::{Bench, TagName};
@@ -70,14 +70,14 @@ pub fn write_refusal<'a, A: Allocator, W: Write>(
     name: &[u8],
     reason: &[u8],
     out: &mut W,
-) -> Result<(), PageFault>
+) -> Result<(), WriteFault>
     ensures ok { OnOk result
         (Appends (W.contents out.old) (W.contents out.new)
         (refusal_part line text.now name.now reason.now)) }
-    ensures device { result ≡ Err PageFault.Device
+    ensures device { result ≡ Err WriteFault.Device
         → TakesPrefix (W.contents out.old) (W.contents out.new)
         (refusal_part line text.now name.now reason.now) }
-    ensures memory { result ≡ Err PageFault.OutOfMemory → out.new ≡ out.old }
+    ensures memory { result ≡ Err WriteFault.OutOfMemory → out.new ≡ out.old }
 {
     let html = refusal_of(alloc, line, text, name, reason)?;
     write_text(out, html.as_slice())?;
@@ -223,12 +223,12 @@ pub fn write_summary<'a, A: Allocator, W: Write>(
     alloc: &'a A,
     rows: &Html<'_, A>,
     out: &mut W,
-) -> Result<(), PageFault>
+) -> Result<(), WriteFault>
     ensures ok { OnOk result
         (Appends (W.contents out.old) (W.contents out.new) (summary_part rows.now)) }
-    ensures device { result ≡ Err PageFault.Device
+    ensures device { result ≡ Err WriteFault.Device
         → TakesPrefix (W.contents out.old) (W.contents out.new) (summary_part rows.now) }
-    ensures memory { result ≡ Err PageFault.OutOfMemory → out.new ≡ out.old }
+    ensures memory { result ≡ Err WriteFault.OutOfMemory → out.new ≡ out.old }
 {
     let html = summary_of(alloc, rows)?;
     write_text(out, html.as_slice())?;

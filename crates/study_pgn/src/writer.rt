@@ -74,7 +74,11 @@ pub fn write_pgn<'a, 'b, A: Allocator, B: Allocator, W: Write>(
         → TakesPrefix (W.contents out.old) (W.contents out.new) (pgn_text (marked bench.now)) }
     ensures memory { result ≡ Err PgnFault.OutOfMemory → out.new ≡ out.old }
 {
-    let text = pgn_text(alloc, bench)?;
-    write_text(out, text.as_slice())?;
-    Ok(())
+    let Ok(text) = pgn_text(alloc, bench) else {
+        return Err(PgnFault::OutOfMemory);
+    };
+    match write_text(out, text.as_slice()) {
+        Ok(()) => Ok(()),
+        Err(_) => Err(PgnFault::Device),
+    }
 }

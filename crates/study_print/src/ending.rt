@@ -8,7 +8,8 @@ use crate::pages::EntryCount;
 use std::alloc::Allocator;
 use std::io::Write;
 use study_html::{Html, write_closing};
-use study_page::{PageFault, write_summary};
+use study_page::write_summary;
+use study_report::WriteFault;
 use study_script::{RunFault, Summary};
 
 /// Writes the list of all entries, if there are two or more.
@@ -17,12 +18,12 @@ fn write_entries<'s, S: Allocator, W: Write>(
     count: EntryCount,
     rows: &Html<'_, S>,
     out: &mut W,
-) -> Result<(), PageFault>
+) -> Result<(), WriteFault>
     ensures ok { OnOk result
         (Appends (W.contents out.old) (W.contents out.new) (summary_text count rows.now)) }
-    ensures device { result ≡ Err PageFault.Device
+    ensures device { result ≡ Err WriteFault.Device
         → TakesPrefix (W.contents out.old) (W.contents out.new) (summary_text count rows.now) }
-    ensures memory { result ≡ Err PageFault.OutOfMemory → out.new ≡ out.old }
+    ensures memory { result ≡ Err WriteFault.OutOfMemory → out.new ≡ out.old }
 {
     match count {
         EntryCount::Nothing | EntryCount::One => Ok(()),
@@ -36,17 +37,17 @@ fn write_end<'s, S: Allocator, W: Write>(
     count: EntryCount,
     rows: &Html<'_, S>,
     out: &mut W,
-) -> Result<(), PageFault>
+) -> Result<(), WriteFault>
     ensures ok { OnOk result
         (Appends (W.contents out.old) (W.contents out.new) (end_text count rows.now)) }
-    ensures device { result ≡ Err PageFault.Device
+    ensures device { result ≡ Err WriteFault.Device
         → TakesPrefix (W.contents out.old) (W.contents out.new) (end_text count rows.now) }
-    ensures memory { result ≡ Err PageFault.OutOfMemory → out.new ≡ out.old }
+    ensures memory { result ≡ Err WriteFault.OutOfMemory → out.new ≡ out.old }
 {
     write_entries(alloc, count, rows, out)?;
     match write_closing(out) {
         Ok(()) => Ok(()),
-        Err(_) => Err(PageFault::Device),
+        Err(_) => Err(WriteFault::Device),
     }
 }
 
@@ -76,7 +77,7 @@ pub fn write_ending<'s, S: Allocator, W: Write>(
     }
     match write_end(alloc, count, rows, out) {
         Ok(()) => ran,
-        Err(PageFault::Device) => Err(RunFault::WriteDevice),
-        Err(PageFault::OutOfMemory) => Err(RunFault::OutOfMemory),
+        Err(WriteFault::Device) => Err(RunFault::WriteDevice),
+        Err(WriteFault::OutOfMemory) => Err(RunFault::OutOfMemory),
     }
 }

@@ -9,7 +9,7 @@ use std::alloc::Allocator;
 use std::io::Write;
 use study_html::Html;
 use study_marks::Bench;
-use study_page::{Listed, PageFault, write_page, write_refusal};
+use study_page::{Listed, write_page, write_refusal};
 use study_report::{Report, ReviewFault, WriteFault, is_left_out};
 use study_values::Values;
 
@@ -105,11 +105,7 @@ impl<'s, S: Allocator, N: Watch> Report for Pages<'s, S, N> {
         out: &mut W,
     ) -> Result<(), WriteFault> {
         let refusal = refusal_name(reply);
-        match write_refusal(alloc, number, line, refusal, reason_of(refusal), out) {
-            Ok(()) => Ok(()),
-            Err(PageFault::OutOfMemory) => Err(WriteFault::OutOfMemory),
-            Err(PageFault::Device) => Err(WriteFault::Device),
-        }
+        write_refusal(alloc, number, line, refusal, reason_of(refusal), out)
     }
 
     fn add_remark<'a, A: Allocator, W: Write>(

@@ -10,7 +10,6 @@ use std::alloc::{AllocError, Allocator};
 use std::io::Write;
 use study_games::is_utf8;
 use study_html::{Element, Html};
-use study_page::PageFault;
 use study_report::{WriteFault, behind, is_left_out};
 use study_text::{Text, write_text};
 
@@ -32,12 +31,12 @@ fn write_left_out<'a, A: Allocator, W: Write>(
     alloc: &'a A,
     line: &[u8],
     out: &mut W,
-) -> Result<(), PageFault>
+) -> Result<(), WriteFault>
     ensures ok { OnOk result
         (Appends (W.contents out.old) (W.contents out.new) (left_out_part line.now)) }
-    ensures device { result ≡ Err PageFault.Device
+    ensures device { result ≡ Err WriteFault.Device
         → TakesPrefix (W.contents out.old) (W.contents out.new) (left_out_part line.now) }
-    ensures memory { result ≡ Err PageFault.OutOfMemory → out.new ≡ out.old }
+    ensures memory { result ≡ Err WriteFault.OutOfMemory → out.new ≡ out.old }
 {
     let html = left_out_of(alloc, line)?;
     write_text(out, html.as_slice())?;
@@ -145,34 +144,17 @@ fn write_original<'a, A: Allocator, W: Write>(
     alloc: &'a A,
     line: &[u8],
     out: &mut W,
-) -> Result<(), PageFault>
+) -> Result<(), WriteFault>
     ensures ok { OnOk result
         (Appends (W.contents out.old) (W.contents out.new) (original_part line.now)) }
-    ensures device { result ≡ Err PageFault.Device
+    ensures device { result ≡ Err WriteFault.Device
         → TakesPrefix (W.contents out.old) (W.contents out.new) (original_part line.now) }
-    ensures memory { result ≡ Err PageFault.OutOfMemory → out.new ≡ out.old }
+    ensures memory { result ≡ Err WriteFault.OutOfMemory → out.new ≡ out.old }
 {
     let mut text = Text::new(alloc);
     add_original(alloc, &mut text, line)?;
     write_text(out, text.as_slice())?;
     Ok(())
-}
-
-fn write_paragraph<'a, A: Allocator, W: Write>(
-    alloc: &'a A,
-    line: &[u8],
-    out: &mut W,
-) -> Result<(), PageFault>
-    ensures ok { OnOk result
-        (Appends (W.contents out.old) (W.contents out.new) (remark_text line.now)) }
-    ensures device { result ≡ Err PageFault.Device
-        → TakesPrefix (W.contents out.old) (W.contents out.new) (remark_text line.now) }
-    ensures memory { result ≡ Err PageFault.OutOfMemory → out.new ≡ out.old }
-{
-    if is_left_out(line) {
-        return write_left_out(alloc, line, out);
-    }
-    write_original(alloc, line, out)
 }
 
 /// Writes the paragraph of a remark.
@@ -187,9 +169,8 @@ pub fn write_remark<'a, A: Allocator, W: Write>(
         → TakesPrefix (W.contents out.old) (W.contents out.new) (remark_text line.now) }
     ensures memory { result ≡ Err WriteFault.OutOfMemory → out.new ≡ out.old }
 {
-    match write_paragraph(alloc, line, out) {
-        Ok(()) => Ok(()),
-        Err(PageFault::OutOfMemory) => Err(WriteFault::OutOfMemory),
-        Err(PageFault::Device) => Err(WriteFault::Device),
+    if is_left_out(line) {
+        return write_left_out(alloc, line, out);
     }
+    write_original(alloc, line, out)
 }

@@ -9,16 +9,10 @@ use Rattle.study_values.specs.declared.fault.SourceFault.{SourceFault}
 use Rattle.study_values.specs.declared.fault.SourceFault.TheVariants.{Device}
 use Rattle.study_values.specs.declared.fault.FileFault.{FileFault}
 use Rattle.study_tablefile.specs.declared.page_source.Header.{Header}
-use Rattle.study_tablefile.specs.Reading.{class_read}
 use Rattle.study_prober.specs.declared.fault.PagedFault.{PagedFault}
-use Rattle.study_prober.specs.declared.fault.PagedFault.TheVariants.{AlreadyHeld, Header as BadHeader, OtherClass, OutOfMemory}
+use Rattle.study_prober.specs.declared.fault.PagedFault.TheVariants.{AlreadyHeld, OtherClass, OutOfMemory}
 use Rattle.study_prober.proofs.HeldSources.{same_class}
 use Rattle.study_prober.specs.HeaderAnswers.{IsTold, class_fault, paged_fault}
-
-pub bad_header : (bytes : List ℕ) (f : FileFault) (r : Result Header PagedFault) → IsErrAnd r (λ e. e ≡ BadHeader f)
-    → class_read bytes ≡ Err f → IsTold (Ok bytes) r
-bad_header bytes f (Ok h) is e = absurd is
-bad_header bytes f (Err fault) is e = (f, is, e)
 
 -- a source for a class whose table is open already
 pub fault_held : (May : Result (List ℕ) SourceFault → Type 0) (held : Bool) (c : Class) → held ≡ true
@@ -71,10 +65,6 @@ pub fault_none : (May : Result (List ℕ) SourceFault → Type 0) (held : Bool) 
     → (told : Result (List ℕ) SourceFault) × (held ≡ false → May told)
     × MatchOption (paged_fault held c told) (IfErr r (λ e. e ≡ OutOfMemory)) (λ fault. IsErrOf r fault)
 fault_none May held c h r free same is told = fault_told May held c h r free told (rw (no_fault c h.class same) is)
-
-pub only_memory : {T : Type 0} (r : Result T PagedFault) → IsErrAnd r (λ fault. fault ≡ OutOfMemory) → IfErr r (λ fault. fault ≡ OutOfMemory)
-only_memory (Ok x) h = absurd h
-only_memory (Err fault) h = h
 
 -- a fault that was passed on
 pub passed_on : {T U E : Type 0} (r : Result T E) (e f : E) → IsErrAnd r (λ fault. fault ≡ e) → IsErrOf r f → IsErrOf {T = U} (Err e) f

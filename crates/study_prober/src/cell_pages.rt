@@ -31,19 +31,22 @@ pub trait CellPages: Values {
     ) -> Result<(), ProbeFault>
         // Many clauses: those of a probe, for a page in place of a position.
         requires { number < pages_of class }
-        ensures game { Self.is_honest self.old → OnOk result (AreValuesOf class number into.new) }
-        ensures no_damage { Self.is_honest self.old → IfErr result IsNotDamage }
-        ensures stays_honest { Self.is_honest self.old → Self.is_honest self.new }
+        ensures game { Self.source.is_honest self.old
+            → OnOk result (AreValuesOf class number into.new) }
+        ensures no_damage { Self.source.is_honest self.old → IfErr result IsNotDamage }
+        ensures stays_honest { Self.source.is_honest self.old → Self.source.is_honest self.new }
         ensures failed_so { (f : ASourceFault) → IsErrOf result (ProbeFault.TableRead f)
-            → Self.may_fail self.old class f }
-        ensures fails_as_before { (c : AClass) (f : ASourceFault) → Self.may_fail self.new c f
-            → Self.may_fail self.old c f }
+            → Self.source.may_fail self.old class f }
+        ensures fails_as_before { (c : AClass) (f : ASourceFault)
+            → Self.source.may_fail self.new c f
+            → Self.source.may_fail self.old c f }
         ensures no_table { (c : AClass) → IsErrOf result (ProbeFault.NoTable c)
-            ↔ ((c ≡ class) × (Self.held self.old class ≡ false)) }
+            ↔ ((c ≡ class) × (Self.source.held self.old class ≡ false)) }
         ensures damaged { (c : AClass) (n : ℕ) → IsErrOf result (ProbeFault.PageDamaged c n)
             → (c ≡ class) × (n ≡ number) }
-        ensures same_tables { (c : AClass) → Self.held self.new c ≡ Self.held self.old c }
-        ensures asked { Self.asked_of self.new ≡ counted (Self.asked_of self.old) }
-        ensures failures { Self.failed_of self.new
-            ≡ page_faults_after (Self.failed_of self.old) result };
+        ensures same_tables { (c : AClass)
+            → Self.source.held self.new c ≡ Self.source.held self.old c }
+        ensures asked { Self.source.asked_of self.new ≡ counted (Self.source.asked_of self.old) }
+        ensures failures { Self.source.failed_of self.new
+            ≡ page_faults_after (Self.source.failed_of self.old) result };
 }

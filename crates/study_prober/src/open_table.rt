@@ -41,8 +41,13 @@ pub fn header_of<S: PageSource>(source: &mut S) -> Result<Header, PagedFault>
         → IsHonestHeader result t.class v }
 {
     let mut bytes = [0; HEADER_BYTES];
-    source.header(&mut bytes)?;
-    Ok(read_header(&bytes)?)
+    if let Err(fault) = source.header(&mut bytes) {
+        return Err(PagedFault::TableRead(fault));
+    }
+    match read_header(&bytes) {
+        Ok(header) => Ok(header),
+        Err(fault) => Err(PagedFault::Header(fault)),
+    }
 }
 
 impl<S: PageSource> OpenTable<S> {

@@ -21,7 +21,7 @@ ghost use Rattle.study_prober.specs.Sources.{AreHonestAlike, GiveAlike, HasBadPa
 ghost use Rattle.study_prober.specs.Sources.{IsGivenPage, cells_on_page};
 ghost use Rattle.study_prober.specs.Sources.{IsHeaderOf, PutsNone, PutsOnly, failed_after};
 ghost use Rattle.study_prober.specs.PagedTables.{SourcesAreRight, AreGiven, IsKept, IsPageFor, IsPagedAnswer, IsSameSource, IsToldAgain, MayFail, held_of};
-ghost use Rattle.study_prober.specs.PagedTables.{places_for_classes};
+ghost use Rattle.study_prober.specs.PagedTables.{paged_source, places_for_classes};
 ghost use Rattle.study_values.specs.Values.{IsNotDamage, faults_after, page_number};
 ghost use Rattle.study_prober.specs.CellPages.{IsAskedOnly};
 ghost use Rattle.study_prober.specs.HeaderAnswers.{IsRefusedBy, MayAnswer, paged_fault};
@@ -135,7 +135,9 @@ impl<'a, S: PageSource, A: Allocator> PagedTables<'a, S, A> {
         if header.class != class {
             return Err(PagedFault::OtherClass(header.class));
         }
-        make_places(&mut self.sources, self.alloc)?;
+        let Ok(()) = make_places(&mut self.sources, self.alloc) else {
+            return Err(PagedFault::OutOfMemory);
+        };
         self.sources[class.number() as usize] = Some(OpenTable { header, source });
         Ok(())
     }

@@ -4,11 +4,11 @@ ghost use Rattle.std.specs.Io.KnownBytes.{Appends};
 ghost use Rattle.study_text.specs.Taken.{TakesPrefix};
 ghost use Rattle.study_report.specs.Lines.{refusal_line, no_remark};
 
-use crate::report::{Report, WriteFault};
+use crate::report::Report;
 use itoa::Buffer;
 use std::alloc::Allocator;
 use std::io::Write;
-use study_facts::ReviewFault;
+use study_facts::{ReviewFault, WriteFault};
 use study_marks::Bench;
 use study_review::write_review;
 use study_text::{DeviceFailed, write_text};

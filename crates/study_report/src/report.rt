@@ -12,31 +12,9 @@ ghost use Rattle.study_report.specs.Told.{Entry, study_entry, games_in};
 
 use std::alloc::Allocator;
 use std::io::Write;
-use study_facts::ReviewFault;
+use study_facts::{ReviewFault, WriteFault};
 use study_marks::Bench;
-use study_text::DeviceFailed;
 use study_values::Values;
-use thiserror::Error;
-
-/// Why a refused line is not reported, or not whole.
-#[derive(Clone, Copy, Debug, PartialEq, Eq, Error)]
-pub enum WriteFault {
-    #[error("no memory is left for the text")]
-    OutOfMemory,
-    #[error("the device failed")]
-    Device,
-}
-
-impl From<DeviceFailed> for WriteFault {
-    ghost use Rattle.std.specs.Prelude.{◌≡◌};
-    ghost use Rattle.study_report.specs.declared.report.WriteFault.TheVariants.{Device};
-
-    ghost from_gives = { λ _ fault. fault ≡ Device };
-
-    fn from(_failed: DeviceFailed) -> WriteFault {
-        WriteFault::Device
-    }
-}
 
 /// The text of a report for a study, for a refused line, and for a remark.
 pub trait Report {

@@ -15,11 +15,11 @@ ghost use Rattle.study_report.specs.Parts.{IsReplyPiece, IsPart, IsPartAs, Write
 
 use crate::line_kind::{LineKind, kind_of};
 use crate::line_outcome::{LineOutcome, ReportPosition};
-use crate::report::{Report, WriteFault};
+use crate::report::Report;
 use crate::section::{add_section, lacks_study};
 use std::alloc::Allocator;
 use std::io::Write;
-use study_facts::ReviewFault;
+use study_facts::{ReviewFault, WriteFault};
 use study_reply::{Refusal, of_probe, write_refusal};
 use study_script::{Document, RunFault, Session, TableStore, Tables};
 use study_tablefile::PageSource;

@@ -2,7 +2,7 @@
 use std::alloc::Allocator;
 use std::io::Write;
 use study_marks::Bench;
-use study_page::{PageFault, write_place, write_refusal};
+use study_page::{write_place, write_refusal};
 use study_print::{reason_of, refusal_name};
 use study_report::{Report, ReviewFault, WriteFault};
 use study_values::Values;
@@ -38,8 +38,8 @@ impl Report for Sheet {
     ) -> Result<(), ReviewFault> {
         match write_place(alloc, bench, number, out) {
             Ok(()) => Ok(()),
-            Err(PageFault::OutOfMemory) => Err(ReviewFault::OutOfMemory),
-            Err(PageFault::Device) => Err(ReviewFault::Device),
+            Err(WriteFault::OutOfMemory) => Err(ReviewFault::OutOfMemory),
+            Err(WriteFault::Device) => Err(ReviewFault::Device),
         }
     }
 
@@ -52,11 +52,7 @@ impl Report for Sheet {
         out: &mut W,
     ) -> Result<(), WriteFault> {
         let refusal = refusal_name(reply);
-        match write_refusal(alloc, number, line, refusal, reason_of(refusal), out) {
-            Ok(()) => Ok(()),
-            Err(PageFault::OutOfMemory) => Err(WriteFault::OutOfMemory),
-            Err(PageFault::Device) => Err(WriteFault::Device),
-        }
+        write_refusal(alloc, number, line, refusal, reason_of(refusal), out)
     }
 
     fn add_remark<'a, A: Allocator, W: Write>(

@@ -1,7 +1,5 @@
 //! Refusals of a tree.
-ghost use Rattle.std.specs.Prelude.{◌≡◌};
 
-use std::alloc::AllocError;
 use thiserror::Error;
 
 /// Why a tree refused a call; reasons are checked in this order.
@@ -19,14 +17,4 @@ pub enum TreeFault {
     TreeFull,
     #[error("no memory is left")]
     OutOfMemory,
-}
-
-impl From<AllocError> for TreeFault {
-    ghost use Rattle.study_tree.specs.declared.fault.TreeFault.TheVariants.{OutOfMemory};
-
-    ghost from_gives = { λ _ e. e ≡ OutOfMemory };
-
-    fn from(_error: AllocError) -> TreeFault {
-        TreeFault::OutOfMemory
-    }
 }

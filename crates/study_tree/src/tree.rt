@@ -163,8 +163,10 @@ impl<'a, L, A: Allocator> Tree<'a, L, A> {
         ensures room { OnOk result (0 < spare_of self.new steps.now) }
     {
         self.check_child(steps)?;
-        reserve_below(&mut self.children, steps)?;
-        Ok(())
+        match reserve_below(&mut self.children, steps) {
+            Ok(()) => Ok(()),
+            Err(_) => Err(TreeFault::OutOfMemory),
+        }
     }
 }
 
@@ -182,13 +184,16 @@ impl<'a, L: Drop, A: Allocator> Tree<'a, L, A> {
         ensures same_count { OnErr result (self.new.relabelled ≡ self.old.relabelled) }
     {
         self.check_child(steps)?;
-        let place = add_below(
+        let place = match add_below(
             self.alloc,
             &mut self.children,
             steps,
             played,
             &mut Some(label),
-        )?;
+        ) {
+            Ok(place) => place,
+            Err(_) => return Err(TreeFault::OutOfMemory),
+        };
         self.size += 1;
         self.relabelled = self.relabelled.saturating_add(1);
         Ok(place)

@@ -1,7 +1,6 @@
 //! Why a view or a survey is not written.
 
-use std::alloc::{AllocError, AllocFailed};
-use study_text::DeviceFailed;
+use std::alloc::AllocError;
 use study_values::ProbeFault;
 use thiserror::Error;
 
@@ -16,17 +15,6 @@ pub enum ViewFault {
     Device,
     #[error("a value is not told: {0}")]
     Values(ProbeFault),
-}
-
-impl From<DeviceFailed> for ViewFault {
-    ghost use Rattle.std.specs.Prelude.{◌≡◌};
-    ghost use Rattle.study_view.specs.declared.fault.ViewFault.TheVariants.{Device};
-
-    ghost from_gives = { λ _ fault. fault ≡ Device };
-
-    fn from(_failed: DeviceFailed) -> ViewFault {
-        ViewFault::Device
-    }
 }
 
 impl From<AllocError> for ViewFault {
@@ -62,37 +50,4 @@ pub enum SurveyFault {
     Device,
     #[error("a value is not told: {0}")]
     Values(ProbeFault),
-}
-
-impl From<DeviceFailed> for SurveyFault {
-    ghost use Rattle.std.specs.Prelude.{◌≡◌};
-    ghost use Rattle.study_view.specs.declared.fault.SurveyFault.TheVariants.{Device};
-
-    ghost from_gives = { λ _ fault. fault ≡ Device };
-
-    fn from(_failed: DeviceFailed) -> SurveyFault {
-        SurveyFault::Device
-    }
-}
-
-impl From<AllocError> for SurveyFault {
-    ghost use Rattle.std.specs.Prelude.{◌≡◌};
-    ghost use Rattle.study_view.specs.declared.fault.SurveyFault.TheVariants.{OutOfMemory};
-
-    ghost from_gives = { λ _ fault. fault ≡ OutOfMemory };
-
-    fn from(_error: AllocError) -> SurveyFault {
-        SurveyFault::OutOfMemory
-    }
-}
-
-impl From<ProbeFault> for SurveyFault {
-    ghost use Rattle.std.specs.Prelude.{◌≡◌};
-    ghost use Rattle.study_view.specs.declared.fault.SurveyFault.TheVariants.{Values};
-
-    ghost from_gives = { λ untold fault. fault ≡ Values untold };
-
-    fn from(untold: ProbeFault) -> SurveyFault {
-        SurveyFault::Values(untold)
-    }
 }

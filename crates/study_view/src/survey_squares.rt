@@ -259,9 +259,9 @@ pub fn survey<V: Values>(
 {
     match question.position.man_at(question.square) {
         None => Err(SurveyFault::NoMan),
-        Some(_) => {
-            let list = push_results(question, values)?;
-            Ok(list)
-        }
+        Some(_) => match push_results(question, values) {
+            Ok(list) => Ok(list),
+            Err(fault) => Err(SurveyFault::Values(fault)),
+        },
     }
 }

@@ -180,11 +180,13 @@ fn survey_text<'a, A: Allocator, V: Values>(
 {
     match question.position.man_at(question.square) {
         None => Err(SurveyFault::NoMan),
-        Some(man) => {
-            let list = push_results(question, values)?;
-            let text = text_of(alloc, question, &man, list.as_slice())?;
-            Ok(text)
-        }
+        Some(man) => match push_results(question, values) {
+            Ok(list) => match text_of(alloc, question, &man, list.as_slice()) {
+                Ok(text) => Ok(text),
+                Err(_) => Err(SurveyFault::OutOfMemory),
+            },
+            Err(fault) => Err(SurveyFault::Values(fault)),
+        },
     }
 }
 
@@ -215,6 +217,8 @@ pub fn write_survey<'a, A: Allocator, V: Values, W: Write>(
         values.old result values.new }
 {
     let text = survey_text(alloc, question, values)?;
-    write_text(out, text.as_slice())?;
-    Ok(())
+    match write_text(out, text.as_slice()) {
+        Ok(()) => Ok(()),
+        Err(_) => Err(SurveyFault::Device),
+    }
 }

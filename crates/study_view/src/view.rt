@@ -194,6 +194,8 @@ pub fn write_view<'a, 'b, A: Allocator, B: Allocator, V: Values, W: Write>(
         (asked_at (marked bench.now) path.now) values.old result values.new }
 {
     let text = view_at(alloc, bench, path, values)?;
-    write_text(out, text.as_slice())?;
-    Ok(())
+    match write_text(out, text.as_slice()) {
+        Ok(()) => Ok(()),
+        Err(_) => Err(ViewFault::Device),
+    }
 }

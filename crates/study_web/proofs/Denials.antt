@@ -22,7 +22,7 @@ use Rattle.study_script.specs.declared.tables.Tables.{Tables}
 use Rattle.study_script.specs.declared.tables.Tables.TheVariants.{Whole, Paged}
 use Rattle.study_script.specs.State.{State, is_among}
 use Rattle.study_web.specs.Views.{IsViewUntold, StudyStopped}
-use Rattle.study_script.specs.SessionHolds.{Holds, document_seen, are_paged, tables_may_fail}
+use Rattle.study_script.specs.SessionHolds.{Holds, document_seen, are_paged, tables_may_fail, tables_source}
 use Rattle.study_report.specs.Told.{IsUntoldIn}
 use Rattle.study_web.specs.declared.request_fault.RequestFault.{RequestFault}
 use Rattle.study_web.specs.declared.request_fault.RequestFault.TheVariants as denial
@@ -166,7 +166,7 @@ untold_left honest gives b old new fault (plain, seen, valid, is) s holds = (
   plain,
   sym holds.document ∙ seen,
   untold_in (tables_source honest gives) s plain.start.position valid old new
-      fault is holds.values holds.classes (λ c f h. (sym holds.paged ∙ paged_where source.gives old c f h, holds.faults c f h)),
+      fault is holds.values holds.classes (λ c f h. (sym holds.paged ∙ paged_where gives old c f h, holds.faults c f h)),
 )
 
 -- the result of each request under a premise

@@ -9,11 +9,11 @@ ghost use Rattle.study_prober.specs.WholeTables.{TablesAreRight};
 ghost use Rattle.study_tablefile.specs.Reading.{table_read};
 ghost use Rattle.study_web.specs.Spans.{file_in, IsHonestIn};
 ghost use Rattle.study_web.specs.Making.{IsRightFileOf, IsFaultIn, IsFirstFault, IsMakeFault, IsSoundIn, HasRightNeeds, HaveFiles};
-ghost use Rattle.study_web.specs.Making.{IsSettled, IsTaken, is_ascending};
+ghost use Rattle.study_web.specs.Making.{IsSettled, IsTaken, is_ascending, of_build};
 ghost use Rattle.study_web.specs.declared.file_spans.FileSpan.{FileSpan as ASpan};
 
 use crate::file_spans::{FileSpan, file_in};
-use std::alloc::{AllocError, Allocator};
+use std::alloc::Allocator;
 use study_material::{Class, needs_come_first, order};
 use study_prober::WholeTables;
 use study_retro::{BuildFault, BuildRoom, build};
@@ -39,27 +39,12 @@ pub enum MakeFault {
     OutOfMemory,
 }
 
-impl From<AllocError> for MakeFault {
-    ghost use Rattle.std.specs.Prelude.{◌≡◌};
-    ghost use Rattle.study_web.specs.declared.make.MakeFault.TheVariants.{OutOfMemory};
-
-    ghost from_gives = { λ _ fault. fault ≡ OutOfMemory };
-
-    fn from(_error: AllocError) -> MakeFault {
-        MakeFault::OutOfMemory
-    }
-}
-
-impl From<BuildFault> for MakeFault {
-    ghost use Rattle.study_web.specs.Making.{of_build};
-
-    ghost from_gives = { λ reason fault. fault ≡ of_build reason };
-
-    fn from(reason: BuildFault) -> MakeFault {
-        match reason {
-            BuildFault::MissingTable(need) => MakeFault::MissingTable(need),
-            BuildFault::DistanceTooLarge => MakeFault::DistanceTooLarge,
-        }
+fn of_build(reason: BuildFault) -> MakeFault
+    ensures { result ≡ of_build reason }
+{
+    match reason {
+        BuildFault::MissingTable(need) => MakeFault::MissingTable(need),
+        BuildFault::DistanceTooLarge => MakeFault::DistanceTooLarge,
     }
 }
 
@@ -98,9 +83,13 @@ fn built<'a, A: Allocator>(
 {
     needs_come_first();
     let _held = tables.tables().table(class);
-    let room = BuildRoom::new(alloc, cells(class))?;
-    let (table, _) = build(class, tables.tables(), room)?;
-    Ok(table)
+    let Ok(room) = BuildRoom::new(alloc, cells(class)) else {
+        return Err(MakeFault::OutOfMemory);
+    };
+    match build(class, tables.tables(), room) {
+        Ok((table, _)) => Ok(table),
+        Err(reason) => Err(of_build(reason)),
+    }
 }
 
 /// The file of a table.
@@ -136,7 +125,10 @@ fn needed_tables<'a, A: Allocator>(
     ensures fault { IfErr result (IsMakeFault spans.now bytes.now class) }
 {
     needs_come_first();
-    let mut tables = WholeTables::new(TableSet::new(alloc)?);
+    let Ok(none) = TableSet::new(alloc) else {
+        return Err(MakeFault::OutOfMemory);
+    };
+    let mut tables = WholeTables::new(none);
     let needed = order(class);
     load_classes(alloc, &mut tables, class, needed.as_slice(), spans, bytes)?;
     Ok(tables)

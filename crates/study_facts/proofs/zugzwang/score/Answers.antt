@@ -15,7 +15,7 @@ returns-in-Err-clause-told g c =
     subst (λ (r : ProbeAnswer). HasProbed (within c.args.q.now g.V.Values.source) c.args.values.now r c.value.new.self) c.in-Err.is
     (asked-one (within c.args.q.now g.V.Values.source) c.args.values.now
     c.value.new.self c.args.q.now c.value.result valid
-    (own-answer g.V.Values.source.gives c.args.values.now c.args.q.now c.value.result c.value.ensures.given (λ k e. ((c.value.ensures.no_table k).0 e).0)) c.value.ensures.asked
+    (own-answer g.V.Values.source c.args.values.now c.args.q.now c.value.result c.value.ensures.given (λ k e. ((c.value.ensures.no_table k).0 e).0)) c.value.ensures.asked
     c.value.ensures.failed_so c.value.ensures.fails_as_before)
 
 pub returns-in-Ok-clause-told : goal.returns-in-Ok-clause-told
@@ -24,5 +24,5 @@ returns-in-Ok-clause-told g c =
     subst (λ (r : ProbeAnswer). HasProbed (within c.args.q.now g.V.Values.source) c.args.values.now r c.value.new.self) c.in-Ok.is
     (asked-one (within c.args.q.now g.V.Values.source) c.args.values.now
     c.value.new.self c.args.q.now c.value.result valid
-    (own-answer g.V.Values.source.gives c.args.values.now c.args.q.now c.value.result c.value.ensures.given (λ k e. ((c.value.ensures.no_table k).0 e).0)) c.value.ensures.asked
+    (own-answer g.V.Values.source c.args.values.now c.args.q.now c.value.result c.value.ensures.given (λ k e. ((c.value.ensures.no_table k).0 e).0)) c.value.ensures.asked
     c.value.ensures.failed_so c.value.ensures.fails_as_before)

@@ -10,6 +10,6 @@ returns-clause-asked g c =
     let valid : IsValid c.args.q.now = search rules in
     value-told (within c.args.q.now g.V.Values.source)
     c.args.values.now c.value.new.self c.args.q.now c.value.result valid
-    (own-answer g.V.Values.source.gives c.args.values.now c.args.q.now c.value.result c.value.ensures.given (λ k e. ((c.value.ensures.no_table k).0 e).0)) c.value.ensures.asked c.value.ensures.failed_so
+    (own-answer g.V.Values.source c.args.values.now c.args.q.now c.value.result c.value.ensures.given (λ k e. ((c.value.ensures.no_table k).0 e).0)) c.value.ensures.asked c.value.ensures.failed_so
     c.value.ensures.fails_as_before (λ k e. ((c.value.ensures.no_table k).0 e).1) c.value.ensures.no_damage c.value.ensures.failures
     c.value.ensures.stays_honest c.value.ensures.same_tables

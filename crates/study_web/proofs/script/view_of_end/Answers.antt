@@ -1,5 +1,5 @@
 use Rattle.study_command.specs.Paths.{steps_of}
-use Rattle.study_script.specs.SessionHolds.{document_seen, Holds}
+use Rattle.study_script.specs.SessionHolds.{document_seen, tables_source, Holds}
 use Rattle.study_script.specs.State.{State}
 use Rattle.study_web.specs.Answers.{IsNever}
 use Rattle.study_web.specs.Views.{LacksNode, IsViewUntold, StudyStopped}

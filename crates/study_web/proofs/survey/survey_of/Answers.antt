@@ -1,7 +1,7 @@
 use Rattle.study_board.specs.Position.{IsValid}
-use Rattle.std.proofs.Common.{rules, true, is_some, Err, sym, ap, subst, ◌∙◌}
+use Rattle.std.proofs.Common.{rules, true, Err, sym, ap, subst, ◌∙◌}
 use Rattle.study_material.specs.declared.class.Class.{Class}
-use Rattle.study_prober.specs.PagedTables.{held_of, IsPagedAnswer, MayFail, SourcesAreRight}
+use Rattle.study_prober.specs.PagedTables.{paged_source}
 use Rattle.study_reply.specs.declared.refusal.Refusal.{Refusal}
 use Rattle.study_web.specs.declared.request_fault.RequestFault.TheVariants as denial
 use Rattle.study_web.specs.Opened.{IsOfValues}
@@ -15,9 +15,7 @@ returns-clause-none g c =
     let valid : IsValid c.args.asked.now.start.position = search rules in
     subst (λ (r : Refusal). IsOfValues headers faults ((d : Class) → g.S.TableStore.honest c.args.store.now true d) c.args.asked.now.start.position (denial.Refused r))
     (sym c.of_probe.ensures)
-    (survey_denied (λ w d. is_some (held_of w.sources d)) (λ w p answer. IsPagedAnswer g.S.Pages.PageSource.gives w.sources p answer)
-    (λ w d f. MayFail g.S.Pages.PageSource.gives (held_of w.sources d) d f) (λ w. w.asked) (λ w. w.failed)
-    (λ w. SourcesAreRight g.S.Pages.PageSource.honest w.sources) headers faults ((d : Class) → g.S.TableStore.honest c.args.store.now true d) c.in-Ok.tables
+    (survey_denied (paged_source g.S.Pages.PageSource.honest g.S.Pages.PageSource.gives) headers faults ((d : Class) → g.S.TableStore.honest c.args.store.now true d) c.in-Ok.tables
     c.write_survey.new.values c.in-Err-Values.fault
     c.args.asked.now.start c.args.asked.now.square c.write_survey.result valid
     (c.in-Err-Values.is ∙ ap Err c.in-Err-Values.field-0-is) c.write_survey.ensures.asked c.in-Ok.ensures.held c.in-Ok.ensures.fails c.in-Ok.ensures.right)

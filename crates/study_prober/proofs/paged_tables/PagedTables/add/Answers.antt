@@ -1,5 +1,6 @@
 use Rattle.std.proofs.Common.{rules, refl, sym, ◌∙◌, ◌≡◌, ap, subst, ◌<◌, ℕ, List, length, arith}
-use Rattle.std.specs.Prelude.{Option, is_some, Ok}
+use Rattle.std.specs.Prelude.{Option, is_some, Ok, Err}
+use Rattle.study_prober.specs.declared.fault.PagedFault.TheVariants.{OutOfMemory}
 use Rattle.study_prober.specs.declared.open_table.OpenTable.{OpenTable}
 use Rattle.study_material.specs.declared.class.Class.{Class}
 use denote.Enum.Bare.{differs_true, differs_false}
@@ -10,7 +11,7 @@ use Rattle.study_prober.specs.PagedTables.{Paged, held_of, SourcesAreRight}
 use Rattle.study_prober.specs.HeaderAnswers.{MayAnswer}
 use Rattle.study_prober.proofs.GivenPages.{given_with}
 use Rattle.std.proofs.lemmas.List.{length-set}
-use Rattle.study_prober.proofs.Faults.{fault_held, fault_other, fault_none, only_memory}
+use Rattle.study_prober.proofs.Faults.{fault_held, fault_other, fault_none}
 use Rattle.study_prober.proofs.HeldSources.{kept_with, places_length, right_with, gives_more}
 use Rattle.study_prober.proofs.paged_tables.PagedTables.add.Goals as goal
 
@@ -26,14 +27,13 @@ returns-then-ne-clause-fault g c =
     (sym c.holds.ensures ∙ c.if-holds.false)
     (differs_true the_type _ _ (sym c.ne.ensures ∙ c.if-ne.true)) c.in_ok-header.ensures.told
 
-pub returns-in_err-make_places-clause-fault : goal.returns-in_err-make_places-clause-fault
-returns-in_err-make_places-clause-fault g c =
+pub returns-in_default-clause-fault : goal.returns-in_default-clause-fault
+returns-in_default-clause-fault g c =
     fault_none (MayAnswer g.S.PageSource.gives g.S.PageSource.honest c.args.source)
     (is_some (held_of c.args.self.now.sources c.args.class)) c.args.class c.in_ok-header.header
-    c.from_residual-in_err-make_places.result (sym c.holds.ensures ∙ c.if-holds.false)
+    (Err OutOfMemory) (sym c.holds.ensures ∙ c.if-holds.false)
     (differs_false the_type (search rules) _ _ (sym c.ne.ensures ∙ c.if-ne.false))
-    (only_memory c.from_residual-in_err-make_places.result c.from_residual-in_err-make_places.ensures.1)
-    c.in_ok-header.ensures.told
+    refl c.in_ok-header.ensures.told
 
 pub invariant_of-self-2 : goal.invariant_of-self-2
 invariant_of-self-2 g c =
@@ -42,12 +42,12 @@ invariant_of-self-2 g c =
     let small = subst (λ (n : ℕ). n < 36) c.number.ensures.value c.number.ensures.small in
     let long = places_length c.self.inside.sources.items c.self.invariant.0.some in
     let none = same ∙ sym c.holds.ensures ∙ c.if-holds.false in (
-      rw c.in_ok-make_places.ensures.made
+      rw c.in-Ok.ensures.made
           (rw c.number.ensures.value (kept_with g.S.PageSource.honest (λ v. v.items) c.self.inside.sources.items
           c.self.inside.kept.entries c.args.class
           (record { header = c.in_ok-header.header; source = c.header_of.new.source }) c.self.invariant.0
           none (subst (λ (x : Class). IsHeaderOf c.in_ok-header.header x) of_class c.in_ok-header.ensures.header) small)),
-      rw c.in_ok-make_places.ensures.made
+      rw c.in-Ok.ensures.made
           (rw c.number.ensures.value
           (given_with g.S.PageSource.gives (λ v. v.items) g.S.PageSource.honest c.self.inside.sources.items
           c.self.inside.kept.entries c.args.class
@@ -72,7 +72,7 @@ returns-clause-added g c =
       c.in_ok-header.ensures.same,
       c.in_ok-header.ensures.alike,
       c.in_ok-header.ensures.count,
-      rw (← c.self.view_is) (rw c.in_ok-make_places.ensures.made (rw c.number.ensures.value refl)),
+      rw (← c.self.view_is) (rw c.in-Ok.ensures.made (rw c.number.ensures.value refl)),
       c.in_ok-header.ensures.asked,
     )
 
@@ -82,7 +82,7 @@ returns-clause-honest g c = λ v known all right.
     let same = ap (λ (w : Paged g.row.S.Denot). is_some (held_of w.sources c.args.class)) c.self.view_is in
     let of_class = differs_false the_type (search rules) c.in_ok-header.header.class c.args.class (sym c.ne.ensures ∙ c.if-ne.false) in
     let before = subst (λ (w : Paged g.row.S.Denot). SourcesAreRight g.S.PageSource.honest w.sources) (sym c.self.view_is) all in
-    rw c.in_ok-make_places.ensures.made
+    rw c.in-Ok.ensures.made
     (rw c.number.ensures.value (right_with g.S.PageSource.honest (λ v. v.items) c.self.inside.sources.items
     c.self.inside.kept.entries c.args.class
     (record { header = c.in_ok-header.header; source = c.header_of.new.source }) c.self.invariant.0
@@ -96,7 +96,7 @@ returns-clause-honest g c = λ v known all right.
 pub index_mut-requires : goal.index_mut-requires
 index_mut-requires g c =
     let long : length c.make_places.new.sources.items ≡ 36 =
-    ap (λ (xs : List (Option (OpenTable g.row.S.Denot))). length xs) c.in_ok-make_places.ensures.made
+    ap (λ (xs : List (Option (OpenTable g.row.S.Denot))). length xs) c.in-Ok.ensures.made
     ∙ places_length c.self.inside.sources.items c.self.invariant.0.some in
     omega (arith, long, c.number.ensures.small)
 
@@ -108,6 +108,6 @@ returns-clause-own g c = λ t v known honest.
 pub returns-clause-places : goal.returns-clause-places
 returns-clause-places g c =
     let long : length c.make_places.new.sources.items ≡ 36 =
-    ap (λ (xs : List (Option (OpenTable g.row.S.Denot))). length xs) c.in_ok-make_places.ensures.made
+    ap (λ (xs : List (Option (OpenTable g.row.S.Denot))). length xs) c.in-Ok.ensures.made
     ∙ places_length c.self.inside.sources.items c.self.invariant.0.some in
     length-set _ _ _ ∙ long

@@ -20,9 +20,9 @@ add_below-requires-clause-few g c =
 pub invariant_of-self : goal.invariant_of-self
 invariant_of-self g c = (
   size-same (forest_of c.self.inside.children.items) (forest_of c.add_below.new.children.items) c.self.inside.size
-      c.in_err-place.ensures.err c.self.invariant.0,
+      c.in-Err.ensures.err c.self.invariant.0,
   c.self.invariant.1,
-  within-same 256 (forest_of c.self.inside.children.items) (forest_of c.add_below.new.children.items) c.in_err-place.ensures.err c.self.invariant.2,
+  within-same 256 (forest_of c.self.inside.children.items) (forest_of c.add_below.new.children.items) c.in-Err.ensures.err c.self.invariant.2,
 )
 
 pub invariant_of-self-2 : goal.invariant_of-self-2
@@ -31,14 +31,14 @@ invariant_of-self-2 g c =
     c.self.inside.size (ap (λ t. (plain_tree t).below) c.self.view_is) c.self.invariant.0
     c.in_ok-check_child.ensures.ok in (
       size-added (forest_of c.self.inside.children.items) (forest_of c.add_below.new.children.items)
-          c.args.steps.now c.args.played c.args.label c.self.inside.size room.0 c.in_ok-place.ensures.added
+          c.args.steps.now c.args.played c.args.label c.self.inside.size room.0 c.in-Ok.ensures.added
           c.self.invariant.0,
       omega (arith, room.1),
       within-added 256 (forest_of c.self.inside.children.items) (forest_of c.add_below.new.children.items)
-          c.args.steps.now c.args.played c.args.label c.in_ok-place.ensures.added room.2 c.self.invariant.2,
+          c.args.steps.now c.args.played c.args.label c.in-Ok.ensures.added room.2 c.self.invariant.2,
     )
 
 pub returns-clause-place : goal.returns-clause-place
 returns-clause-place g c =
-    c.in_ok-place.ensures.place ∙ sym (children_at-plain (forest_of c.self.inside.children.items) c.args.steps.now)
+    c.in-Ok.ensures.place ∙ sym (children_at-plain (forest_of c.self.inside.children.items) c.args.steps.now)
     ∙ ap (λ t. children_at (plain_tree t).below c.args.steps.now) c.self.view_is

@@ -19,11 +19,3 @@ invariant_of-self g c = (
   c.self.invariant.1,
   within-same 256 (forest_of c.self.inside.children.items) (forest_of c.reserve_below.new.children.items) c.reserve_below.ensures.same c.self.invariant.2,
 )
-
-pub invariant_of-self-2 : goal.invariant_of-self-2
-invariant_of-self-2 g c = (
-  size-same (forest_of c.self.inside.children.items) (forest_of c.reserve_below.new.children.items)
-      c.self.inside.size c.reserve_below.ensures.same c.self.invariant.0,
-  c.self.invariant.1,
-  within-same 256 (forest_of c.self.inside.children.items) (forest_of c.reserve_below.new.children.items) c.reserve_below.ensures.same c.self.invariant.2,
-)
