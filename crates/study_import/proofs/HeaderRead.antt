@@ -177,8 +177,8 @@ line_read name text rest fresh g is h =
           ∙ ap (λ (ps : List Pair). (name, flat_map escaped text) ∷ ps) (tags_step false 10 rest rest blank None (feed_lexed rest false) refl);
       fault = fault_step fresh 91 bs (10 ∷ rest) t (on (Some (name, flat_map escaped text)) (10 ∷ rest)) lex refl
           ∙ fault_step false 10 rest rest blank (on None rest) (feed_lexed rest false) refl;
-      moves = λ header. on_step fresh 91 bs g t (10 ∷ rest) g lex (header_takes g name (flat_map escaped text) header)
-          ∙ on_step false 10 rest g blank rest g (feed_lexed rest false) refl;
+      moves = λ header. on_step fresh 91 bs g t (10 ∷ rest) g lex (λ _ _ _. refl) (header_takes g name (flat_map escaped text) header)
+          ∙ on_step false 10 rest g blank rest g (feed_lexed rest false) (λ _ _ _. refl) refl;
     }
 
 pub line_is : (name text rest : List ℕ) → tag_line name text ++ rest ≡ tag_text_line name text (10 ∷ rest)

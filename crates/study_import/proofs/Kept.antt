@@ -1,5 +1,5 @@
 -- Invariants of reading the moves of a game.
-use Rattle.std.proofs.Common.{◌≡◌, ℕ, zero, suc, Bool, true, false, List, [], ◌∷◌, length, Result, Ok, Err, refl, subst}
+use Rattle.std.proofs.Common.{◌≡◌, ℕ, zero, suc, Bool, true, false, List, [], ◌∷◌, length, Option, Some, None, Result, Ok, Err, refl, subst}
 use Rattle.std.specs.Prelude.{◌==◌, if◌then◌else◌}
 use Rattle.study_games.specs.Tokens.{Token, Lexed, lexed}
 use Rattle.study_games.specs.declared.token.TokenFault.{TokenFault}
@@ -8,9 +8,11 @@ use Rattle.study_import.specs.declared.movetext.MovesFault.{MovesFault}
 use Rattle.study_import.specs.declared.movetext.Stop.{Stop}
 use Rattle.study_import.specs.declared.movetext.Stop.TheVariants as stop
 use Rattle.study_import.specs.Notes.{GameRead, GameTaken, game_taken}
-use Rattle.study_import.specs.Movetext.{Ended, goes_on, on_token, fault_at, read_moves}
+use Rattle.study_import.specs.declared.numbering.Numbering.{Numbering}
+use Rattle.study_import.specs.Movetext.{Ended, goes_on, game_numbered, with_numbering, on_numbered, on_token, fault_at, read_moves}
 
-module _ (P : GameRead → Type 0) (step : (g : GameRead) (token : Token) (t : GameTaken) → P g → game_taken g token ≡ Ok t → P t.game) where
+module _ (P : GameRead → Type 0) (numbers : (g : GameRead) (s : Numbering) → P g → P (with_numbering g s))
+    (step : (g : GameRead) (token : Token) (t : GameTaken) → P g → game_taken g token ≡ Ok t → P t.game) where
   kept_end : (g : GameRead) (x : Ended) (none : Bool) → P g → (if none then Ok (record { game = g; behind = [] }) else fault_at stop.OpenVariation 0) ≡ Ok x → P x.game
   kept_end g x true h e = let is : record { game = g; behind = [] } ≡ x = cc in subst (λ (z : Ended). P z.game) is h
   kept_end g x false h e = absurd cc
@@ -25,10 +27,16 @@ module _ (P : GameRead → Type 0) (step : (g : GameRead) (token : Token) (t : G
   kept_on next g left behind x (Err why) f k e = absurd cc
   kept_on next g left behind x (Ok t) f k e = kept_or next t behind x t.ended (f t refl) k e
 
+  kept_numbered : (next : GameRead → Result Ended MovesFault) (g : GameRead) (left : ℕ) (token : Token) (behind : List ℕ) (x : Ended) (s : Option Numbering) → P g
+      → ((h : GameRead) → P h → next h ≡ Ok x → P x.game) → on_numbered next left g token behind s ≡ Ok x → P x.game
+  kept_numbered next g left token behind x None h k e = absurd cc
+  kept_numbered next g left token behind x (Some s) h k e =
+      kept_on next (with_numbering g s) left behind x (game_taken (with_numbering g s) token) (λ t is. step (with_numbering g s) token t (numbers g s h) is) k e
+
   kept_lexed : (next : List ℕ → GameRead → Result Ended MovesFault) (g : GameRead) (left : ℕ) (x : Ended) (token : Lexed) → P g
       → ((bs : List ℕ) (h : GameRead) → P h → next bs h ≡ Ok x → P x.game) → on_token next left g token ≡ Ok x → P x.game
   kept_lexed next g left x (Err fault) h k e = absurd cc
-  kept_lexed next g left x (Ok y) h k e = kept_on (next y.1) g left y.1 x (game_taken g y.0) (λ t is. step g y.0 t h is) (k y.1) e
+  kept_lexed next g left x (Ok y) h k e = kept_numbered (next y.1) g left y.0 y.1 x (game_numbered g y.0 y.1) h (k y.1) e
 
   pub kept : (n : ℕ) (fresh : Bool) (text : List ℕ) (g : GameRead) (x : Ended) → P g → read_moves n fresh text g ≡ Ok x → P x.game
   kept zero fresh text g x h e = kept_end g x (length g.reading.lines.waiting == 0) h e
@@ -38,7 +46,7 @@ module _ (P : GameRead → Type 0) (step : (g : GameRead) (token : Token) (t : G
 
   -- ---- why a reading stops
 
-  module _ (Q : Stop → Type 0) (open_line : Q stop.OpenVariation) (no_token : (fault : TokenFault) → Q (stop.Token fault))
+  module _ (Q : Stop → Type 0) (open_line : Q stop.OpenVariation) (no_token : (fault : TokenFault) → Q (stop.Token fault)) (no_number : Q stop.Numbering)
       (taking : (g : GameRead) (token : Token) (why : Reason) → P g → game_taken g token ≡ Err why → Q (stop.Taking why)) where
     stops_at : (why : Stop) (left : ℕ) (fault : MovesFault) → Q why → fault_at why left ≡ Err fault → Q fault.why
     stops_at why left fault h e = let is : record { why = why; left = left } ≡ fault = err_is (record { why = why; left = left }) fault e in subst (λ (z : MovesFault). Q z.why) is h
@@ -61,11 +69,18 @@ module _ (P : GameRead → Type 0) (step : (g : GameRead) (token : Token) (t : G
     stops_on next g left behind fault (Err why) f r k e = stops_at (stop.Taking why) left fault (r why refl) e
     stops_on next g left behind fault (Ok t) f r k e = stops_or next t behind fault t.ended (f t refl) k e
 
+    stops_numbered : (next : GameRead → Result Ended MovesFault) (g : GameRead) (left : ℕ) (token : Token) (behind : List ℕ) (fault : MovesFault) (s : Option Numbering) → P g
+        → ((h : GameRead) → P h → next h ≡ Err fault → Q fault.why) → on_numbered next left g token behind s ≡ Err fault → Q fault.why
+    stops_numbered next g left token behind fault None h k e = stops_at stop.Numbering left fault no_number e
+    stops_numbered next g left token behind fault (Some s) h k e =
+        let i = with_numbering g s in
+        let p = numbers g s h in
+        stops_on next i left behind fault (game_taken i token) (λ t is. step i token t p is) (λ why is. taking i token why p is) k e
+
     stops_lexed : (next : List ℕ → GameRead → Result Ended MovesFault) (g : GameRead) (left : ℕ) (fault : MovesFault) (token : Lexed) → P g
         → ((bs : List ℕ) (h : GameRead) → P h → next bs h ≡ Err fault → Q fault.why) → on_token next left g token ≡ Err fault → Q fault.why
     stops_lexed next g left fault (Err why) h k e = stops_at (stop.Token why) left fault (no_token why) e
-    stops_lexed next g left fault (Ok y) h k e =
-        stops_on (next y.1) g left y.1 fault (game_taken g y.0) (λ t is. step g y.0 t h is) (λ why is. taking g y.0 why h is) (k y.1) e
+    stops_lexed next g left fault (Ok y) h k e = stops_numbered (next y.1) g left y.0 y.1 fault (game_numbered g y.0 y.1) h (k y.1) e
 
     pub stops : (n : ℕ) (fresh : Bool) (text : List ℕ) (g : GameRead) (fault : MovesFault) → P g → read_moves n fresh text g ≡ Err fault → Q fault.why
     stops zero fresh text g fault h e = stops_end g fault (length g.reading.lines.waiting == 0) e

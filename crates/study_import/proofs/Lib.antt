@@ -25,6 +25,7 @@ mod Soundness
 mod Placed
 mod Whole
 pub mod NoneBehind
+pub mod Numbers
 pub mod TailFound
 mod AllRead
 mod Blanks

@@ -36,7 +36,8 @@ use Rattle.study_import.specs.Reading.{Reading, insert_line, gone_on, read_on, p
 use Rattle.study_import.specs.Taken.{Taken, going_on, on_line, at_result, cut_line, at_null_move, on_move, taken_symbol, taken_sign, taken}
 use Rattle.study_import.specs.declared.notes.Notes.{Notes}
 use Rattle.study_import.specs.Notes.{GameRead, GameTaken, is_header_tag, noted_on, game_taken}
-use Rattle.study_import.specs.Movetext.{Ended, at_end, goes_on, on_token, fault_at, read_moves}
+use Rattle.study_import.specs.declared.numbering.Numbering.{Numbering}
+use Rattle.study_import.specs.Movetext.{Ended, at_end, goes_on, game_numbered, with_numbering, on_numbered, on_token, fault_at, read_moves}
 use Rattle.study_import.specs.Insertions.{Insertion, made_by, AllAccepted, lines_for, Leads}
 
 -- ---- lists of insertions
@@ -244,11 +245,17 @@ module _ (A : Type 0) where
   on_leads next g left behind x (Err why) f k e = absurd cc
   on_leads next g left behind x (Ok t) f k e = leads_on g.reading t.game.reading x.game.reading (f t refl) (ended_or next t behind x t.ended k e)
 
+  numbered_leads : (next : GameRead → Result Ended MovesFault) (g : GameRead) (left : ℕ) (token : Token) (behind : List ℕ) (x : Ended) (s : Option Numbering)
+      → ((h : GameRead) → next h ≡ Ok x → Leads A h.reading x.game.reading) → on_numbered next left g token behind s ≡ Ok x → Leads A g.reading x.game.reading
+  numbered_leads next g left token behind x None k e = absurd cc
+  numbered_leads next g left token behind x (Some s) k e =
+      on_leads next (with_numbering g s) left behind x (game_taken (with_numbering g s) token) (λ t is. game_leads (with_numbering g s) t token is) k e
+
   lexed_leads : (next : List ℕ → GameRead → Result Ended MovesFault) (g : GameRead) (left : ℕ) (x : Ended) (token : Lexed)
       → ((bs : List ℕ) (h : GameRead) → next bs h ≡ Ok x → Leads A h.reading x.game.reading)
       → on_token next left g token ≡ Ok x → Leads A g.reading x.game.reading
   lexed_leads next g left x (Err fault) k e = absurd cc
-  lexed_leads next g left x (Ok y) k e = on_leads (next y.1) g left y.1 x (game_taken g y.0) (λ t is. game_leads g t y.0 is) (k y.1) e
+  lexed_leads next g left x (Ok y) k e = numbered_leads (next y.1) g left y.0 y.1 x (game_numbered g y.0 y.1) (k y.1) e
 
   pub moves_lead : (n : ℕ) (fresh : Bool) (text : List ℕ) (g : GameRead) (x : Ended) → read_moves n fresh text g ≡ Ok x → Leads A g.reading x.game.reading
   moves_lead zero fresh text g x e = end_leads g x e

@@ -1,5 +1,5 @@
 -- The text behind a result.
-use Rattle.std.proofs.Common.{◌≡◌, ℕ, zero, suc, ◌≤◌, Bool, true, false, List, [], ◌∷◌, length, drop, Option, Some, None, Result, Ok, Err, refl, sym, ap, subst, ◌∙◌, arith, length-drop}
+use Rattle.std.proofs.Common.{◌≡◌, ℕ, zero, suc, ◌≤◌, Bool, false, List, [], ◌∷◌, length, Option, Some, None, Result, Ok, Err, refl, sym, ap, subst, ◌∙◌, arith}
 use Rattle.std.specs.Prelude.{◌==◌, unwrap_or, if◌then◌else◌}
 use Rattle.study_games.specs.declared.token.TokenFault.{TokenFault}
 use Rattle.study_games.specs.declared.token.TokenFault.TheVariants as token_fault
@@ -91,6 +91,7 @@ still_reported (stop.Taking reason.TagInMoves) expected left h = ap to_the_end h
 still_reported (stop.Taking reason.NullMove) expected left h = ap to_the_end h
 still_reported (stop.Token fault) expected left h = ap to_the_end h
 still_reported stop.OpenVariation expected left h = ap to_the_end h
+still_reported stop.Numbering expected left h = ap to_the_end h
 still_reported stop.BehindResult expected left h = ap to_the_end h
 
 -- why it is not read to its end

@@ -30,4 +30,4 @@ opening_taken g token t h e =
     (opening_noted g.notes (nat_le 1 g.reading.lines.cut) (not (length g.reading.lines.waiting == 0)) token h) e
 
 pub opening_given : (n : ℕ) (fresh : Bool) (text : List ℕ) (g : GameRead) (x : Ended) → IsGiven g.notes.opening → read_moves n fresh text g ≡ Ok x → IsGiven x.game.notes.opening
-opening_given n fresh text g x h e = kept HasOpening opening_taken n fresh text g x h e
+opening_given n fresh text g x h e = kept HasOpening (λ g s h. h) opening_taken n fresh text g x h e

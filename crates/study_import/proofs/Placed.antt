@@ -337,4 +337,4 @@ pub listed : AreListed
 unfolding game_read
 listed text start fault e =
     stops_at_end IsListed tt (read_moves (length text) true text (no_moves start)) fault
-    (λ f is. stops Placed step IsListed tt (λ why. tt) taking (length text) true text (no_moves start) f (at_root start) is) e
+    (λ f is. stops Placed (λ g s h. h) step IsListed tt (λ why. tt) tt taking (length text) true text (no_moves start) f (at_root start) is) e

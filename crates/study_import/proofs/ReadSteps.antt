@@ -1,10 +1,11 @@
 -- Token by token through the movetext of a study.
 use Rattle.std.proofs.Common.{◌≡◌, ℕ, zero, suc, ◌+◌, ◌-◌, ◌/◌, ◌%◌, ◌<◌, ◌≤◌, Bool, true, false, List, [], ◌∷◌, ◌++◌, length, take, Option, Some, None, Result, Ok, refl, sym, ap, subst, ◌∙◌, inl, inr, arith, length-append}
-use Rattle.std.specs.Prelude.{◌==◌, ◌&&◌, not, nat_le, slice_index, decimal}
+use Rattle.std.specs.Prelude.{◌==◌, ◌&&◌, not, nat_le, slice_index, decimal, if◌then◌else◌}
 use Rattle.std.specs.List.{list_all}
 use Rattle.std.specs.Fmt.{digits, digits_onto, digit_glyph}
 use Rattle.std.proofs.lemmas.Bool.{lt-leb, le-ltb, le-leb, lt-ltb, and_right, cases_Bool, and_from}
 use Rattle.std.proofs.lemmas.List.{take_at, get_or_at}
+use Rattle.study_board.specs.declared.men.Side.{Side}
 use Rattle.study_moves.specs.declared.moves.Move.{Move}
 use Rattle.study_notation.specs.Matching.{move_of}
 use Rattle.study_tree.specs.Edits.{children_at}
@@ -30,9 +31,12 @@ use Rattle.study_import.specs.Reading.{Reading, played, symbol_played}
 use Rattle.study_import.specs.Taken.{on_line, on_move, taken_symbol}
 use Rattle.study_import.specs.Aims.{aim_in}
 use Rattle.study_import.specs.Notes.{GameRead, GameTaken, begun, with_aside, with_comment, with_move, with_said, noted_on, game_taken}
-use Rattle.study_import.specs.Movetext.{Ended, goes_on, on_token, read_moves}
+use Rattle.study_import.specs.declared.numbering.Numbering.{Numbering}
+use Rattle.study_import.specs.Numbering.{digits_numbered, said_numbered, token_numbered}
+use Rattle.study_import.specs.Movetext.{Ended, goes_on, game_numbered, with_numbering, on_numbered, on_token, read_moves}
 use Rattle.study_import.proofs.Whole.{same_token, within_lexed, moves_same}
 use Rattle.study_import.proofs.Blanks.{IsGap}
+use Rattle.study_import.proofs.Numbers.{IsFirst}
 
 some_is : (x y : Lexed) → Some x ≡ Some y → x ≡ y
 some_is x y e = cc
@@ -48,11 +52,28 @@ on_reads fresh b bs g =
     same_token (read_moves (length bs) (b == 10)) (λ rest h. reads (b == 10) rest h) (length (b ∷ bs)) (length bs) g (lexed fresh b bs) (within_lexed fresh b bs)
     (λ rest h le. moves_same (length bs) (length rest) (b == 10) rest h le (omega arith))
 
+pub on_number : (fresh : Bool) (b : ℕ) (bs : List ℕ) (g : GameRead) (t : Token) (rest : List ℕ) (s : Numbering) (h : GameRead) → lexed fresh b bs ≡ Ok (t, rest)
+    → game_numbered g t rest ≡ Some s → game_taken (with_numbering g s) t ≡ Ok (record { game = h; ended = false }) → reads fresh (b ∷ bs) g ≡ reads (b == 10) rest h
+on_number fresh b bs g t rest s h l i k =
+    on_reads fresh b bs g ∙ ap (λ (x : Lexed). on_token (λ r j. reads (b == 10) r j) (length (b ∷ bs)) g x) l
+    ∙ ap (λ (x : Option Numbering). on_numbered (λ j. reads (b == 10) rest j) (length (b ∷ bs)) g t rest x) i
+    ∙ ap (λ (x : Result GameTaken Reason). goes_on (λ j. reads (b == 10) rest j) (length (b ∷ bs)) rest x) k
+
+-- a token that is not a number
+abbrev pub IsQuiet : Token → List ℕ → Type 0
+IsQuiet t rest = (side : Side) → (d : ℕ) → (s : Numbering) → token_numbered side d s t rest ≡ Some s
+
+pub quiet_numbered : (g : GameRead) (t : Token) (rest : List ℕ) → IsQuiet t rest → game_numbered g t rest ≡ Some g.notes.numbering
+quiet_numbered g t rest q =
+    same (nat_le 1 g.reading.lines.cut) (Some g.notes.numbering) _ (q g.reading.study.start.position.to_move (length g.reading.lines.path) g.notes.numbering)
+  where
+    same : (b : Bool) (x y : Option Numbering) → y ≡ x → (if b then x else y) ≡ x
+    same true x y e = refl
+    same false x y e = e
+
 pub on_step : (fresh : Bool) (b : ℕ) (bs : List ℕ) (g : GameRead) (t : Token) (rest : List ℕ) (h : GameRead) → lexed fresh b bs ≡ Ok (t, rest)
-    → game_taken g t ≡ Ok (record { game = h; ended = false }) → reads fresh (b ∷ bs) g ≡ reads (b == 10) rest h
-on_step fresh b bs g t rest h l k =
-    on_reads fresh b bs g ∙ ap (λ (x : Lexed). on_token (λ r i. reads (b == 10) r i) (length (b ∷ bs)) g x) l
-    ∙ ap (λ (x : Result GameTaken Reason). goes_on (λ i. reads (b == 10) rest i) (length (b ∷ bs)) rest x) k
+    → IsQuiet t rest → game_taken g t ≡ Ok (record { game = h; ended = false }) → reads fresh (b ∷ bs) g ≡ reads (b == 10) rest h
+on_step fresh b bs g t rest h l q k = on_number fresh b bs g t rest g.notes.numbering h l (quiet_numbered g t rest q) k
 
 -- reading leads from this text and this state to that text and that state
 abbrev pub Goes : List ℕ → GameRead → List ℕ → GameRead → Type 0
@@ -66,6 +87,7 @@ pub record At (s : PlainStudy) (path : List ℕ) (begun : ℕ) (ws : List Waitin
   pub lines : g.reading.lines ≡ record { path = path; begun = begun; waiting = ws; cut = 0 }
   pub opening : g.notes.opening ≡ o
   pub had : g.notes.has_comment ≡ true
+  pub numbers : IsFirst s.start g.notes.numbering.first
 
 pub record Reached (text rest : List ℕ) (s : PlainStudy) (path : List ℕ) (begun : ℕ) (ws : List Waiting) (o : Option Stipulation) (g : GameRead) : Type 0 where
   pub next : GameRead
@@ -92,12 +114,12 @@ comment_is text rest all =
 module _ (s : PlainStudy) (path : List ℕ) (from : ℕ) (ws : List Waiting) (o : Option Stipulation) (g : GameRead) (at : At s path from ws o g) where
   -- a token that changes only the notes
   noted_step : (b : ℕ) (bs rest : List ℕ) (t : Token) (n : Notes) → ((fresh : Bool) → lexed fresh b bs ≡ Ok (t, rest))
-      → game_taken g t ≡ Ok (record { game = record { reading = g.reading; notes = n }; ended = false }) → n.opening ≡ g.notes.opening → n.has_comment ≡ true
-      → Reached (b ∷ bs) rest s path from ws o g
-  noted_step b bs rest t n l k e h = record {
+      → IsQuiet t rest → game_taken g t ≡ Ok (record { game = record { reading = g.reading; notes = n }; ended = false }) → n.opening ≡ g.notes.opening
+      → n.has_comment ≡ true → n.numbering ≡ g.notes.numbering → Reached (b ∷ bs) rest s path from ws o g
+  noted_step b bs rest t n l q k e h i = record {
     next = record { reading = g.reading; notes = n };
-    goes = λ fresh. (b == 10, on_step fresh b bs g t rest (record { reading = g.reading; notes = n }) (l fresh) k);
-    at = record { study = at.study; lines = at.lines; opening = e ∙ at.opening; had = h };
+    goes = λ fresh. (b == 10, on_step fresh b bs g t rest (record { reading = g.reading; notes = n }) (l fresh) q k);
+    at = record { study = at.study; lines = at.lines; opening = e ∙ at.opening; had = h; numbers = subst (λ (x : Numbering). IsFirst s.start x.first) (sym i) at.numbers };
   }
 
   lexed_space : (bs : List ℕ) (fresh : Bool) → lexed fresh 32 bs ≡ Ok (blank, bs)
@@ -120,10 +142,10 @@ module _ (s : PlainStudy) (path : List ℕ) (from : ℕ) (ws : List Waiting) (o 
   gap_lexed b bs (inr e) fresh = subst (λ (x : ℕ). lexed fresh x bs ≡ Ok (blank, bs)) (sym e) (lexed_feed bs fresh)
 
   pub gap_step : (b : ℕ) (bs : List ℕ) → IsGap b → Reached (b ∷ bs) bs s path from ws o g
-  gap_step b bs gap = noted_step b bs bs blank g.notes (gap_lexed b bs gap) refl refl at.had
+  gap_step b bs gap = noted_step b bs bs blank g.notes (gap_lexed b bs gap) (λ _ _ _. refl) refl refl at.had refl
 
   pub dot_step : (bs : List ℕ) → Reached (46 ∷ bs) bs s path from ws o g
-  dot_step bs = noted_step 46 bs bs blank g.notes (lexed_dot bs) refl refl at.had
+  dot_step bs = noted_step 46 bs bs blank g.notes (lexed_dot bs) (λ _ _ _. refl) refl refl at.had refl
 
   -- ---- numbers
 
@@ -132,12 +154,29 @@ module _ (s : PlainStudy) (path : List ℕ) (from : ℕ) (ws : List Waiting) (o 
   symbol_lexed w b bs rest begins all stops fresh =
       some_is (lexed fresh b (bs ++ rest)) (Ok (symbol (b ∷ bs), rest)) (symbol_read fresh b bs rest begins all stops)
 
+  same_reading : g.reading ≡ record { study = s; lines = record { path = path; begun = from; waiting = ws; cut = 0 }; inserts = g.reading.inserts }
+  same_reading =
+      ap (λ (x : PlainStudy). record { study = x; lines = g.reading.lines; inserts = g.reading.inserts }) at.study
+      ∙ ap (λ (x : Lines). record { study = s; lines = x; inserts = g.reading.inserts }) at.lines
+
+  -- a number that fits
   pub number_step : (b : ℕ) (bs rest : List ℕ) → begins_symbol b ≡ true → list_all is_symbol_byte (b ∷ bs) ≡ true → said_of (b ∷ bs) ≡ say.Number → Stops is_symbol_byte rest
+      → (next : Numbering) → digits_numbered s.start.position.to_move (length path) g.notes.numbering (b ∷ bs) rest ≡ Some next → IsFirst s.start next.first
       → Reached ((b ∷ bs) ++ rest) rest s path from ws o g
-  number_step b bs rest begins all said stops =
-      noted_step b (bs ++ rest) rest (symbol (b ∷ bs)) (begun g.notes) (symbol_lexed [] b bs rest begins all stops)
-      (ap (λ (x : Said). noted_on (with_said g.notes (nat_le 1 g.reading.lines.cut) (not (length g.reading.lines.waiting == 0)) x) (taken_symbol g.reading (b ∷ bs) x)) said)
-      refl at.had
+  number_step b bs rest begins all said stops next is first =
+      let t = symbol (b ∷ bs) in
+      let notes : Notes = record g.notes { numbering = next } in
+      let h : GameRead = record { reading = g.reading; notes = begun notes } in
+      let fits : game_numbered g t rest ≡ Some next =
+      ap (λ (r : Reading). if nat_le 1 r.lines.cut then Some g.notes.numbering else token_numbered r.study.start.position.to_move (length r.lines.path) g.notes.numbering t rest) same_reading
+      ∙ ap (said_numbered s.start.position.to_move (length path) g.notes.numbering (b ∷ bs) rest) said ∙ is in
+      let takes : game_taken (with_numbering g next) t ≡ Ok (record { game = h; ended = false }) =
+      ap (λ (x : Said). noted_on (with_said notes (nat_le 1 g.reading.lines.cut) (not (length g.reading.lines.waiting == 0)) x) (taken_symbol g.reading (b ∷ bs) x)) said in
+      record {
+        next = h;
+        goes = λ fresh. (b == 10, on_number fresh b (bs ++ rest) g t rest next h (symbol_lexed [] b bs rest begins all stops fresh) fits takes);
+        at = record { study = at.study; lines = at.lines; opening = at.opening; had = at.had; numbers = first };
+      }
 
   -- ---- NAGs
 
@@ -150,27 +189,23 @@ module _ (s : PlainStudy) (path : List ℕ) (from : ℕ) (ws : List Waiting) (o 
   glyph_step d rest digit stops =
       let cut = run_cut is_digit (d ∷ []) rest (and_from (is_digit d) true digit refl) stops in
       noted_step 36 (d ∷ rest) rest aside (with_aside g.notes)
-      (λ fresh. lexed_dollar (d ∷ rest) fresh ∙ ap (λ (x : List ℕ). Ok (aside, x)) cut.1) refl refl at.had
+      (λ fresh. lexed_dollar (d ∷ rest) fresh ∙ ap (λ (x : List ℕ). Ok (aside, x)) cut.1) (λ _ _ _. refl) refl refl at.had refl
 
   -- ---- comments
 
-  later_comment : (n : Notes) (aim : Option Stipulation) → n.has_comment ≡ true → ((with_comment n aim).opening ≡ n.opening) × ((with_comment n aim).has_comment ≡ true)
+  later_comment : (n : Notes) (aim : Option Stipulation) → n.has_comment ≡ true
+      → ((with_comment n aim).opening ≡ n.opening) × ((with_comment n aim).has_comment ≡ true) × ((with_comment n aim).numbering ≡ n.numbering)
   later_comment n aim h =
       let second : (n.before_moves && not n.has_comment) ≡ false = and_right n.before_moves (not n.has_comment) (rw h refl) in
-      rw second (refl, h)
+      rw second (refl, h, refl)
 
   pub comment_step : (text rest : List ℕ) → list_all is_inside text ≡ true → Reached (123 ∷ (text ++ (125 ∷ rest))) rest s path from ws o g
   comment_step text rest all =
       let l = later_comment g.notes (aim_in text) at.had in
       noted_step 123 (text ++ (125 ∷ rest)) rest (comment text) (with_comment g.notes (aim_in text))
-      (λ fresh. lexed_brace (text ++ (125 ∷ rest)) fresh ∙ comment_is text rest all) refl l.0 l.1
+      (λ fresh. lexed_brace (text ++ (125 ∷ rest)) fresh ∙ comment_is text rest all) (λ _ _ _. refl) refl l.0 l.1 l.2
 
   -- ---- moves
-
-  same_reading : g.reading ≡ record { study = s; lines = record { path = path; begun = from; waiting = ws; cut = 0 }; inserts = g.reading.inserts }
-  same_reading =
-      ap (λ (x : PlainStudy). record { study = x; lines = g.reading.lines; inserts = g.reading.inserts }) at.study
-      ∙ ap (λ (x : Lines). record { study = s; lines = x; inserts = g.reading.inserts }) at.lines
 
   -- a move that is new at the current node
   pub record IsNew (text : List ℕ) (m : Move) : Type 0 where
@@ -208,8 +243,12 @@ module _ (s : PlainStudy) (path : List ℕ) (from : ℕ) (ws : List Waiting) (o 
       ∙ ap (λ (x : Result Reading MoveFault). noted_on notes (on_move x)) played in
       record {
         next = next;
-        goes = λ fresh. (b == 10, on_step fresh b (bs ++ rest) g (symbol (b ∷ bs)) rest next (symbol_lexed [] b bs rest begins all stops fresh) takes);
-        at = record { study = p.study; lines = p.lines; opening = at.opening; had = at.had };
+        goes = λ fresh. (
+          b == 10,
+          on_step fresh b (bs ++ rest) g (symbol (b ∷ bs)) rest next (symbol_lexed [] b bs rest begins all stops fresh)
+              (λ side d n. ap (said_numbered side d n (b ∷ bs) rest) h.said) takes,
+        );
+        at = record { study = p.study; lines = p.lines; opening = at.opening; had = at.had; numbers = at.numbers };
       }
 
   -- ---- variations
@@ -224,15 +263,21 @@ module _ (s : PlainStudy) (path : List ℕ) (from : ℕ) (ws : List Waiting) (o 
   lexed_close bs true = refl
   lexed_close bs false = refl
 
-  line_step : (b : ℕ) (bs : List ℕ) (t : Token) (x : Result Lines LineFault) (l : Lines) → ((fresh : Bool) → lexed fresh b bs ≡ Ok (t, bs))
+  line_step : (b : ℕ) (bs : List ℕ) (t : Token) (x : Result Lines LineFault) (l : Lines) → ((fresh : Bool) → lexed fresh b bs ≡ Ok (t, bs)) → IsQuiet t bs
       → game_taken g t ≡ noted_on (begun g.notes) (on_line g.reading x) → x ≡ Ok l → l.cut ≡ 0 → Reached (b ∷ bs) bs s l.path l.begun l.waiting o g
-  line_step b bs t x l lex k e cut =
+  line_step b bs t x l lex q k e cut =
       let next : GameRead = record { reading = record { study = g.reading.study; lines = l; inserts = g.reading.inserts }; notes = begun g.notes } in
       let takes : game_taken g t ≡ Ok (record { game = next; ended = false }) = k ∙ ap (λ (y : Result Lines LineFault). noted_on (begun g.notes) (on_line g.reading y)) e in
       record {
         next = next;
-        goes = λ fresh. (b == 10, on_step fresh b bs g t bs next (lex fresh) takes);
-        at = record { study = at.study; lines = ap (λ (c : ℕ). record { path = l.path; begun = l.begun; waiting = l.waiting; cut = c }) cut; opening = at.opening; had = at.had };
+        goes = λ fresh. (b == 10, on_step fresh b bs g t bs next (lex fresh) q takes);
+        at = record {
+          study = at.study;
+          lines = ap (λ (c : ℕ). record { path = l.path; begun = l.begun; waiting = l.waiting; cut = c }) cut;
+          opening = at.opening;
+          had = at.had;
+          numbers = at.numbers;
+        };
       }
 
 -- a variation begins after the node at the path's end
@@ -255,7 +300,7 @@ open_step s path k from ws o g at bs le few =
       cut = 0;
     })) shorter ∙ ap (λ (n : ℕ). Ok (record { path = path; begun = n; waiting = record { replaced = slice_index (path ++ k ∷ []) (length (path ++ k ∷ []) - 1); begun = from } ∷ ws; cut = 0 })) one
     ∙ ap (λ (n : ℕ). Ok (record { path = path; begun = length path; waiting = record { replaced = n; begun = from } ∷ ws; cut = 0 })) last) in
-    line_step s (path ++ k ∷ []) from ws o g at 40 bs opening (begin_line g.reading.lines) l (lexed_open s (path ++ k ∷ []) from ws o g at bs) refl
+    line_step s (path ++ k ∷ []) from ws o g at 40 bs opening (begin_line g.reading.lines) l (lexed_open s (path ++ k ∷ []) from ws o g at bs) (λ _ _ _. refl) refl
     (ap begin_line at.lines ∙ begins) refl
 
 -- a variation ends, and the waiting line continues
@@ -264,7 +309,7 @@ pub close_step : (s : PlainStudy) (path : List ℕ) (from : ℕ) (w : Waiting) (
 unfolding end_line
 close_step s path from w ws o g at bs =
     line_step s path from (w ∷ ws) o g at 41 bs closing (end_line g.reading.lines) (record { path = take from path ++ w.replaced ∷ []; begun = w.begun; waiting = ws; cut = 0 })
-    (lexed_close s path from (w ∷ ws) o g at bs) refl (ap end_line at.lines) refl
+    (lexed_close s path from (w ∷ ws) o g at bs) (λ _ _ _. refl) refl (ap end_line at.lines) refl
 
 -- ---- numbers in their written form
 

@@ -386,6 +386,7 @@ stop_part : (why : Stop) → IsPart 20 (stop_name why)
 stop_part (stop.Token fault) = token_part fault
 stop_part (stop.Taking why) = reason_part why
 stop_part stop.OpenVariation = record { shown = refl; few = omega arith }
+stop_part stop.Numbering = record { shown = refl; few = omega arith }
 stop_part stop.BehindResult = record { shown = refl; few = omega arith }
 
 -- no byte of a symbol is a control code
@@ -440,6 +441,7 @@ symbol_part (stop.Taking reason.TagInMoves) text = none_part
 symbol_part (stop.Taking reason.NullMove) text = none_part
 symbol_part (stop.Token fault) text = none_part
 symbol_part stop.OpenVariation text = none_part
+symbol_part stop.Numbering text = none_part
 symbol_part stop.BehindResult text = none_part
 
 pub stopped_lines : (e : Entry) (fault : MovesFault) → AreLines IsRemark (stopped_block e fault).text

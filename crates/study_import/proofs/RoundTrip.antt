@@ -53,7 +53,9 @@ use Rattle.study_import.specs.Lines.{Lines}
 use Rattle.study_import.specs.declared.notes.Notes.{Notes}
 use Rattle.study_import.specs.Taken.{taken_symbol}
 use Rattle.study_import.specs.Notes.{GameRead, GameTaken, none_yet, with_comment, with_said, with_result, noted_on, game_taken}
-use Rattle.study_import.specs.Movetext.{Ended, goes_on, on_token}
+use Rattle.study_import.specs.declared.numbering.Numbering.{Numbering}
+use Rattle.study_import.specs.Numbering.{said_numbered}
+use Rattle.study_import.specs.Movetext.{Ended, goes_on, on_numbered, on_token}
 use Rattle.study_import.specs.Behind.{moves_or, moves_left, moves_in, ended_unless, to_the_end}
 use Rattle.study_import.specs.Blocks.{no_moves, game_read, fen_in, printed, tag_text, tag_value_text, text_or_unknown as import_text, aim_of_game}
 use Rattle.study_import.specs.Meant.{tag_texts, study_aimed, study_read, study_begun, study_with_fen, study_behind_header, study_in}
@@ -64,7 +66,8 @@ use Rattle.study_import.proofs.Spelling.{fen_is}
 use Rattle.study_import.proofs.TagsTrimmed.{same_end}
 use Rattle.study_import.proofs.Blanks.{SameByte, Same, same_cut, word_cut, IsGap, space_cut, same_all, same_refl, same_append, lines_same}
 use Rattle.study_import.proofs.TreeHoles.{put, root_put}
-use Rattle.study_import.proofs.ReadSteps.{reads, on_reads, on_step, At, Reached, gap_step, lexed_brace, comment_is, decimal_digits, decimal_some}
+use Rattle.study_import.proofs.Numbers.{counted_start}
+use Rattle.study_import.proofs.ReadSteps.{reads, on_reads, quiet_numbered, on_step, At, Reached, gap_step, lexed_brace, comment_is, decimal_digits, decimal_some}
 use Rattle.study_import.proofs.TreeRead.{on_tree, retold, inside_append, side_inside, number_inside, value_inside, begins_digit, digits_symbol, Node, Limits, follow_read}
 use Rattle.study_import.proofs.Singles.{movetext_runs}
 use Rattle.study_import.proofs.OpeningRead.{aim_read}
@@ -336,6 +339,8 @@ result_ends s path o g at w r b rest gap quiet fresh =
       ended_by = record { game = record { reading = g.reading; notes = n }; behind = b ∷ rest };
       is = ap (λ (t : List ℕ). reads fresh (t ++ (b ∷ rest)) g) r.text ∙ on_reads fresh r.first bs g
           ∙ ap (λ (x : Lexed). on_token (λ t h. reads (r.first == 10) t h) (length (r.first ∷ bs)) g x) lex
+          ∙ ap (λ (x : Option Numbering). on_numbered (λ h. reads (r.first == 10) (b ∷ rest) h) (length (r.first ∷ bs)) g (symbol (r.first ∷ r.more)) (b ∷ rest) x)
+          (quiet_numbered g (symbol (r.first ∷ r.more)) (b ∷ rest) (λ side d s. ap (said_numbered side d s (r.first ∷ r.more) (b ∷ rest)) r.said))
           ∙ ap (λ (x : Result GameTaken Reason). goes_on (λ h. reads (r.first == 10) (b ∷ rest) h) (length (r.first ∷ bs)) (b ∷ rest) x) takes;
       study = at.study;
       opening = at.opening;
@@ -368,7 +373,7 @@ tree_ends : (s : Study Mark) → CanBeMade s → (o : Option Stipulation) (t : L
     → At (start_study s.start) [] 0 [] o g → (fresh : Bool) → EndsWith (reads fresh t g) (on_tree (start_study s.start) (plainly s.tree.below)) o
 tree_ends s c o t h g at fresh =
     let base = start_study s.start in
-    let node : Node base none [] s.start = record { here = refl; position = refl; valid = c.valid } in
+    let node : Node base none [] s.start = record { here = refl; position = refl; valid = c.valid; counted = counted_start s.start c.number } in
     let count : nodes_in (put none [] none) ≡ 0 = ap (λ (x : Forest (Unit {0})). nodes_in x) (root_put none) in
     let few = c.few in
     let limits : Limits none [] none (plainly s.tree.below) 0 [] 256 = record { deep = omega arith; within = c.within; room = omega arith; begun = omega arith; few = omega arith } in
@@ -446,12 +451,12 @@ moves_end s c fresh =
     let o = opened s c in
     let next : GameRead = record { reading = g.reading; notes = with_comment none_yet (aim_in o.words) } in
     let bs = o.words ++ (125 ∷ o.back) in
-    let at : At (start_study s.start) [] 0 [] (Some s.stipulation) next = record { study = refl; lines = refl; opening = o.aim; had = refl } in
+    let at : At (start_study s.start) [] 0 [] (Some s.stipulation) next = record { study = refl; lines = refl; opening = o.aim; had = refl; numbers = tt } in
     let tree = tree_ends s c (Some s.stipulation) o.back o.rest next at false in
     record {
       ended_by = tree.ended_by;
-      is = on_step fresh 10 t g blank t g (feed_lexed t fresh) refl ∙ ap (λ (x : List ℕ). reads true x g) o.text
-          ∙ on_step true 123 bs g (comment o.words) o.back next (lexed_brace bs true ∙ comment_is o.words o.back o.inside) refl ∙ tree.is;
+      is = on_step fresh 10 t g blank t g (feed_lexed t fresh) (λ _ _ _. refl) refl ∙ ap (λ (x : List ℕ). reads true x g) o.text
+          ∙ on_step true 123 bs g (comment o.words) o.back next (lexed_brace bs true ∙ comment_is o.words o.back o.inside) (λ _ _ _. refl) refl ∙ tree.is;
       study = tree.study;
       opening = tree.opening;
       quiet = tree.quiet;

@@ -1,5 +1,5 @@
 -- The moves of a game, one token after the other.
-use Rattle.std.proofs.Common.{◌≡◌, ℕ, suc, Bool, false, List, [], ◌∷◌, length, Option, Some, Result, Ok, Err, ap, ◌∙◌}
+use Rattle.std.proofs.Common.{◌≡◌, ℕ, suc, Bool, false, List, [], ◌∷◌, length, Option, Some, None, Result, Ok, Err, ap, ◌∙◌}
 use Rattle.std.specs.Prelude.{◌==◌, unwrap_or}
 use Rattle.study_import.specs.declared.lines.LineFault.TheVariants as line_fault
 use Rattle.study_import.specs.declared.moves.MoveFault.TheVariants as move_fault
@@ -13,7 +13,8 @@ use Rattle.study_import.specs.Reading.{Reading}
 use Rattle.study_import.specs.Taken.{Taken, Takes}
 use Rattle.study_import.specs.Notes.{GameRead, GameTaken, noted_on, game_taken}
 use Rattle.study_games.specs.Tokens.{Token, Lexed, lexed, token_at, begins_feed}
-use Rattle.study_import.specs.Movetext.{Ended, goes_on, on_token, read_moves}
+use Rattle.study_import.specs.declared.numbering.Numbering.{Numbering}
+use Rattle.study_import.specs.Movetext.{Ended, goes_on, game_numbered, with_numbering, on_numbered, on_token, read_moves}
 use Rattle.study_import.specs.MovesRead.{IsTold, TakesIn}
 
 abbrev lexed_or : Option Lexed → Lexed
@@ -21,20 +22,30 @@ lexed_or o = unwrap_or o (Err Byte)
 
 module _ (n m : ℕ) (fresh : Bool) (r : GameRead) (t : Token) (behind : List ℕ) where
   read_by : (b : ℕ) (bs : List ℕ) → n ≡ suc m → token_at fresh (b ∷ bs) ≡ Some (Ok (t, behind))
-      → read_moves n fresh (b ∷ bs) r ≡ goes_on (read_moves m (b == 10) behind) (length (b ∷ bs)) behind (game_taken r t)
+      → read_moves n fresh (b ∷ bs) r ≡ on_numbered (read_moves m (b == 10) behind) (length (b ∷ bs)) r t behind (game_numbered r t behind)
   read_by b bs e k =
       let l : lexed fresh b bs ≡ Ok (t, behind) = ap lexed_or k in
       ap (λ (i : ℕ). read_moves i fresh (b ∷ bs) r) e ∙ ap (on_token (read_moves m (b == 10)) (length (b ∷ bs)) r) l
 
-  pub step_on : (rest : List ℕ) (next : GameRead) → n ≡ suc m → token_at fresh rest ≡ Some (Ok (t, behind))
-      → game_taken r t ≡ Ok (record { game = next; ended = false }) → read_moves n fresh rest r ≡ read_moves m (begins_feed rest) behind next
-  step_on [] next e k h = absurd cc
-  step_on (b ∷ bs) next e k h = read_by b bs e k ∙ ap (goes_on (read_moves m (b == 10) behind) (length (b ∷ bs)) behind) h
+  numbered_by : (b : ℕ) (bs : List ℕ) (s : Option Numbering) → n ≡ suc m → token_at fresh (b ∷ bs) ≡ Some (Ok (t, behind)) → game_numbered r t behind ≡ s
+      → read_moves n fresh (b ∷ bs) r ≡ on_numbered (read_moves m (b == 10) behind) (length (b ∷ bs)) r t behind s
+  numbered_by b bs s e k i = read_by b bs e k ∙ ap (on_numbered (read_moves m (b == 10) behind) (length (b ∷ bs)) r t behind) i
 
-  pub stop_on : (rest : List ℕ) (why : Reason) → n ≡ suc m → token_at fresh rest ≡ Some (Ok (t, behind)) → game_taken r t ≡ Err why
-      → read_moves n fresh rest r ≡ Err (record { why = stop.Taking why; left = length rest })
-  stop_on [] why e k h = absurd cc
-  stop_on (b ∷ bs) why e k h = read_by b bs e k ∙ ap (goes_on (read_moves m (b == 10) behind) (length (b ∷ bs)) behind) h
+  pub step_on : (rest : List ℕ) (s : Numbering) (next : GameRead) → n ≡ suc m → token_at fresh rest ≡ Some (Ok (t, behind)) → game_numbered r t behind ≡ Some s
+      → game_taken (with_numbering r s) t ≡ Ok (record { game = next; ended = false }) → read_moves n fresh rest r ≡ read_moves m (begins_feed rest) behind next
+  step_on [] s next e k i h = absurd cc
+  step_on (b ∷ bs) s next e k i h = numbered_by b bs (Some s) e k i ∙ ap (goes_on (read_moves m (b == 10) behind) (length (b ∷ bs)) behind) h
+
+  pub stop_on : (rest : List ℕ) (s : Numbering) (why : Reason) → n ≡ suc m → token_at fresh rest ≡ Some (Ok (t, behind)) → game_numbered r t behind ≡ Some s
+      → game_taken (with_numbering r s) t ≡ Err why → read_moves n fresh rest r ≡ Err (record { why = stop.Taking why; left = length rest })
+  stop_on [] s why e k i h = absurd cc
+  stop_on (b ∷ bs) s why e k i h = numbered_by b bs (Some s) e k i ∙ ap (goes_on (read_moves m (b == 10) behind) (length (b ∷ bs)) behind) h
+
+  -- a number that does not fit
+  pub unfit_on : (rest : List ℕ) → n ≡ suc m → token_at fresh rest ≡ Some (Ok (t, behind)) → game_numbered r t behind ≡ None
+      → read_moves n fresh rest r ≡ Err (record { why = stop.Numbering; left = length rest })
+  unfit_on [] e k i = absurd cc
+  unfit_on (b ∷ bs) e k i = numbered_by b bs None e k i
 
 -- a reported reason, or want of memory
 pub told_by : (why : Reason) (x : Result GameTaken Reason) (new : GameRead) (expected : Result Ended MovesFault) (left : ℕ) → TakesIn (Err why) x new

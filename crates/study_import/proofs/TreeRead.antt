@@ -42,6 +42,9 @@ use Rattle.study_import.proofs.Spelling.{move_short}
 use Rattle.study_import.proofs.Blanks.{Same, same_cut, word_cut, IsGap, space_cut, same_all}
 use Rattle.study_import.proofs.SanSymbols.{symbol_is, symbol_said, symbol_move, symbol_prints}
 use Rattle.study_import.proofs.TreeHoles.{Plain, put, put_has, put_here, put_way, put_width, put_place, put_moves, put_last, put_put, put_nodes, position_on, beside, beside_assoc, beside_none, last_put, last_has, last_is, last_moves, last_nodes, beside_nodes, beside_place, first_put, first_beside}
+use Rattle.study_import.specs.declared.numbering.Numbering.{Numbering}
+use Rattle.study_import.specs.Numbering.{has_dot}
+use Rattle.study_import.proofs.Numbers.{IsFirst, Fits, Counted, counted_on, no_dot, number_fits}
 use Rattle.study_import.proofs.ReadSteps.{At, Reached, reached_on, gap_step, dot_step, number_step, glyph_step, comment_step, IsNew, move_step, open_step, close_step, decimal_digits, decimal_some}
 
 -- the study with this tree
@@ -140,14 +143,17 @@ module _ (s : PlainStudy) (path : List ℕ) (from : ℕ) (ws : List Waiting) (o 
   dots_stop White rest = refl
   dots_stop Black rest = refl
 
-  digits_pass : (ds rest : List ℕ) → list_all is_digit ds ≡ true → 0 < length ds → Stops is_symbol_byte rest → Passes (ds ++ rest) rest
-  digits_pass [] rest h some stops = absurd (omega arith)
-  digits_pass (d ∷ ds) rest h some stops =
-      λ g at. number_step s path from ws o g at d ds rest (begins_digit d (and_parts (is_digit d) (list_all is_digit ds) h).0) (digits_symbol (d ∷ ds) h) (said_number (d ∷ ds) h) stops
+  digits_pass : (ds rest : List ℕ) → list_all is_digit ds ≡ true → 0 < length ds → Stops is_symbol_byte rest
+      → ((n : Numbering) → IsFirst s.start n.first → Fits s.start (length path) n ds rest) → Passes (ds ++ rest) rest
+  digits_pass [] rest h some stops fits = absurd (omega arith)
+  digits_pass (d ∷ ds) rest h some stops fits =
+      λ g at. let f = fits g.notes.numbering at.numbers in
+      number_step s path from ws o g at d ds rest (begins_digit d (and_parts (is_digit d) (list_all is_digit ds) h).0) (digits_symbol (d ∷ ds) h) (said_number (d ∷ ds) h) stops f.0 f.1 f.2
 
-  -- the number of a move
-  number_passes : (st : Start) (rest t : List ℕ) → Same (number_text st ++ rest) t → (back : List ℕ) × Same rest back × Passes t back
-  number_passes st rest t h =
+  -- the number of a move, before a text without a dot
+  number_passes : (st : Start) (rest t : List ℕ) → Counted s.start (length path) st → length path < 256 → ((u : List ℕ) → Same rest u → has_dot u ≡ false)
+      → Same (number_text st ++ rest) t → (back : List ℕ) × Same rest back × Passes t back
+  number_passes st rest t counted depth dotless h =
       let n = decimal st.number in
       let dots = move_dots st.position.to_move in
       let c = word_cut n (dots ++ rest) t (decimal_ink st.number) (subst (λ (x : List ℕ). Same x t) (append_assoc n dots rest) h) in
@@ -156,7 +162,8 @@ module _ (s : PlainStudy) (path : List ℕ) (from : ℕ) (ws : List Waiting) (o 
         d.rest,
         passes_text t (n ++ c.back) d.back c.text
             (passes_on (n ++ c.back) c.back d.back
-            (digits_pass n c.back (decimal_digits st.number) (decimal_some st.number) (subst (λ (x : List ℕ). Stops is_symbol_byte x) (sym d.text) (dots_stop st.position.to_move d.back)))
+            (digits_pass n c.back (decimal_digits st.number) (decimal_some st.number) (subst (λ (x : List ℕ). Stops is_symbol_byte x) (sym d.text) (dots_stop st.position.to_move d.back))
+            (λ m first. subst (λ (x : List ℕ). Fits s.start (length path) m n x) (sym d.text) (number_fits s.start (length path) st m d.back counted depth first (dotless d.back d.rest))))
             (passes_text c.back (dots ++ d.back) d.back d.text (dots_pass st.position.to_move d.back))),
       )
     where
@@ -223,6 +230,7 @@ pub record Node (s : PlainStudy) (f : Plain) (path : List ℕ) (st : Start) : Ty
   pub here : has_node f path ≡ true
   pub position : position_after s.start.position (moves_to f path) ≡ st.position
   pub valid : IsValid st.position
+  pub counted : Counted s.start (length path) st
 
 -- the text of a move that is new below the node, and the rest
 record Moved (s : PlainStudy) (f : Plain) (path : List ℕ) (x : Plain) (m : Move) (rest t : List ℕ) (from : ℕ) (ws : List Waiting) (o : Option Stipulation) (g : GameRead) : Type 0 where
@@ -272,7 +280,8 @@ module _ (s : PlainStudy) (f : Plain) (path : List ℕ) (st : Start) (node : Nod
       let side = other_side st.position.to_move in
       let later = comment_text side mark ++ rest in
       let regrouped = cut_words (number_text st) (move_text st.position m) (glyph_text mark.on_move) (comment_text side mark) rest in
-      let n = number_passes old path from ws o st (32 ∷ (move_text st.position m ++ (glyph_text mark.on_move ++ (32 ∷ later)))) t (subst (λ (y : List ℕ). Same y t) regrouped h) in
+      let n = number_passes old path from ws o st (32 ∷ (move_text st.position m ++ (glyph_text mark.on_move ++ (32 ∷ later)))) t node.counted depth
+      (λ u e. no_dot_before m (glyph_text mark.on_move ++ (32 ∷ later)) u legal e) (subst (λ (y : List ℕ). Same y t) regrouped h) in
       let a = space_cut (move_text st.position m ++ (glyph_text mark.on_move ++ (32 ∷ later))) n.0 n.1 in
       let w = word_cut (move_text st.position m) (glyph_text mark.on_move ++ (32 ∷ later)) a.back (move_short st.position m node.valid legal).ink a.rest in
       let gl = glyph_passes made q from ws o mark.on_move later w.back w.rest in
@@ -292,6 +301,17 @@ module _ (s : PlainStudy) (f : Plain) (path : List ℕ) (st : Start) (node : Nod
             (reached_on (b.byte ∷ b.back) b.back c.0 made made q q from from ws ws o g4 (gap_step made q from ws o g4 at4 b.byte b.back b.gap) c.2)))))));
       }
     where
+      no_dot_before : (m : Move) (later u : List ℕ) → is_legal st.position m ≡ true → Same (32 ∷ (move_text st.position m ++ later)) u → has_dot u ≡ false
+      no_dot_before m later u legal e =
+          let text = symbol_is st.position m node.valid legal in
+          let short = move_short st.position m node.valid legal in
+          let ink : Ink (text.first ∷ text.rest) = subst (λ (w : List ℕ). Ink w) text.text short.ink in
+          let a = space_cut (move_text st.position m ++ later) u e in
+          let w = word_cut (move_text st.position m) later a.back short.ink a.rest in
+          let is : u ≡ a.byte ∷ text.first ∷ (text.rest ++ w.back) =
+          a.text ∙ ap (λ (x : List ℕ). a.byte ∷ x) (w.text ∙ ap (λ (x : List ℕ). x ++ w.back) text.text) in
+          subst (λ (x : List ℕ). has_dot x ≡ false) (sym is) (no_dot a.byte text.first (text.rest ++ w.back) a.gap text.begins ink.0 ink.1)
+
       cut_words : (a b c d e : List ℕ) → (a ++ (32 ∷ (b ++ (c ++ (32 ∷ d))))) ++ e ≡ a ++ (32 ∷ (b ++ (c ++ (32 ∷ (d ++ e)))))
       cut_words a b c d e = simp append_assoc
 
@@ -364,13 +384,14 @@ first_others m (more n l b r) h = (one_place m n (false_from_ne_true (same_move 
 
 -- the child of a node that was just made
 child_node : (s : PlainStudy) (f : Plain) (path : List ℕ) (st : Start) (x : Plain) (k : ℕ) (m : Move) → Node s f path st → is_legal st.position m ≡ true
-    → has_node x (k ∷ []) ≡ true → moves_to x (k ∷ []) ≡ m ∷ [] → Node s (put f path x) (path ++ k ∷ []) (start_after st m)
+    → length path < 256 → has_node x (k ∷ []) ≡ true → moves_to x (k ∷ []) ≡ m ∷ [] → Node s (put f path x) (path ++ k ∷ []) (start_after st m)
 unfolding start_after
-child_node s f path st x k m node legal has moves = record {
+child_node s f path st x k m node legal depth has moves = record {
   here = put_has x f path (k ∷ []) node.here ∙ has;
   position = ap (position_after s.start.position) (put_moves x f path (k ∷ []) node.here ∙ ap (λ (ms : List Move). moves_to f path ++ ms) moves)
       ∙ position_on s.start.position (moves_to f path) (m ∷ []) ∙ ap (λ (p : Position). after p m) node.position;
   valid = IsValid-after st.position m node.valid legal;
+  counted = subst (λ (n : ℕ). Counted s.start n (start_after st m)) (sym (length-append path (k ∷ []))) (counted_on s.start (length path) st m node.counted legal depth);
 }
 
 follow_none : FollowOk none
@@ -433,7 +454,7 @@ module _ (m : Move) (mark : Mark) (b r : Forest Mark) (fb : FollowOk b) (vr : Va
       let va = vr s f path st from ws o d (more m tt none none) (fo ++ rest) mv.back node playable.2 distinct.2 (first_others m (plainly r) distinct.0) vl mv.same mv.reached.next mv.reached.at in
       let tree1 : put f path (beside (more m tt none none) (plainly r)) ≡ f2 = ap (put f path) (first_beside m (plainly r)) in
       let hole : f2 ≡ put f2 q none = sym (put_put y f path (0 ∷ []) none node.here ∙ ap (put f path) (first_put m (plainly r) none)) in
-      let child = child_node s f path st y 0 m node playable.0 refl refl in
+      let child = child_node s f path st y 0 m node playable.0 (omega (arith, dd.1)) refl refl in
       let many = put_nodes y f path node.here in
       let same_nodes : nodes_in (put f2 q none) ≡ nodes_in f2 = ap (λ (z : Plain). nodes_in z) (sym hole) in
       let begun = limits.begun in
@@ -520,7 +541,7 @@ module _ (m : Move) (mark : Mark) (b : Forest Mark) (fb : FollowOk b) (s : Plain
       let more_nodes = last_nodes x m in
       let same_nodes : nodes_in (put f2 q none) ≡ nodes_in f2 = ap (λ (z : Plain). nodes_in z) (sym hole) in
       let limits : Limits f2 q none (plainly b) (length path) ws d = record { deep = omega arith; within = within; room = omega arith; begun = omega arith; few = omega arith } in
-      let child = child_node s f path st y k m node legal (last_has x m) (last_moves x m) in
+      let child = child_node s f path st y k m node legal (omega arith) (last_has x m) (last_moves x m) in
       let r = fb s f2 q (start_after st m) (length path) ws o d rest text child (subst (λ (p : Position). IsPlayable p (plainly b)) (sym (start_position st m)) playable) distinct
       limits h g (retold s f2 (put f2 q none) q q (length path) ws o g hole refl at) in
       let made : put f2 q (plainly b) ≡ put f path (beside x (more m tt (plainly b) none)) =

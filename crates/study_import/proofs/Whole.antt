@@ -5,12 +5,13 @@ use Rattle.std.specs.List.{prefix_len}
 use Rattle.study_games.specs.declared.token.TokenFault.TheVariants.{OpenComment, TagForm, OpenString, Byte}
 use Rattle.study_games.specs.declared.header.HeaderFault.{HeaderFault}
 use Rattle.study_games.specs.Bytes.{is_blank, is_gap, is_letter, is_digit, is_name_byte, is_sign, begins_symbol, is_symbol_byte, is_glyph}
-use Rattle.study_games.specs.Tokens.{Lexed, front, behind, closed, is_inside, comment_at, is_in_line, value_end, without_first, behind_value, valued, quoted, named, tag_at, lexed, blank, aside, opening, closing, star, tag, comment, rest, sign, symbol}
+use Rattle.study_games.specs.Tokens.{Token, Lexed, front, behind, closed, is_inside, comment_at, is_in_line, value_end, without_first, behind_value, valued, quoted, named, tag_at, lexed, blank, aside, opening, closing, star, tag, comment, rest, sign, symbol}
 use Rattle.study_games.specs.Header.{Pair, Step, on, no_tag, ended, step_of, with_tags, tags_in, with_fault, fault_in}
 use Rattle.study_import.specs.declared.taking.Reason.{Reason}
 use Rattle.study_import.specs.declared.movetext.MovesFault.{MovesFault}
 use Rattle.study_import.specs.Notes.{GameRead, GameTaken, game_taken}
-use Rattle.study_import.specs.Movetext.{Ended, goes_on, on_token, read_moves}
+use Rattle.study_import.specs.declared.numbering.Numbering.{Numbering}
+use Rattle.study_import.specs.Movetext.{Ended, goes_on, game_numbered, with_numbering, on_numbered, on_token, read_moves}
 
 -- after a token there are at most so many bytes
 abbrev pub Within : ℕ → Lexed → Type 0
@@ -93,10 +94,15 @@ same_on : (p q : GameRead → Result Ended MovesFault) (left : ℕ) (behind : Li
 same_on p q left behind (Err why) h = refl
 same_on p q left behind (Ok t) h = same_if t.ended _ (p t.game) (q t.game) (h t.game)
 
+same_numbered : (p q : GameRead → Result Ended MovesFault) (left : ℕ) (g : GameRead) (t : Token) (behind : List ℕ) (s : Option Numbering)
+    → ((h : GameRead) → p h ≡ q h) → on_numbered p left g t behind s ≡ on_numbered q left g t behind s
+same_numbered p q left g t behind None h = refl
+same_numbered p q left g t behind (Some s) h = same_on p q left behind (game_taken (with_numbering g s) t) h
+
 pub same_token : (p q : List ℕ → GameRead → Result Ended MovesFault) (left n : ℕ) (g : GameRead) (x : Lexed) → Within n x
     → ((bs : List ℕ) (h : GameRead) → length bs ≤ n → p bs h ≡ q bs h) → on_token p left g x ≡ on_token q left g x
 same_token p q left n g (Err fault) w h = refl
-same_token p q left n g (Ok x) w h = same_on (p x.1) (q x.1) left x.1 (game_taken g x.0) (λ k. h x.1 k w)
+same_token p q left n g (Ok x) w h = same_numbered (p x.1) (q x.1) left g x.0 x.1 (game_numbered g x.0 x.1) (λ k. h x.1 k w)
 
 pub moves_same : (n m : ℕ) (fresh : Bool) (text : List ℕ) (g : GameRead) → length text ≤ n → length text ≤ m → read_moves n fresh text g ≡ read_moves m fresh text g
 moves_same zero zero fresh text g h k = refl

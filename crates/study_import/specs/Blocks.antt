@@ -1,5 +1,6 @@
 -- The text written for a game.
-use Rattle.std.specs.Prelude.{ℕ, ◌+◌, ◌-◌, ◌^◌, min, Bool, true, false, not, ◌&&◌, ◌||◌, ◌==◌, nat_le, List, [], ◌∷◌, ◌++◌, length, take, drop, map, codes, decimal, count_by}
+use Rattle.std.specs.Prelude.{ℕ, ◌+◌, ◌-◌, ◌^◌, min, Bool, true, false, not, ◌&&◌, ◌||◌, ◌==◌, nat_le, List, [], ◌∷◌, ◌++◌, length, take, drop, map}
+use Rattle.std.specs.Prelude.{codes, decimal, count_by}
 use Rattle.std.specs.Prelude.{Option, Some, None, Result, Ok, Err, if◌then◌else◌}
 use Rattle.std.specs.List.{flat_map}
 use Rattle.std.specs.Str.{bytes_eq}
@@ -112,6 +113,7 @@ abbrev pub stop_name : Stop → List ℕ
 stop_name (stop.Token fault) = token_name fault
 stop_name (stop.Taking why) = reason_name why
 stop_name stop.OpenVariation = codes "OpenVariation"
+stop_name stop.Numbering = codes "Numbering"
 stop_name stop.BehindResult = codes "BehindResult"
 
 -- a move that cannot be read is reported with its symbol, 40 bytes at most

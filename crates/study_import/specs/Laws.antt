@@ -15,7 +15,8 @@ use Rattle.study_games.specs.Header.{Pair, tags_in, fault_in, tags_of, header_fa
 use Rattle.study_games.specs.Games.{Game, games_of, games_from, one_more}
 use Rattle.study_games.specs.Laws.{number_behind, EndsWithMoves, BeginsWithTag, lines_of}
 use Rattle.study_import.specs.declared.importer.Choice.{Choice}
-use Rattle.study_import.specs.Blocks.{Tally, is_chosen, tallied, told_text, blocks, no_moves, game_read, tag_value_text, Entry, Told, block_lines, tail_of, tail_line, under_remark, block_by}
+use Rattle.study_import.specs.Blocks.{Tally, is_chosen, tallied, told_text, blocks, no_moves, game_read, tag_value_text, Entry, Told, block_lines}
+use Rattle.study_import.specs.Blocks.{tail_of, tail_line, under_remark, block_by}
 use Rattle.study_import.specs.Insertions.{Leads, AllReadAgain}
 use Rattle.study_import.specs.declared.aims.Aim.{Aim}
 use Rattle.study_import.specs.declared.lines.LineFault.TheVariants as line_fault

@@ -3,6 +3,7 @@ pub mod Moves
 pub mod Reading
 pub mod Taken
 pub mod Aims
+pub mod Numbering
 pub mod Notes
 pub mod Movetext
 pub mod MovesRead

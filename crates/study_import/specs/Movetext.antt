@@ -1,11 +1,13 @@
 -- The moves of a game, token by token.
-use Rattle.std.specs.Prelude.{ℕ, zero, suc, Bool, ◌==◌, List, [], ◌∷◌, length, Result, Ok, Err, if◌then◌else◌}
+use Rattle.std.specs.Prelude.{ℕ, zero, suc, Bool, ◌==◌, nat_le, List, [], ◌∷◌, length, Option, Some, None, Result, Ok, Err, if◌then◌else◌}
 use Rattle.study_import.specs.declared.taking.Reason.{Reason}
 use Rattle.study_import.specs.declared.movetext.MovesFault.{MovesFault}
 use Rattle.study_import.specs.declared.movetext.Stop.{Stop}
 use Rattle.study_import.specs.declared.movetext.Stop.TheVariants as stop
 use Rattle.study_import.specs.Notes.{GameRead, GameTaken, game_taken}
-use Rattle.study_games.specs.Tokens.{Lexed, lexed}
+use Rattle.study_import.specs.declared.numbering.Numbering.{Numbering}
+use Rattle.study_import.specs.Numbering.{token_numbered}
+use Rattle.study_games.specs.Tokens.{Token, Lexed, lexed}
 
 -- the state after reading, and the text after the result
 pub record Ended : Type 0 where
@@ -23,9 +25,22 @@ abbrev pub goes_on : (GameRead → Result Ended MovesFault) → ℕ → List ℕ
 goes_on next left behind (Err why) = fault_at (stop.Taking why) left
 goes_on next left behind (Ok t) = if t.ended then Ok (record { game = t.game; behind = behind }) else next t.game
 
+-- the numbering after a token, before the text behind it; None: it is a number that does not fit. After a null move of its line a number is ignored
+abbrev pub game_numbered : GameRead → Token → List ℕ → Option Numbering
+game_numbered g token behind =
+    if nat_le 1 g.reading.lines.cut then Some g.notes.numbering
+    else token_numbered g.reading.study.start.position.to_move (length g.reading.lines.path) g.notes.numbering token behind
+
+abbrev pub with_numbering : GameRead → Numbering → GameRead
+with_numbering g s = record { reading = g.reading; notes = record g.notes { numbering = s } }
+
+abbrev pub on_numbered : (GameRead → Result Ended MovesFault) → ℕ → GameRead → Token → List ℕ → Option Numbering → Result Ended MovesFault
+on_numbered next left g token behind None = fault_at stop.Numbering left
+on_numbered next left g token behind (Some s) = goes_on next left behind (game_taken (with_numbering g s) token)
+
 abbrev pub on_token : (List ℕ → GameRead → Result Ended MovesFault) → ℕ → GameRead → Lexed → Result Ended MovesFault
 on_token next left g (Err fault) = fault_at (stop.Token fault) left
-on_token next left g (Ok x) = goes_on (next x.1) left x.1 (game_taken g x.0)
+on_token next left g (Ok x) = on_numbered (next x.1) left g x.0 x.1 (game_numbered g x.0 x.1)
 
 -- at most n tokens are read, and each has at least one byte, so that a text's length is enough. A fault is reported by the number of bytes left
 abbrev pub read_moves : ℕ → Bool → List ℕ → GameRead → Result Ended MovesFault

@@ -28,6 +28,7 @@ none_yet = record {
   has_comment = false;
   opening = None;
   outcome = None;
+  numbering = record { first = None };
 }
 
 -- a token other than a tag, a blank and a comment ends the header

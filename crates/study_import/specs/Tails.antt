@@ -1,5 +1,6 @@
 -- A tail of a game: the game from a position that a comment of its main line states.
-use Rattle.std.specs.Prelude.{◌≡◌, ℕ, zero, suc, ◌-◌, Bool, true, false, ◌&&◌, ◌==◌, List, [], ◌∷◌, ◌++◌, length, take, map, codes, Option, Some, None, Result, Ok, Err, if◌then◌else◌}
+use Rattle.std.specs.Prelude.{◌≡◌, ℕ, zero, suc, ◌-◌, Bool, true, false, ◌&&◌, ◌==◌, List, [], ◌∷◌, ◌++◌, length, take, map, codes, Option, Some}
+use Rattle.std.specs.Prelude.{None, Result, Ok, Err, if◌then◌else◌}
 use Rattle.std.specs.Str.{bytes_eq}
 use Rattle.study_board.specs.declared.men.Side.TheVariants.{White}
 use Rattle.study_notation.specs.declared.start.Start.{Start}
@@ -49,7 +50,7 @@ abbrev pub is_mate_tag : List ℕ → List ℕ → Bool
 is_mate_tag name value = bytes_eq name (codes "Stipulation") && says_mate (aim_of_tag (unescaped value) White)
 
 abbrev pub part_said : Said → Part
-part_said say.Number = part.Quiet
+part_said say.Number = part.Number
 part_said say.Aside = part.Quiet
 part_said (say.Result outcome) = part.End
 part_said say.NullMove = part.Move
@@ -69,9 +70,10 @@ part_of (comment text) = part.Comment (says_mate (aim_in text)) (is_start (start
 
 -- ---- the action for a token
 
--- before the first move all is kept, except for a mate in so many moves
+-- before the first move all is kept, except for a mate in so many moves and for the number of that move
 abbrev pub act_before : Part → Act
 act_before part.Quiet = act.Keep
+act_before part.Number = act.Blank
 act_before (part.Tag is_mate) = if is_mate then act.Blank else act.Keep
 act_before (part.Comment is_mate is_position) = if is_mate then act.Blank else act.Keep
 act_before part.Move = act.Skip
@@ -80,6 +82,7 @@ act_before other = act.Stop
 -- before the position, and in variations; main: this is the main line
 abbrev pub act_among : Bool → Part → Act
 act_among main part.Quiet = act.Blank
+act_among main part.Number = act.Blank
 act_among main (part.Tag is_mate) = act.Stop
 act_among main (part.Comment is_mate is_position) = if main && is_position then act.Name else act.Blank
 act_among main part.Move = act.Skip
@@ -90,6 +93,7 @@ act_among main part.End = if main then act.Stop else act.Blank
 -- after the position, variations replace the move that led to it, up to the next move
 abbrev pub act_behind : Part → Act
 act_behind part.Quiet = act.Keep
+act_behind part.Number = act.Keep
 act_behind (part.Comment is_mate is_position) = act.Keep
 act_behind part.Open = act.Deepen
 act_behind part.Move = act.Begin

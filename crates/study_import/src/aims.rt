@@ -3,8 +3,10 @@ ghost use Rattle.std.specs.Prelude.{◌≡◌};
 ghost use Rattle.std.specs.Option.{option_map};
 ghost use Rattle.study_games.specs.Words.{first_word};
 ghost use Rattle.study_command.specs.Parser.{mate_moves_of};
-ghost use Rattle.study_import.specs.Aims.{ends_with_colon, last_of_phrase, hero_of, goal_named, moves_in, moves_behind_in, mate_goal, goal_in, goal_behind_to, aim_in};
-ghost use Rattle.study_import.specs.Aims.{mate_tag, says_win, says_draw, aim_of_text, aim_of_tag, aim_of_outcome, outcome_of_text, outcome_of_tag, source_words};
+ghost use Rattle.study_import.specs.Aims.{ends_with_colon, last_of_phrase, hero_of, goal_named, moves_in, moves_behind_in, mate_goal, goal_in};
+ghost use Rattle.study_import.specs.Aims.{goal_behind_to, aim_in};
+ghost use Rattle.study_import.specs.Aims.{mate_tag, says_win, says_draw, aim_of_text, aim_of_tag, aim_of_outcome, outcome_of_text, outcome_of_tag};
+ghost use Rattle.study_import.specs.Aims.{source_words};
 
 use study_board::Side;
 use study_command::read_place;

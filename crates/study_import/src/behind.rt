@@ -49,7 +49,8 @@ fn is_of_moves(token: Token<'_>) -> bool
     }
 }
 
-fn without_first(text: &[u8]) -> &[u8]
+/// The text without its first byte.
+pub fn without_first(text: &[u8]) -> &[u8]
     ensures { result.now ≡ without_first text.now }
 {
     match text {

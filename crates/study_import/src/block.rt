@@ -12,8 +12,10 @@ ghost use Rattle.study_games.specs.Games.{game_seen};
 ghost use Rattle.study_games.specs.Header.{tags_of, header_fault, value_of};
 ghost use Rattle.study_import.specs.Notes.{game_of};
 ghost use Rattle.study_import.specs.Aims.{source_words, from_source, or_aim, aim_of_result};
-ghost use Rattle.study_import.specs.Blocks.{entry_seen, repeated_moves, place_words, behind_line, side_text, goal_text, stipulation_line, head_line, position_line, counts_line, counted_words, other_tags, remark_lines, study_lines, block_lines};
-ghost use Rattle.study_import.specs.Blocks.{tag_aim, result_of, aim_of_game, told_seen, aimed_block, stopped_block, read_block, no_moves, game_read, at_most, men_in, no_study, left_out, fen_words, start_block, fen_in, fen_block, header_block, block_of};
+ghost use Rattle.study_import.specs.Blocks.{entry_seen, repeated_moves, place_words, behind_line, side_text, goal_text, stipulation_line, head_line};
+ghost use Rattle.study_import.specs.Blocks.{position_line, counts_line, counted_words, other_tags, remark_lines, study_lines, block_lines};
+ghost use Rattle.study_import.specs.Blocks.{tag_aim, result_of, aim_of_game, told_seen, aimed_block, stopped_block, read_block, no_moves, game_read};
+ghost use Rattle.study_import.specs.Blocks.{at_most, men_in, no_study, left_out, fen_words, start_block, fen_in, fen_block, header_block, block_of};
 ghost use Rattle.study_import.specs.BlocksRead.{is_of_memory, Adds};
 
 use crate::aims::{Aim, AimSource, aim_of_outcome, aim_of_tag, outcome_of_tag, source_words};

@@ -1,7 +1,8 @@
 //! Counts of what the script omits.
 ghost use Rattle.std.specs.Prelude.{◌≡◌, ◌++◌, ◌≤◌, true, map, OnOk};
 ghost use Rattle.study_games.specs.Header.{tags_of, value_of};
-ghost use Rattle.study_import.specs.Blocks.{separator, count_words, counts_words, count_seen, counted_words, counts_line, found_count, known_count, known_names, other_tags};
+ghost use Rattle.study_import.specs.Blocks.{separator, count_words, counts_words, count_seen, counted_words, counts_line, found_count, known_count};
+ghost use Rattle.study_import.specs.Blocks.{known_names, other_tags};
 
 use crate::notes::Notes;
 use crate::pieces::{Piece, add_pieces};

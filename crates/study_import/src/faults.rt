@@ -1,6 +1,7 @@
 //! The names of faults, and the lines that report them.
 ghost use Rattle.std.specs.Prelude.{◌≡◌, ◌++◌, OnOk};
-ghost use Rattle.study_import.specs.Blocks.{token_name, move_name, line_name, stop_name, symbol_words, left_out, no_study, fault_words, place_in, text_at, entry_seen, stopped_block};
+ghost use Rattle.study_import.specs.Blocks.{token_name, move_name, line_name, stop_name, symbol_words, left_out, no_study, fault_words, place_in};
+ghost use Rattle.study_import.specs.Blocks.{text_at, entry_seen, stopped_block};
 ghost use Rattle.study_import.specs.BlocksRead.{is_of_memory, Adds};
 
 use crate::lines::LineFault;
@@ -62,6 +63,7 @@ fn stop_name(why: Stop) -> &'static [u8]
         Stop::Taking(Reason::TagInMoves) => b"TagInMoves",
         Stop::Taking(Reason::NullMove) => b"NullMove",
         Stop::OpenVariation => b"OpenVariation",
+        Stop::Numbering => b"Numbering",
         Stop::BehindResult => b"BehindResult",
     }
 }

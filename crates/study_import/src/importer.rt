@@ -2,7 +2,8 @@
 ghost use Rattle.std.specs.Prelude.{◌≡◌, ◌++◌, [], ◌==◌, length, OnOk, IfOk};
 ghost use Rattle.study_games.specs.Games.{unmarked, kind_of, longer, with_next, game_seen};
 ghost use Rattle.study_import.specs.Blocks.{tallied, told_text, last_line};
-ghost use Rattle.study_import.specs.Imported.{script_of, all_games, nothing_held, still_written, still_tallied, written_of, tally_ahead, put_away, text_at_hand, TakesByte, KeepsTally, EndsLine, EndsLineTallied};
+ghost use Rattle.study_import.specs.Imported.{script_of, all_games, nothing_held, still_written, still_tallied, written_of, tally_ahead, put_away};
+ghost use Rattle.study_import.specs.Imported.{text_at_hand, TakesByte, KeepsTally, EndsLine, EndsLineTallied};
 ghost use Rattle.study_import.specs.ImportedSeen.{tally_seen};
 
 use crate::pieces::{Piece, add_pieces};

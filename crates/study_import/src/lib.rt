@@ -20,6 +20,7 @@ mod masks;
 mod moves;
 mod movetext;
 mod notes;
+mod numbering;
 mod pieces;
 mod places;
 mod reading;

@@ -4,12 +4,13 @@ ghost use Rattle.study_marks.specs.Study.{plain_study};
 ghost use Rattle.study_marks.specs.BenchState.{marked};
 ghost use Rattle.study_games.specs.Tokens.{token_seen};
 ghost use Rattle.study_import.specs.Notes.{game_of, is_header_tag, game_taken};
-ghost use Rattle.study_import.specs.Movetext.{at_end, read_moves};
+ghost use Rattle.study_import.specs.Movetext.{at_end, game_numbered, read_moves};
 ghost use Rattle.study_import.specs.MovesRead.{Ends, TakesIn};
 ghost use Rattle.study_import.specs.Behind.{to_the_end};
 
 use crate::behind::moves_in;
 use crate::notes::Notes;
+use crate::numbering::Numbering;
 use crate::reading::Reading;
 use crate::taking::Reason;
 use std::alloc::Allocator;
@@ -21,6 +22,8 @@ pub enum Stop {
     Token(TokenFault),
     Taking(Reason),
     OpenVariation,
+    /// The number of a move does not fit.
+    Numbering,
     /// There are moves behind the result.
     BehindResult,
 }
@@ -49,6 +52,24 @@ fn is_header_tag(notes: &Notes, token: Token<'_>) -> bool
 }
 
 impl<'a, A: Allocator> GameReading<'a, A> {
+    /// The numbering after a token and before the text behind it, `None` if the token is a number that does not fit.
+    fn numbered(&self, token: Token<'_>, behind: &[u8]) -> Option<Numbering>
+        ensures { let game = game_of (plain_study (marked self.now.reading.bench))
+            self.now.reading.lines.path.items self.now.reading.lines.begun
+            self.now.reading.lines.waiting.items self.now.reading.lines.cut
+            self.now.reading.inserts self.now.notes in
+            result ≡ game_numbered game (token_seen token.entry) behind.now }
+    {
+        let lines = &self.reading.lines;
+        if lines.cut >= 1 {
+            return Some(self.notes.numbering);
+        }
+        let side = self.reading.bench.start().position.to_move();
+        self.notes
+            .numbering
+            .with_token(side, lines.path.len(), token, behind)
+    }
+
     /// Takes a token. Returns whether the game ends there.
     #[tactic(auto, using(crate::proofs::TokenByToken::noted_takes))]
     fn take(&mut self, token: Token<'_>) -> Result<bool, Reason>
@@ -72,8 +93,8 @@ impl<'a, A: Allocator> GameReading<'a, A> {
         self.reading.take(token)
     }
 
+    /// The end of the text, where no variation may be open.
     fn end_text<'t>(&self, text: &'t [u8]) -> Result<&'t [u8], MovesFault>
-        requires { text.now ≡ [] }
         ensures { let game = game_of (plain_study (marked self.now.reading.bench))
             self.now.reading.lines.path.items self.now.reading.lines.begun
             self.now.reading.lines.waiting.items self.now.reading.lines.cut
@@ -81,7 +102,8 @@ impl<'a, A: Allocator> GameReading<'a, A> {
             Ends (λ t. t.now) result (at_end game) game }
     {
         if self.reading.lines.waiting.is_empty() {
-            Ok(text)
+            let (_, end) = text.split_at(text.len());
+            Ok(end)
         } else {
             Err(MovesFault {
                 why: Stop::OpenVariation,
@@ -91,7 +113,7 @@ impl<'a, A: Allocator> GameReading<'a, A> {
     }
 
     /// Reads a game from its first line up to its result or the end of the text, and returns the rest of the text.
-    pub fn read<'t>(&mut self, text: &'t [u8], fresh: bool) -> Result<&'t [u8], MovesFault>
+    pub fn read<'t>(&mut self, text: &'t [u8], mut fresh: bool) -> Result<&'t [u8], MovesFault>
         ensures { let before = game_of
             (plain_study (marked self.old.reading.bench)) self.old.reading.lines.path.items
             self.old.reading.lines.begun
@@ -104,7 +126,6 @@ impl<'a, A: Allocator> GameReading<'a, A> {
             Ends (λ t. t.now) result (read_moves (length text.now) fresh text.now before) after }
     {
         let mut rest = text;
-        let mut fresh = fresh;
         let mut fuel = text.len();
         while fuel > 0 {
             let left = rest.len();
@@ -119,6 +140,13 @@ impl<'a, A: Allocator> GameReading<'a, A> {
                     });
                 }
                 Ok(cut) => {
+                    let Some(numbering) = self.numbered(cut.token, cut.rest) else {
+                        return Err(MovesFault {
+                            why: Stop::Numbering,
+                            left,
+                        });
+                    };
+                    self.notes.numbering = numbering;
                     match self.take(cut.token) {
                         Ok(true) => return Ok(cut.rest),
                         Ok(false) => {}
@@ -135,8 +163,7 @@ impl<'a, A: Allocator> GameReading<'a, A> {
             }
             fuel -= 1;
         }
-        let (_, none) = text.split_at(text.len());
-        self.end_text(none)
+        self.end_text(text)
     }
 
     /// Reads a game, and returns the text behind its result, which has no moves.

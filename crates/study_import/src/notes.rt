@@ -7,10 +7,11 @@ ghost use Rattle.study_games.specs.Tokens.{token_seen};
 ghost use Rattle.study_import.specs.Notes.{none_yet, begun, with_aside, with_comment, with_null_move, with_move, with_result, with_said, with_sign, noted};
 
 use crate::aims::aim_in;
+use crate::numbering::Numbering;
 use study_games::{Outcome, Said, Token, say};
 use study_marks::Stipulation;
 
-/// Counts of what the script omits, and the stipulation that the game states. Counts saturate.
+/// Counts of what the script omits, the stipulation that the game states, and its first number. Counts saturate.
 #[derive(Clone, Copy)]
 pub struct Notes {
     pub comments: u32,
@@ -29,6 +30,7 @@ pub struct Notes {
     pub opening: Option<Stipulation>,
     /// The result after the moves.
     pub outcome: Option<Outcome>,
+    pub numbering: Numbering,
 }
 
 impl Notes {
@@ -47,6 +49,7 @@ impl Notes {
             has_comment: false,
             opening: None,
             outcome: None,
+            numbering: Numbering { first: None },
         }
     }
 

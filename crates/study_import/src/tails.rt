@@ -22,6 +22,8 @@ use study_text::Text;
 pub enum Part {
     /// Not a move, and without effect.
     Quiet,
+    /// Digits, as the number of a move.
+    Number,
     Move,
     Open,
     Close,
@@ -123,7 +125,8 @@ fn part_said(said: Said) -> Part
     ensures { result ≡ part_said said }
 {
     match said {
-        Said::Number | Said::Aside => Part::Quiet,
+        Said::Number => Part::Number,
+        Said::Aside => Part::Quiet,
         Said::Result(_) => Part::End,
         Said::NullMove | Said::Move => Part::Move,
     }
@@ -157,6 +160,7 @@ fn act_before(part: Part) -> Act
 {
     match part {
         Part::Quiet => Act::Keep,
+        Part::Number => Act::Blank,
         Part::Tag(is_mate) | Part::Comment(is_mate, _) => {
             if is_mate { Act::Blank } else { Act::Keep }
         }
@@ -169,7 +173,7 @@ fn act_among(main: bool, part: Part) -> Act
     ensures { result ≡ act_among main part }
 {
     match part {
-        Part::Quiet => Act::Blank,
+        Part::Quiet | Part::Number => Act::Blank,
         Part::Tag(_) => Act::Stop,
         Part::Comment(_, is_position) if main && is_position => Act::Name,
         Part::Comment(_, _) => Act::Blank,
@@ -184,7 +188,7 @@ fn act_behind(part: Part) -> Act
     ensures { result ≡ act_behind part }
 {
     match part {
-        Part::Quiet | Part::Comment(_, _) => Act::Keep,
+        Part::Quiet | Part::Number | Part::Comment(_, _) => Act::Keep,
         Part::Open => Act::Deepen,
         Part::Move | Part::End => Act::Begin,
         _ => Act::Stop,

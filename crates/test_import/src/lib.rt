@@ -4,6 +4,8 @@
 #[cfg(test)]
 mod games;
 #[cfg(test)]
+mod numbering;
+#[cfg(test)]
 mod program;
 #[cfg(test)]
 mod tails;

@@ -1,0 +1,86 @@
+-- The numbers of moves: the text of a game leaves out no move.
+use Rattle.std.specs.Prelude.{ℕ, ◌+◌, ◌/◌, ◌%◌, Bool, true, false, not, ◌&&◌, ◌||◌, ◌==◌, List, [], ◌∷◌, Option, Some, None, if◌then◌else◌}
+use Rattle.study_board.specs.declared.men.Side.{Side}
+use Rattle.study_board.specs.declared.men.Side.TheVariants.{White, Black}
+use Rattle.study_notation.specs.Fen.{digits_told}
+use Rattle.study_games.specs.Bytes.{is_blank}
+use Rattle.study_games.specs.Symbols.{said_of}
+use Rattle.study_games.specs.declared.symbols.Said.{Said}
+use Rattle.study_games.specs.declared.symbols.Said.TheVariants as say
+use Rattle.study_games.specs.Tokens.{Token, behind, without_first, symbol}
+use Rattle.study_import.specs.declared.numbering.MoveNumber.{MoveNumber}
+use Rattle.study_import.specs.declared.numbering.Numbering.{Numbering}
+
+-- ---- dots
+
+-- `…`, the three dots as one character in UTF-8
+abbrev pub begins_ellipsis : List ℕ → Bool
+begins_ellipsis (a ∷ b ∷ c ∷ bs) = a == 226 && (b == 128 && c == 166)
+begins_ellipsis other = false
+
+abbrev pub begins_dot : List ℕ → Bool
+begins_dot [] = false
+begins_dot (b ∷ bs) = b == 46
+
+-- a text that begins with a dot, or with `…`, behind blanks
+unfoldable pub has_dot : List ℕ → Bool
+has_dot text = begins_dot (behind is_blank text) || begins_ellipsis (behind is_blank text)
+
+-- with two dots or more, or with `…`: they mark Black's move
+unfoldable pub has_dots : List ℕ → Bool
+has_dots text =
+    begins_ellipsis (behind is_blank text)
+    || (begins_dot (behind is_blank text) && has_dot (without_first (behind is_blank text)))
+
+-- ---- numbers
+
+-- Black's moves among the first d half moves of a game that this side begins: the number of a move is the number of the first one and this
+abbrev pub black_moves : Side → ℕ → ℕ
+black_moves White d = d / 2
+black_moves Black d = (d + 1) / 2
+
+-- whether Black is to move after them
+abbrev pub is_black_to_move : Side → ℕ → Bool
+is_black_to_move White d = d % 2 == 1
+is_black_to_move Black d = d % 2 == 0
+
+-- two numbers of a game fit each other if they differ by Black's moves between them, as the PGN Standard counts; where Black begins, some count pairs of
+-- moves (`1. Kd5 Kd3 2. Kd4`), so that numbers may as well differ by the second moves of pairs between them. Where White begins, both are the same
+abbrev pub fit : Side → MoveNumber → MoveNumber → Bool
+fit side a b =
+    a.number + black_moves side b.depth == b.number + black_moves side a.depth || a.number + b.depth / 2 == b.number + a.depth / 2
+
+-- the first number of a game is as it is, since a game may begin at any number
+abbrev pub fits_first : Side → Option MoveNumber → MoveNumber → Bool
+fits_first side None n = true
+fits_first side (Some first) n = fit side first n
+
+abbrev pub first_or : Option MoveNumber → MoveNumber → Option MoveNumber
+first_or None n = Some n
+first_or (Some first) n = Some first
+
+-- the numbering after a number that fits; dots: it has two or more, so that White's move may not be next
+abbrev pub numbered : Side → Numbering → Bool → MoveNumber → Option Numbering
+numbered side s dots n =
+    if (is_black_to_move side n.depth || not dots) && fits_first side s.first n then Some (record { first = first_or s.first n }) else None
+
+-- ---- numbers in a text, at the node after d half moves
+
+-- a number of more than nine digits does not fit
+abbrev pub told_numbered : Side → ℕ → Numbering → Bool → Option ℕ → Option Numbering
+told_numbered side d s dots None = None
+told_numbered side d s dots (Some n) = numbered side s dots (record { number = n; depth = d })
+
+-- digits are the number of a move if a dot is behind them; others are ignored
+unfoldable pub digits_numbered : Side → ℕ → Numbering → List ℕ → List ℕ → Option Numbering
+digits_numbered side d s digits behind =
+    if has_dot behind then told_numbered side d s (has_dots behind) (digits_told 9 digits) else Some s
+
+abbrev pub said_numbered : Side → ℕ → Numbering → List ℕ → List ℕ → Said → Option Numbering
+said_numbered side d s text behind say.Number = digits_numbered side d s text behind
+said_numbered side d s text behind other = Some s
+
+-- a token before this text; None: it is a number that does not fit
+abbrev pub token_numbered : Side → ℕ → Numbering → Token → List ℕ → Option Numbering
+token_numbered side d s (symbol text) behind = said_numbered side d s text behind (said_of text)
+token_numbered side d s other behind = Some s
