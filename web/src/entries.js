@@ -4,7 +4,7 @@ import {TIME_STAMP} from './core_words.js';
 import {isKnown} from './edits.js';
 import {control, sideOf} from './fen.js';
 import {leftOutBy, originalsIn, whyLeftOut} from './imported.js';
-import {isEdit, wordsOf} from './script.js';
+import {isEdit, isPosition, wordsOf} from './script.js';
 import {bareTree} from './unmarked.js';
 import {aimText, reason} from './words.js';
 /** @typedef {import('./types.js').Study} Study @typedef {import('./types.js').Doc} Doc */
@@ -46,18 +46,12 @@ export function hasSolution(lines, s, review) {
   if (review) return !review.empty;
   return s.aim !== null && hasHeroMove(bareTree(lines.slice(s.from, s.end)), s.fen, s.aim);
 }
-/** @param {{text: string}} line */
-const isPosition = ({text}) => wordsOf(text)[0] === 'position';
 /**
- * The first line of a study that was refused: its verdict is not that of the entry then. Lines behind a position that
- * was refused are of another entry.
+ * The first line of a study that was refused: its verdict is not that of the entry then.
  * @param {Doc} doc
  * @param {Study} s
  */
-export function unreadIn(doc, s) {
-  const first = doc.refused.find(r => s.from < r.line && r.line < s.end && isEdit(r.text));
-  return first && !isPosition(first) ? first : undefined;
-}
+export const unreadIn = (doc, s) => doc.refused.find(r => s.from < r.line && r.line < s.end && isEdit(r.text));
 /**
  * What is said of a study by one word and more: its verdict, but where a line of it was not read, where no move of the
  * solution was given, or where only time is lost.
@@ -133,7 +127,7 @@ export function entriesOf(doc, reviews = []) {
       review: reviews[at] || null
     };
   });
-  const refused = doc.refused.filter(isPosition).map(r => {
+  const refused = doc.refused.filter(r => isPosition(r.text)).map(r => {
     const {Event = '', White = '', Round = ''} = tagsAfter(doc.lines, r.line);
     return missing(r.line,
       isKnown(Event)     ? Event

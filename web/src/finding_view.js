@@ -83,7 +83,7 @@ function chooseClass(name) {
   state.chosen = true;
 }
 function formView() {
-  const {here} = state, takesNumber = form.theme.endsWith('N');
+  const {here} = state, takesNumber = form.theme.endsWith('N'), narrowed = !form.theme.startsWith('longest');
   return h('div', {class: 'row'},
     choice('findClass', 'The men', CLASSES.map(name => [name, name]), form.name, chooseClass),
     here && here !== form.name &&
@@ -96,17 +96,20 @@ function formView() {
     choice('findTheme', 'What is sought', THEMES, form.theme,
       value => {
         form.theme = value;
+        showFinding();
       }),
     takesNumber &&
       field('findN', 'How many only moves in a row, 1 to 12', 'n', {type: 'number', min: 1, max: 12, class: 'num'}),
-    choice('findSide', 'The side to move',
-      [['', 'either side to move'], ['white', 'White to move'], ['black', 'Black to move']], form.side,
-      value => {
-        form.side = value;
-      }),
-    field('findSquares', 'Squares, as Kf7 or Pa2-h4, small letters for Black; the board is turned as it fits',
-      'squares', {placeholder: 'squares', size: 14}),
-    form.theme !== 'zugzwang' && !form.theme.startsWith('longest') &&
+    narrowed &&
+      choice('findSide', 'The side to move',
+        [['', 'either side to move'], ['white', 'White to move'], ['black', 'Black to move']], form.side,
+        value => {
+          form.side = value;
+        }),
+    narrowed &&
+      field('findSquares', 'Squares, as Kf7 or Pa2-h4, small letters for Black; the board is turned as it fits',
+        'squares', {placeholder: 'squares', size: 14}),
+    narrowed && form.theme !== 'zugzwang' &&
       h('label', {class: 'note'}, h('input', {
         type: 'checkbox',
         id: 'findQuiet',
@@ -124,12 +127,12 @@ function find() {
     Object.assign(state, {search: null, fault: 'the number of only moves in a row is 1 to 12'});
     return showFinding();
   }
-  const quiet =
-    form.quiet && form.theme !== 'zugzwang' && !form.theme.startsWith('longest') ? 'no-capture no-check' : '';
+  const narrowed = !form.theme.startsWith('longest'),
+        quiet = form.quiet && form.theme !== 'zugzwang' ? 'no-capture no-check' : '';
   const wanted = {
     name: form.name,
     theme: form.theme.replace('N', form.n),
-    filters: [form.side, quiet, form.squares.trim()].filter(Boolean).join(' '),
+    filters: narrowed ? [form.side, quiet, form.squares.trim()].filter(Boolean).join(' ') : '',
     most: MOST
   };
   const shown = `${wanted.name} ${wanted.theme}`, lacking = manMissing(wanted.name, wanted.filters);
@@ -166,7 +169,8 @@ function soFar() {
 }
 /** @param {Found} found */
 function linesOf(found) {
-  const {fen, value} = opened(found), won = winner(sideOf(fen), value), hero = (won || 'White').toLowerCase();
+  const {fen, value} = opened(found), won = winner(sideOf(fen), value);
+  const hero = (won || (found.key ? sideOf(fen) : 'White')).toLowerCase();
   return toText([
     `position ${fen}`, `stipulate ${hero} ${won ? 'win' : 'draw'}`, ...(found.key ? [`insert root ${found.key}`] : [])
   ]);

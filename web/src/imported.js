@@ -39,6 +39,7 @@ const FAULTS = /** @type {Record<string, string>} */ ({
   TagForm: 'a tag that is not written as [Name "text"]',
   OpenString: 'a tag whose text is not closed in its line',
   TagInMoves: 'a tag among the moves',
+  Numbering: 'a move number that does not fit',
   NullMove: 'a null move in the main line',
   BehindResult: 'moves behind the result',
   Byte: 'a letter that begins no move',
@@ -88,17 +89,23 @@ export const leftOut = lines => /** @type {LeftOut[]} */ (lines.map(leftOutBy).f
  * @param {string[]} lines
  */
 export const withoutAim = lines => leftOut(lines).filter(game => game.why === 'NoStipulation').length;
+/** @param {LeftOut[]} games */
+function firstLeftOut(games) {
+  const MOST = 5, first = games.slice(0, MOST).map(game => `${placeOf(game)}: ${whyLeftOut(game)}`);
+  return first.join('; ') + (games.length > MOST ? `; and ${games.length - MOST} more` : '');
+}
 /**
- * How many games and studies there were, and the first of those that were left out, with the reason.
+ * How many games and studies there were. A game that was left out is named with the reason; of several beside studies only
+ * their number, since the list has a row for each.
  * @param {string[]} lines
  */
 export function importNote(lines) {
-  const counts = lines.map(line => COUNTS.exec(line)).find(Boolean), out = leftOut(lines), MOST = 5;
+  const counts = lines.map(line => COUNTS.exec(line)).find(Boolean), out = leftOut(lines);
   if (!counts) return '';
-  const first = out.slice(0, MOST).map(game => `${placeOf(game)}: ${whyLeftOut(game)}`),
-        more = out.length > MOST ? `; and ${out.length - MOST} more` : '';
+  const listed = Number(counts[2]) > 0 && out.length > 1,
+        which = listed ? `${out.length} games, each with its reason in the list` : firstLeftOut(out);
   return `${counted(Number(counts[1]), 'game')}, ${counted(Number(counts[2]), 'study', 'studies')}.` +
-    (out.length ? ` Left out: ${first.join('; ')}${more}.` : '');
+    (out.length ? ` Left out: ${which}.` : '');
 }
 /**
  * The lines of an import as a document: without the counts at its end, which the next change would make wrong.

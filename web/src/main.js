@@ -13,6 +13,7 @@ import {close as closeFinding, openFinding, startFinding} from './finding_view.j
 import {makeCore} from './engine.js';
 import {back, forth, listenToKeys} from './keys.js';
 import {savedGames} from './notes.js';
+import {unreadIn} from './entries.js';
 import {fensOf, gameLines, toText, savedScript} from './script.js';
 import {begin, closeSetup, judgeDraft, openSetup} from './setup.js';
 import {bytesOf} from './packed.js';
@@ -123,7 +124,17 @@ on('saveScript', () => work(async () => {
   const classes = await services.tables.classesOf(fensOf(doc().lines)).catch(() => []);
   download(fileName('.script'), savedScript(doc(), classes));
 }));
-on('savePgn', () => download(fileName('.pgn'), savedGames(doc())));
+/** What is saved of a study with a refused line has the verdict of what was read of it. */
+function sayUnread() {
+  const n = doc().studies.filter(s => unreadIn(doc(), s)).length;
+  if (n)
+    say('board', `${counted(n, 'study', 'studies')} not read to the end: what was read is saved, with its verdict.`);
+  services.show();
+}
+on('savePgn', () => {
+  download(fileName('.pgn'), savedGames(doc()));
+  sayUnread();
+});
 addEventListener('beforeprint', () => {
   for (const more of /** @type {NodeListOf<HTMLElement>} */ (document.querySelectorAll('button.more'))) more.click();
 });
@@ -136,7 +147,10 @@ const saveReport = () => work(async () => {
   const {lines} = doc();
   await services.tables.load(await services.tables.classesOf(fensOf(lines)), services.facts);
   const answer = await services.facts.answer('report', toText(gameLines(doc())), PAGES);
-  if (answer.ended === 'done') return download(fileName('.html'), answer.text);
+  if (answer.ended === 'done') {
+    download(fileName('.html'), answer.text);
+    return sayUnread();
+  }
   say('board', `No report: ${reason(refusalIn(answer))}.`);
   show();
 });

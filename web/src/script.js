@@ -24,6 +24,8 @@ export const isQuestion = line => /^ *(mark|moves|fen|solve|pgn)( |$)/.test(line
 export const isCommand = line =>
   isTableLine(line) || isQuestion(line) || /^ *(position|stipulate|tag|insert|delete|promote|shift)( |$)/.test(line);
 /** @param {string} line */
+export const isPosition = line => /^ *position( |$)/.test(line);
+/** @param {string} line */
 export const isEdit = line => !isSilent(line) && !isTableLine(line) && !isQuestion(line);
 /** @param {string} text */
 export const linesOf = text => {
@@ -103,9 +105,21 @@ export function readScript(lines, sent, replies) {
   });
   for (const study of script.studies) withRemarks(lines, study);
   script.studies.forEach((study, i) => {
-    study.end = script.studies[i + 1] ? script.studies[i + 1].head : lines.length;
+    study.end = endOf(script, study, script.studies[i + 1] ? script.studies[i + 1].head : lines.length);
   });
   return script;
+}
+/**
+ * The end of a study: the head of the next one, or that of an entry between them whose position was refused.
+ * @param {Script} script
+ * @param {Study} study
+ * @param {number} next
+ */
+function endOf({lines, refused}, study, next) {
+  const faulty = refused.find(r => study.from < r.line && r.line < next && isPosition(r.text));
+  let end = faulty ? faulty.line : next;
+  while (faulty && /^ *#/.test(lines[end - 1])) end--;
+  return end;
 }
 /**
  * The remarks right above a position are the study's.
@@ -141,6 +155,7 @@ function applyReply(script, carried, {text, line}, reply) {
   const [command, name] = wordsOf(text), study = script.studies[script.studies.length - 1];
   if (reply.startsWith('error ')) {
     if (line >= 0) script.refused.push({line, text, reply});
+    if (command === 'position') Object.assign(carried, {aim: null, tags: {}});
   } else if (command === 'position') {
     script.studies.push(newStudy(line, reply.slice(9), carried));
   } else if (study && command === 'pgn') {

@@ -17,7 +17,19 @@ function selfContained(lines, study, names) {
   const aim = study.aim && study.place.aim === undefined ? ['stipulate ' + aimWords(study.aim)] : [];
   const tags = names.filter(name => study.place[name] === undefined)
                  .map(name => `tag ${name} ${isKnown(study.tags[name]) ? study.tags[name] : unknown(name)}`);
-  return [...own.slice(0, at), ...aim, ...tags, ...own.slice(at)];
+  const behind = study.place.aim === undefined ? at : study.place.aim - study.head + 1;
+  return [...own.slice(0, at), ...aim, ...own.slice(at, behind), ...tags, ...own.slice(behind)];
+}
+/**
+ * The lines of entries behind a study whose positions were refused, which go with it.
+ * @param {string[]} lines
+ * @param {Study[]} studies
+ * @param {Study} study
+ */
+function entriesBehind(lines, studies, study) {
+  const next = studies[studies.indexOf(study) + 1], rest = lines.slice(study.end, next ? next.head : lines.length);
+  while (rest.length && !rest[rest.length - 1].trim()) rest.pop();
+  return rest.length ? ['', ...rest] : [];
 }
 /**
  * @param {string[]} lines
@@ -26,7 +38,8 @@ function selfContained(lines, study, names) {
  */
 function inOrder(lines, studies, order) {
   const names = TAGS.filter(name => studies.some(s => isKnown(s.tags[name])));
-  const blocks = order.map(study => selfContained(lines, study, names));
+  const blocks = order.map((study, i) => [...selfContained(lines, study, names),
+                             ...(order.lastIndexOf(study) === i ? entriesBehind(lines, studies, study) : [])]);
   return [...lines.slice(0, studies[0].head), ...blocks.flatMap((block, i) => (i ? ['', ...block] : block))];
 }
 /**

@@ -5,7 +5,7 @@ import {change, goStudy} from './actions.js';
 import {app, doc} from './state.js';
 import {dropStudy, tidy} from './edits.js';
 import {copyStudy, moveStudy} from './study_edits.js';
-import {numbersOf} from './entries.js';
+import {numbersOf, unreadIn} from './entries.js';
 import {table} from './review_view.js';
 import {messageAt} from './head_view.js';
 import {diagramView} from './diagram.js';
@@ -61,7 +61,8 @@ function scriptView(s) {
     h('div', {class: 'row'},
       button('Run the script', 'take the text as it stands', () => openText(script.value), {id: 'runScript'}),
       s && app.view &&
-        button('Tidy', 'write this study anew in its shortest form',
+        button(unreadIn(doc(), s) ? 'Tidy, without the refused lines' : 'Tidy',
+          'write this study anew in its shortest form',
           () => change(
             now => (app.view && now.studies[now.at] ? tidy(now.lines, now.studies[now.at], app.view.root) : null),
             'script'),

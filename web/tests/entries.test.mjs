@@ -32,11 +32,12 @@ test('each entry has a row and a stamp', () => {
   assert.deepEqual(rows.map(r => [r.kind, r.title, r.author, r.stamp]), [
     ['time', 'A, "first"', 'Reti', 'sound but for loss of time'], ['holds', 'B', 'Reti', 'holds'],
     ['left out', '', 'Kasparyan, G.', 'left out: not six fields, and not four'],
-    ['left out', 'game 9 of the PGN, line 3', '', 'left out: 7 men'], ['not read', 'B', 'Reti', 'not read: Kz9']
+    ['left out', 'game 9 of the PGN, line 3', '', 'left out: 7 men'],
+    ['not read', 'Kh8 Pc6 / Ka6 Ph5', '', 'not read: Kz9']
   ]);
   assert.deepEqual(countsOf(rows), [['time', 1], ['holds', 1], ['not read', 1], ['left out', 2]]);
   assert.equal(stampOf(d, d.studies[0], null).text, 'unsound 1');
-  assert.deepEqual(d.studies.map(s => hasSolution(d.lines, s, null)), [true, false, true]);
+  assert.deepEqual(d.studies.map(s => hasSolution(d.lines, s, null)), [true, false, false]);
   assert.equal(nameOf({...d.studies[0], originals: {White: 'Réti'}}, 'White'), 'Réti');
 });
 test('a game that was left out has its title and its author, where remarks behind it have them', () => {
@@ -67,7 +68,7 @@ test('studies that are copied and moved stand alone', () => {
   assert.deepEqual(
     moved.lines.slice(0, 5), ['position ' + FEN, 'stipulate white win', 'tag White Reti', 'tag Event B', 'pgn']);
   assert.equal(copied.at, 2);
-  assert.equal(copied.lines.filter(l => l === 'tag Event B').length, 3);
+  assert.equal(copied.lines.filter(l => l === 'tag Event B').length, 2);
 });
 test('a diagram is turned, and its moves with it', async () => {
   assert.ok(isTurn('mirror') && !isTurn('x'));
@@ -95,4 +96,30 @@ test('a diagram is turned, and its moves with it', async () => {
   });
   assert.deepEqual(kept, {lines: ['insert root Kg2'], fallen: [{san: 'Kh3', below: 1}]});
   assert.deepEqual(lengths, [3, 1]);
+});
+test('a study that is moved takes its tags behind its stipulation', () => {
+  const lines =
+          ['position ' + FEN, 'stipulate white win', 'tag White A', '', 'position ' + FEN, 'stipulate white draw'],
+        sent = lines.map((text, line) => ({text, line})).filter(({text}) => text),
+        script = readScript(lines, sent,
+          ['position ' + FEN, 'stipulate White to win', 'tag White', 'position ' + FEN, 'stipulate White to draw']);
+  const first = moveStudy(lines, [...script.studies.slice(0, 1), {...script.studies[1], tags: {White: 'B'}}], 1, -1);
+  assert.deepEqual(first.lines.slice(0, 3), ['position ' + FEN, 'stipulate white draw', 'tag White B']);
+});
+test('a position that was refused ends the study before it, and what carries over', () => {
+  const lines = [
+    'position ' + FEN, 'stipulate white win', 'tag White Kling', 'insert root Kb2', '', '# White was: Léger',
+    'position 8/8 w', 'tag White B', 'insert root Kg3', '', 'position ' + FEN, 'stipulate white draw'
+  ];
+  const sent = lines.map((text, line) => ({text, line})).filter(({text}) => text && !text.startsWith('#'));
+  const script = readScript(lines, sent, [
+    'position ' + FEN, 'stipulate White to win', 'tag White', 'insert 0 Kb2', 'error NotEightRanks', 'error NoStudy',
+    'error NoStudy', 'position ' + FEN, 'stipulate White to draw'
+  ]);
+  const [first, second] = script.studies;
+  assert.deepEqual([first.from, first.end, second.from, second.end], [0, 5, 10, 12]);
+  assert.deepEqual([second.tags, second.carried, second.aim.goal], [{}, [], 'draw']);
+  const moved = moveStudy(lines, script.studies, 1, -1).lines;
+  assert.equal(moved.filter(line => line === 'position 8/8 w').length, 1);
+  assert.equal(copyStudy(lines, script.studies, 0).lines.filter(line => line === 'insert root Kg3').length, 1);
 });

@@ -46,9 +46,12 @@ test('games that were left out, and why', () => {
     leftOut(['# game 6, line 60, column 8: NullMove']).map(whyLeftOut), ['a null move in the main line']);
   assert.deepEqual(
     leftOut(['# game 7, line 66, column 17 (Kling, J.): BehindResult']).map(whyLeftOut), ['moves behind the result']);
+  assert.deepEqual(
+    leftOut(['# game 8, line 70, column 8: Numbering']).map(whyLeftOut), ['a move number that does not fit']);
   assert.equal(withoutAim(LINES), 1);
-  assert.equal(importNote(LINES),
-    '5 games, 2 studies. Left out: game 2, line 14: 7 men; game 3, line 31, column 17: Kb6: ' +
+  assert.equal(importNote(LINES), '5 games, 2 studies. Left out: 3 games, each with its reason in the list.');
+  assert.equal(importNote([...LINES.filter(line => !/^# games/.test(line)), '# games 3, studies 0']),
+    '3 games, 0 studies. Left out: game 2, line 14: 7 men; game 3, line 31, column 17: Kb6: ' +
       'no legal move of this position; game 4, line 40: it does not say what is to be done.');
   assert.equal(
     importNote(['# game 1, line 1: stipulated by its result', '', '# games 1, studies 1']), '1 game, 1 study.');

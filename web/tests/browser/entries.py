@@ -77,7 +77,7 @@ def test_ten_entries_are_ten_rows(user):
     assert list_[2][2] == "A" and list_[2][1].startswith("Three (game 3 of") and list_[3][2] == "B", list_
     note = user.text("import")
     assert (
-        "10 games, 6 studies" in note and "game 3 (A), line" in note and "Not kept of this PGN: 1 null move." in note
+        "10 games, 6 studies. Left out: 4 games" in note and "Not kept of this PGN: 1 null move." in note
     ), note
     counts = user.js("return [...document.querySelectorAll('#list [data-kind]')].map(b => b.innerText)")
     assert counts == ["3 sound", "1 unsound", "1 wrong", "1 holds", "4 left out"], counts
