@@ -1,5 +1,5 @@
 -- Probes, one after the other.
-use Rattle.std.proofs.Common.{◌≡◌, ℕ, List, [], ◌∷◌, ◌++◌, Result, Ok, Err, IsErrOf, inl, inr, refl, subst}
+use Rattle.std.proofs.Common.{◌≡◌, List, [], ◌∷◌, ◌++◌, Result, Ok, Err, IsErrOf, inl, inr, refl, subst}
 use Rattle.study_board.specs.Position.{Position, IsValid}
 use Rattle.study_text.specs.Counts.{counted}
 use Rattle.study_material.specs.declared.class.Class.{Class}

@@ -17,3 +17,6 @@ pub mod Stands
 pub mod NodesShown
 pub mod TextGrows
 pub mod OneFacts
+pub mod Trails
+pub mod EachAdded
+pub mod PlacesWalked

@@ -21,7 +21,8 @@ use Rattle.study_marks.proofs.PathWalks.{spot_last, width_some}
 use Rattle.study_facts.specs.declared.walk_state.WalkState.{WalkState}
 use Rattle.study_facts.specs.declared.walk_state.MoveToNode.{MoveToNode}
 use Rattle.study_facts.specs.Faults.{in_solution}
-use Rattle.study_facts.specs.Line.{line_to}
+use Rattle.study_facts.specs.Line.{line_to, IsMadeIn}
+use Rattle.study_facts.specs.declared.line.MoveContext.{MoveContext}
 use Rattle.study_facts.specs.Nodes.{parent_path, has_no_idle_move, is_idle, is_mistake, is_try, is_solution_move, is_hero_move, mark_at, value_at, value_of_spot}
 use Rattle.study_facts.specs.WalkState.{arrival_by, arrival_of, IsStand, IsNodeAt}
 use Rattle.study_facts.proofs.FaultsListed.{step-on}
@@ -165,6 +166,27 @@ module _ (s : Study Mark) (steps : List ℕ) (some : 0 < length steps) where
   pub legal-before : (by : MoveToNode) → arrival_of (spot_at s.tree steps) ≡ Some by → IsPlayable s.start.position s.tree.below → (before : WalkState)
       → IsStand s (parent_path steps) before → is_legal before.position by.played ≡ true
   legal-before by e h before b = arrival-legal s steps by e last.front last.place last.is h before b
+
+  -- the move to the node, made from the place of the node before it
+  pub made-here : (x : MoveContext) → played_by (spot_at s.tree steps) ≡ Some x.played → x.before.aim ≡ aim_of s → x.before.depth + 1 ≡ length steps
+      → x.before.position ≡ position_at s (parent_path steps) → x.before.line.items ≡ line_to s (parent_path steps) → IsMadeIn s steps x
+  made-here x m a d p l = record {
+    front = last.front;
+    place = last.place;
+    path = last.is;
+    played = m;
+    before = record {
+      aim = a;
+      depth = (let e = ap length front-same in let z : x.before.depth ≡ length last.front = omega (arith, d, front-length, e) in z);
+      position = p ∙ ap (position_at s) (sym front-same);
+      line = l ∙ ap (line_to s) (sym front-same);
+    };
+  }
+
+  pub line-here : (by : MoveToNode) → arrival_of (spot_at s.tree steps) ≡ Some by → IsPlayable s.start.position s.tree.below
+      → (before here : WalkState) (mid new : List Position) → IsStand s (parent_path steps) before → IsStand s steps here
+      → mid ≡ line_to s (parent_path steps) → new ≡ mid ++ here.position ∷ [] → new ≡ line_to s steps
+  line-here by e h before here mid new b st m n = line-after s steps by e last.front last.place last.is h before here mid new b st m n
 
   pub node-before : (a : Aim) (d : ℕ) (before : WalkState) → a ≡ aim_of s → d + 1 ≡ length steps → IsStand s (parent_path steps) before
       → IsNodeAt s (parent_path steps) a d before.position

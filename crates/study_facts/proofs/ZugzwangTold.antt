@@ -1,5 +1,5 @@
 -- Mutual zugzwangs by the points that both sides score.
-use Rattle.std.proofs.Common.{◌≡◌, ◌==◌, ℕ, ◌+◌, ◌<◌, Bool, true, false, Option, Some, None, Result, Ok, Err, IfOk, refl, sym, ap, subst, ◌∙◌, arith}
+use Rattle.std.proofs.Common.{◌≡◌, ◌==◌, ℕ, ◌+◌, ◌<◌, Bool, true, false, Option, Some, None, refl, sym, ap, subst, ◌∙◌, arith}
 use Rattle.std.specs.Prelude.{if◌then◌else◌}
 use Rattle.std.proofs.lemmas.Bool.{eqb-true, eqb-false, false≢true}
 use Rattle.study_board.specs.declared.men.Side.{Side}
@@ -8,7 +8,7 @@ use Rattle.study_board.specs.Men.{same_side, other_side}
 use Rattle.study_board.specs.Position.{Position, IsValid}
 use Rattle.study_moves.specs.EnPassant.{has_legal_en_passant}
 use Rattle.study_moves.specs.Laws.{EachHasAtMostOneValue}
-use Rattle.study_zugzwang.specs.Zugzwang.{IsZugzwang, Scores, ScoreLessThanAPoint, handed_on}
+use Rattle.study_zugzwang.specs.Zugzwang.{IsZugzwang, Scores, handed_on}
 use Rattle.study_zugzwang.proofs.Zugzwangs.{one-score}
 use Rattle.study_facts.specs.declared.zugzwang.Zugzwang.{Zugzwang}
 use Rattle.study_facts.specs.declared.zugzwang.Zugzwang.TheVariants.{Full, Half}

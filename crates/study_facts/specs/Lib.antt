@@ -15,3 +15,4 @@ pub mod TimeFaults
 pub mod Made
 pub mod WalkState
 pub mod Order
+pub mod Walk

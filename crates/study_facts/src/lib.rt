@@ -1,9 +1,10 @@
 //! Facts of the nodes of a study, by the game's values.
 //!
 //! `node_position_at` finds a node of a study, with its line, `move_context_at` a move and the node before it, `children_in` the moves that the tree has there.
-//! `fill_place` and `fill_made` write them where the caller keeps them, and `position_in` finds a position alone: they take less of the stack.
+//! `fill_place` writes one where the caller keeps it, and `position_in` finds a position alone: they take less of the stack.
 //! `holding_moves`, `alternatives`, `refutations` and `missing_moves` list legal moves of a position with the values after them, `timed_alternatives` also
 //! with the time that they lose: `waste_of_time` returns whether a move only loses time. `best_move` and `best_play` return the best play from a position.
+//! `walk_study` walks a study once, in written order, and hands each node to a `Findings`.
 //! `is_in_solution` is true of the nodes of the solution, and `is_empty` of a study without a move of the hero.
 #![tactic(auto)]
 
@@ -20,6 +21,8 @@ mod move_lists;
 mod repetition;
 mod solution;
 mod time_loss;
+mod walk;
+mod walk_place;
 mod walk_state;
 mod words;
 mod zugzwang;
@@ -30,7 +33,7 @@ pub use continuation::{EvaluatedMove, NodeContext, is_draw};
 pub use empty::is_empty;
 pub use fault::{ReviewFault, TextFault, WriteFault};
 pub use line::{
-    MoveContext, NodePosition, PositionHistory, fill_made, fill_place, move_context_at, move_to,
+    MoveContext, NodePosition, PositionHistory, fill_place, move_context_at, move_to,
     node_position_at, position_in,
 };
 pub use mark_tests::{aim_in, is_idle, is_mistake, is_solution_move, is_try, value_at};
@@ -42,7 +45,8 @@ pub use solution::{faults_are_of_the_solution, is_in_solution};
 pub use time_loss::{
     Alternative, all_lose_time, count_where, timed_alternatives, waste_of_time_for_goal,
 };
-pub use walk_state::{MoveToNode, WalkState, move_to_node, root_walk_state, walk_state_after};
+pub use walk::{Findings, WalkStep, walk_study};
+pub use walk_state::{MoveToNode, WalkState};
 pub use words::{
     add_alone, add_counted, add_line_start, add_move, add_path, add_time_verdict, add_value,
 };

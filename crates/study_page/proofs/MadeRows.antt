@@ -43,6 +43,12 @@ pub on-ok : {T E : Type 0} (r : Result T E) (P : Type 0) → P → OnOk r P
 on-ok (Ok x) P h = h
 on-ok (Err e) P h = tt
 
+-- seven facts of one outcome
+pub on-ok-seven : {T E : Type 0} (r : Result T E) (A B C D F G H : Type 0) → OnOk r A → OnOk r B → OnOk r C → OnOk r D → OnOk r F → OnOk r G → OnOk r H
+    → OnOk r (A × B × C × D × F × G × H)
+on-ok-seven (Ok x) A B C D F G H a b c d f g h = (a, b, c, d, f, g, h)
+on-ok-seven (Err e) A B C D F G H a b c d f g h = tt
+
 -- a text that nothing else changes
 pub grew-to : (Lines : List ℕ → Type 0) (old mid new : List ℕ) → new ≡ mid → Grew Lines old mid → Grew Lines old new
 grew-to Lines old mid new e h = (h.0, h.1, e ∙ h.2)

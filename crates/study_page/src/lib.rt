@@ -12,13 +12,13 @@ mod fault_list;
 mod laws;
 mod mark_tests;
 mod page;
+mod page_findings;
 mod parts;
 mod play_rows;
 mod sheet;
 mod summary;
 mod tree;
 mod verdict;
-mod walk;
 mod words;
 
 pub use csv::{write_head_record, write_record, write_refused_record};

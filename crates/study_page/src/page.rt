@@ -17,13 +17,13 @@ ghost use Rattle.study_page.specs.Tree.{solution_words};
 ghost use Rattle.study_page.specs.Page.{solution_part, duals_title, duals_note, foot_words, tables, top, content, IsPage, IsPageOf, IsEntry, IsRow};
 
 use crate::draft::Sections;
+use crate::page_findings::PageFindings;
 use crate::summary::add_entry;
 use crate::tree::put_following;
 use crate::verdict::put_verdict;
-use crate::walk::add_section_below;
 use std::alloc::{AllocError, Allocator};
 use std::io::Write;
-use study_facts::{MoveContext, ReviewFault, TextFault};
+use study_facts::{ReviewFault, TextFault, walk_study};
 use study_head::{judgement_of, put_figure, put_head};
 use study_html::{Element, Html, put_words};
 use study_marks::Bench;
@@ -48,11 +48,9 @@ pub fn parts_of<'a, 'b, A: Allocator, B: Allocator, V: Values>(
 {
     // (the study has at most 4,096 nodes)
     let _size = bench.size();
-    let mut parts = Sections::new(alloc);
-    let mut steps = Vec::new(alloc);
-    let mut room = MoveContext::new();
-    add_section_below(alloc, &mut parts, bench, &mut steps, &mut room, values)?;
-    Ok(parts)
+    let mut findings = PageFindings::new(alloc);
+    walk_study(alloc, &mut findings, bench, values)?;
+    Ok(findings.sections)
 }
 
 /// The tree of the solution.

@@ -7,7 +7,7 @@ ghost use Rattle.study_marks.specs.BenchState.{marked};
 ghost use Rattle.study_facts.specs.Asked.{within};
 ghost use Rattle.study_facts.specs.Made.{Grew, Rose, HasAsked};
 ghost use Rattle.study_facts.specs.TimeFaults.{CountWhere, IsTimeDual, IsTimeFault, all_lose_time};
-ghost use Rattle.study_facts.specs.Line.{IsPlaceOf};
+ghost use Rattle.study_facts.specs.Line.{IsMadeIn, IsPlaceOf};
 ghost use Rattle.study_page.specs.Rows.{IsFaultOf, FaultItems, IsCardOf, Cards, try_row, TryRows, defence_row, DefenceRows};
 ghost use Rattle.study_page.specs.Rows.{dual_item, mistake_item, card, zugzwang_rows, ZugzwangRows, play_words, keep_words, end_row, IsEnd, EndRows};
 ghost use Rattle.study_page.specs.Words.{where_words};
@@ -26,7 +26,7 @@ use study_board::Position;
 use study_facts::{
     Alternative, Defence, EvaluatedMove, MoveContext, NodeContext, NodePosition, TextFault,
     Zugzwang, all_lose_time, best_play, children_in, count_where, defences, drawing_moves,
-    fill_made, refutations, timed_alternatives, value_at, zugzwang_at,
+    refutations, timed_alternatives, value_at, zugzwang_at,
 };
 use study_head::Ply;
 use study_html::Html;
@@ -196,9 +196,12 @@ pub fn add_move<'a, 'b, A: Allocator, B: Allocator, V: Values>(
     parts: &mut Sections<'_, A>,
     bench: &Bench<'b, B>,
     steps: &[u16],
-    made: &mut MoveContext,
+    made: &MoveContext,
     values: &mut V,
 ) -> Result<(), TextFault>
+    // Many clauses: one for each part of the page, and those of the probes.
+    requires made { IsMadeIn (marked bench.now) steps.now made.now }
+    requires legal { is_legal made.now.before.position made.now.played ≡ true }
     ensures faults { V.source.is_honest values.old
         → OnOk result
         (Grew (FaultItems (marked bench.now) steps.now) parts.old.faults parts.new.faults) }
@@ -218,10 +221,6 @@ pub fn add_move<'a, 'b, A: Allocator, B: Allocator, V: Values>(
     let first = bench.start();
     let value = value_at(bench, steps);
     let listed = is_solution_move(bench, steps);
-    made.before.line.clear();
-    if !fill_made(bench, steps, made) {
-        return Ok(());
-    }
     match mark_at(bench, steps) {
         Some(MoveMark::Dual(k)) => {
             let dual = DualFacts {

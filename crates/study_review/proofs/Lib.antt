@@ -8,4 +8,3 @@ pub mod TimeFaultsAll
 pub mod ToldMoves
 pub mod MovesTold
 pub mod WholeReview
-pub mod Trails

@@ -1,9 +1,7 @@
 -- A study has one review.
-use Rattle.std.proofs.Common.{ℕ, ◌+◌, List}
+use Rattle.std.proofs.Common.{ℕ, List}
 use Rattle.std.proofs.Common.{◌++◌, sym, ap, ◌∙◌}
 use Rattle.study_moves.specs.Laws.{EachHasAtMostOneValue}
-use Rattle.study_marks.specs.declared.stipulation.Goal.{Goal}
-use Rattle.study_marks.specs.declared.stipulation.Goal.TheVariants as goals
 use Rattle.study_facts.specs.Nodes.{NodeLines, FaultLines}
 use Rattle.study_review.specs.Review.{study_line, stipulation_line, empty_line, waste_line, ReviewsAreUnique}
 use Rattle.study_facts.specs.Order.{written_order}

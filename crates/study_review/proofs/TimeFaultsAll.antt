@@ -7,7 +7,7 @@ use Rattle.study_moves.specs.declared.moves.Move.{Move}
 use Rattle.study_moves.specs.Laws.{EachHasAtMostOneValue}
 use Rattle.study_tree.specs.Forest.{Forest, none, more, Twig}
 use Rattle.study_tree.specs.Edits.{node_in}
-use Rattle.study_tree.specs.Tree.{Spot, spot_at, twig_spot}
+use Rattle.study_tree.specs.Tree.{spot_at, twig_spot}
 use Rattle.study_marks.specs.declared.mark.Mark.{Mark}
 use Rattle.study_marks.specs.declared.mark.MoveMark.{MoveMark}
 use Rattle.study_marks.specs.declared.mark.MoveMark.TheVariants.{Only, Dual, Mistake, Idle, Reply}
@@ -16,16 +16,16 @@ use Rattle.study_marks.specs.Bench.{played_by, on_move_of}
 use Rattle.study_marks.specs.FaultSums.{below_at, skipped}
 use Rattle.study_marks.specs.Study.{Study, position_at}
 use Rattle.study_marks.specs.Goals.{aim_of, hero_moves}
-use Rattle.study_marks.specs.Marks.{is_fault, own_faults, faults_in}
+use Rattle.study_marks.specs.Marks.{own_faults, faults_in}
 use Rattle.study_marks.proofs.PathWalks.{spot_last, below_entered}
 use Rattle.study_facts.specs.declared.time_loss.Alternative.{Alternative}
 use Rattle.study_facts.specs.Faults.{in_solution}
 use Rattle.study_facts.specs.Line.{line_to}
 use Rattle.study_facts.specs.Nodes.{parent_path, is_hero_move, is_dual, mark_at, is_solution_move}
-use Rattle.study_facts.specs.Order.{paths_from, SumOfEach, written_order}
+use Rattle.study_facts.specs.Order.{paths_from, SumOfEach}
 use Rattle.study_facts.specs.Time.{AreTimedAlternatives}
 use Rattle.study_facts.specs.TimeFaults.{CountWhere, IsTimeFaultOf, IsTimeFault, all_lose_time}
-use Rattle.study_review.specs.Laws.{has_fault, is_solution_fault, LosesTimeAlone, LosesTimeAt, EachLosesTime, TimeFaultsAreAll}
+use Rattle.study_review.specs.Laws.{has_fault, is_solution_fault, LosesTimeAt, EachLosesTime, TimeFaultsAreAll}
 use Rattle.study_facts.proofs.FaultsListed.{step-on}
 use Rattle.study_facts.proofs.OneFacts.{one-alternatives}
 

@@ -1,26 +1,17 @@
 -- The parts of a review, one after the other.
 use Rattle.std.specs.Prelude.{codes, decimal}
-use Rattle.std.proofs.Common.{◌≡◌, ◌+◌, ℕ, Bool, true, false, List, [], ◌∷◌, ◌++◌, refl, sym, ap, subst, ◌∙◌, append_assoc, ◌-◌, length, take, arith, length-append}
+use Rattle.std.proofs.Common.{◌≡◌, ℕ, Bool, true, false, List, [], ◌++◌, refl, sym, ap, subst, ◌∙◌, append_assoc}
 use Rattle.std.proofs.lemmas.List.{append-nil}
-use Rattle.std.proofs.Math.Seq.{take-append_seam}
 use Rattle.study_marks.specs.declared.mark.Mark.{Mark}
-use Rattle.study_marks.specs.FaultSums.{below_at}
 use Rattle.study_marks.specs.Study.{Study}
 use Rattle.study_facts.specs.Made.{Grew}
 use Rattle.study_facts.specs.Nodes.{AlsoLines, FaultLines, NodeLines, is_dual, mark_at}
 use Rattle.study_notation.specs.FenSpelling.{fen_text}
 use Rattle.study_review.specs.Review.{study_line, stipulation_line, empty_line, waste_line, IsReview, BeginsReview}
-use Rattle.study_facts.specs.Order.{paths_from, LinesOfEach, AreTimeFaults, written_order}
+use Rattle.study_facts.specs.Order.{LinesOfEach, AreTimeFaults, written_order}
 use Rattle.study_review.specs.NodeFacts.{HereLines}
 use Rattle.study_facts.proofs.NodesShown.{are-there, not-there}
 use Rattle.study_review.proofs.NodesTold.{node-told}
-use Rattle.study_facts.proofs.WrittenOrder.{both-written}
-
--- a last one is pushed, and taken off again
-pub taken-off : {X : Type 0} (xs ys zs : List X) (x : X) (n : ℕ) → ys ≡ xs ++ x ∷ [] → n ≡ length ys → zs ≡ take (n - 1) ys → zs ≡ xs
-taken-off xs ys zs x n pushed len rest =
-    let e : n - 1 ≡ length xs = omega (arith, len, ap length pushed, length-append xs (x ∷ [])) in
-    rest ∙ ap (λ k. take k ys) e ∙ ap (take (length xs)) pushed ∙ take-append_seam xs (x ∷ [])
 
 module _ (s : Study Mark) where
   -- no move leads to the root
@@ -34,24 +25,11 @@ module _ (s : Study Mark) where
       go false e = not-there (is_dual (mark_at s [])) _ text e
       go true e = are-there (is_dual (mark_at s [])) _ text text e (nothing, refl, sym (append-nil text))
 
-  root-fault : (text : List ℕ) → Grew (FaultLines s []) text text
+  pub root-fault : (text : List ℕ) → Grew (FaultLines s []) text text
   root-fault text = ([], refl, sym (append-nil text))
 
   pub root-told : (old new : List ℕ) → Grew (HereLines s []) old new → Grew (NodeLines s []) old new
   root-told old new h = node-told s [] old old new (root-also old) h
-
-  pub faults-all : (p t0 t1 t2 : List ℕ) → p ≡ [] → t1 ≡ t0 → Grew (LinesOfEach (FaultLines s) (paths_from p 0 (below_at s.tree.below p))) t1 t2
-      → Grew (LinesOfEach (FaultLines s) (written_order s)) t0 t2
-  faults-all p t0 t1 t2 e same h =
-      both-written (FaultLines s) [] (paths_from [] 0 s.tree.below) t0 t0 t2 (root-fault t0)
-      (subst (λ (t : List ℕ). Grew (LinesOfEach (FaultLines s) (paths_from [] 0 s.tree.below)) t t2) same
-      (subst (λ (q : List ℕ). Grew (LinesOfEach (FaultLines s) (paths_from q 0 (below_at s.tree.below q))) t1 t2) e h))
-
-  pub nodes-all : (p t0 t1 t2 : List ℕ) → p ≡ [] → Grew (NodeLines s []) t0 t1 → Grew (LinesOfEach (NodeLines s) (paths_from p 0 (below_at s.tree.below p))) t1 t2
-      → Grew (LinesOfEach (NodeLines s) (written_order s)) t0 t2
-  nodes-all p t0 t1 t2 e own h =
-      both-written (NodeLines s) [] (paths_from [] 0 s.tree.below) t0 t1 t2 own
-      (subst (λ (q : List ℕ). Grew (LinesOfEach (NodeLines s) (paths_from q 0 (below_at s.tree.below q))) t1 t2) e h)
 
 pub whole : (s : Study Mark) (number time : ℕ) (t0 t1 f0 f1 f2 t2 n0 n2 text : List ℕ) → t0 ≡ [] → f0 ≡ [] → n0 ≡ []
     → t1 ≡ t0 ++ (study_line s number ++ (stipulation_line s ++ empty_line s))

@@ -1,4 +1,3 @@
 pub mod Review
 pub mod NodeFacts
 pub mod Laws
-pub mod Trail

@@ -11,7 +11,6 @@ mod lines;
 mod node_lines;
 mod probe;
 mod review_lines;
-mod walk;
 mod writing;
 
 pub use laws::{

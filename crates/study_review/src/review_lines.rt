@@ -1,23 +1,154 @@
-//! The parts of a review before it is whole.
+//! The lines of a review before it is whole.
+ghost use Rattle.std.specs.Prelude.{◌≡◌, [], OnOk};
+ghost use Rattle.study_marks.specs.BenchState.{marked};
+ghost use Rattle.study_marks.specs.Goals.{aim_of};
+ghost use Rattle.study_facts.specs.Asked.{within};
+ghost use Rattle.study_facts.specs.Made.{Grew, Rose, HasAsked};
+ghost use Rattle.study_facts.specs.Nodes.{FaultLines, NodeLines};
+ghost use Rattle.study_facts.specs.Order.{LinesOfEach, AreTimeFaults, written_order};
+ghost use Rattle.study_facts.specs.TimeFaults.{IsTimeFault};
 
+use crate::fault_lines::{StudyMove, add_move};
+use crate::node_lines::{ReviewNode, add_here};
 use std::alloc::Allocator;
-use study_board::Position;
-use study_facts::{EvaluatedMove, WalkState};
+use study_facts::{
+    EvaluatedMove, Findings, NodeContext, TextFault, WalkState, WalkStep, is_solution_move, is_try,
+    value_at, walk_study,
+};
+use study_marks::{Aim, Bench, hero_moves};
 use study_text::Text;
+use study_values::Values;
 
 /// The lines of the faults, the number of faults that lose time alone, the lines of the nodes, and the buffer of evaluated moves.
 #[derive(Drop)]
 pub struct ReviewLines<'a, A: Allocator> {
+    pub alloc: &'a A,
     pub faults: Text<'a, A>,
     pub time_faults: u32,
     pub nodes: Text<'a, A>,
     pub told: Vec<EvaluatedMove, &'a A>,
 }
 
-/// The path of a node, and the positions and the walk states from the root to it, both included.
-#[derive(Drop)]
-pub struct Trail<'a, A: Allocator> {
-    pub steps: Vec<u16, &'a A>,
-    pub line: Vec<Position, &'a A>,
-    pub stands: Vec<WalkState, &'a A>,
+impl<'a, A: Allocator> ReviewLines<'a, A> {
+    /// No line of any node.
+    pub fn new(alloc: &'a A) -> Self
+        ensures faults { result.faults ≡ [] }
+        ensures time { result.time_faults ≡ 0 }
+        ensures nodes { result.nodes ≡ [] }
+    {
+        ReviewLines {
+            alloc,
+            faults: Text::new(alloc),
+            time_faults: 0,
+            nodes: Text::new(alloc),
+            told: Vec::new(alloc),
+        }
+    }
+}
+
+impl<'a, A: Allocator> Findings for ReviewLines<'a, A> {
+    ghost use Rattle.std.specs.Prelude.{◌≡◌};
+    ghost use Rattle.study_facts.specs.Made.{Grew, Rose};
+    ghost use Rattle.study_facts.specs.Nodes.{FaultLines, NodeLines};
+    ghost use Rattle.study_facts.specs.TimeFaults.{IsTimeFault};
+
+    ghost adds = { λ s path old new. Grew (FaultLines s path) old.faults new.faults
+        × Rose (IsTimeFault s path) old.time_faults new.time_faults
+        × Grew (NodeLines s path) old.nodes new.nodes };
+
+    fn add_root<'b, B: Allocator, V: Values>(
+        &mut self,
+        bench: &Bench<'b, B>,
+        aim: &Aim,
+        root: &WalkState,
+        values: &mut V,
+    ) -> Result<(), TextFault> {
+        let here = ReviewNode {
+            node: NodeContext {
+                aim,
+                depth: 0,
+                position: &root.position,
+            },
+            steps: &[],
+            value: value_at(bench, &[]),
+            children: root.children,
+            solution: true,
+            tried: false,
+        };
+        add_here(
+            self.alloc,
+            &mut self.nodes,
+            bench,
+            &here,
+            &mut self.told,
+            values,
+        )
+    }
+
+    fn add_node<'b, B: Allocator, V: Values>(
+        &mut self,
+        bench: &Bench<'b, B>,
+        step: &WalkStep<'_>,
+        values: &mut V,
+    ) -> Result<(), TextFault> {
+        let first = bench.start();
+        let depth = step.steps.len();
+        let made = hero_moves(step.aim, depth - 1);
+        let moved = StudyMove {
+            before: NodeContext {
+                aim: step.aim,
+                depth: depth - 1,
+                position: &step.before.position,
+            },
+            line: step.line,
+            steps: step.steps,
+            played: step.by.played,
+        };
+        let listed = is_solution_move(made, step.here);
+        add_move(self, bench, &moved, step.by.mark, listed, values)?;
+        let here = ReviewNode {
+            node: NodeContext {
+                aim: step.aim,
+                depth,
+                position: &step.here.position,
+            },
+            steps: step.steps,
+            value: step.by.mark.value,
+            children: step.by.children,
+            solution: step.here.solution,
+            tried: is_try(made, step.by.mark.on_move, step.before),
+        };
+        add_here(
+            self.alloc,
+            &mut self.nodes,
+            bench,
+            &here,
+            &mut self.told,
+            values,
+        )
+    }
+}
+
+/// The lines of all nodes.
+pub fn add_all<'a, 'b, A: Allocator, B: Allocator, V: Values>(
+    alloc: &'a A,
+    draft: &mut ReviewLines<'a, A>,
+    bench: &Bench<'b, B>,
+    values: &mut V,
+) -> Result<(), TextFault>
+    ensures faults { V.source.is_honest values.old
+        → OnOk result
+        (Grew (LinesOfEach (FaultLines (marked bench.now)) (written_order (marked bench.now)))
+        draft.old.faults draft.new.faults) }
+    ensures time { V.source.is_honest values.old
+        → OnOk result
+        (Rose (AreTimeFaults (marked bench.now)) draft.old.time_faults draft.new.time_faults) }
+    ensures nodes { V.source.is_honest values.old
+        → OnOk result
+        (Grew (LinesOfEach (NodeLines (marked bench.now)) (written_order (marked bench.now)))
+        draft.old.nodes draft.new.nodes) }
+    ensures asked { HasAsked (within (marked bench.now).start.position V.source)
+        values.old result values.new }
+{
+    walk_study(alloc, draft, bench, values)
 }

@@ -12,8 +12,7 @@ ghost use Rattle.study_facts.specs.Made.{HasAsked};
 ghost use Rattle.study_review.specs.Review.{study_line, stipulation_line, empty_line, waste_line, waste_words, IsReview, IsReviewOf, BeginsReview};
 ghost use Rattle.study_facts.specs.Order.{is_empty, HasReviewed};
 
-use crate::review_lines::ReviewLines;
-use crate::walk::add_all;
+use crate::review_lines::{ReviewLines, add_all};
 use std::alloc::{AllocError, Allocator};
 use std::io::Write;
 use study_board::Side;
@@ -161,14 +160,9 @@ fn text_of<'a, 'b, A: Allocator, B: Allocator, V: Values>(
     let _size = bench.size();
     let root = root_mark(bench);
     let mut head = Text::new(alloc);
-    let mut draft = ReviewLines {
-        faults: Text::new(alloc),
-        time_faults: 0,
-        nodes: Text::new(alloc),
-        told: Vec::new(alloc),
-    };
+    let mut draft = ReviewLines::new(alloc);
     add_head(&mut head, bench, root, number)?;
-    add_all(alloc, &mut draft, bench, root, values)?;
+    add_all(alloc, &mut draft, bench, values)?;
     let time = draft.time_faults;
     add_waste(&mut draft.faults, bench, root, time)?;
     join(head, draft.faults, draft.nodes)

@@ -6,21 +6,21 @@ use Rattle.study_marks.specs.BenchState.{marked}
 use Rattle.study_facts.specs.Made.{Grew}
 use Rattle.study_facts.specs.Nodes.{EmptyUnless}
 use Rattle.study_page.specs.Rows.{IsFaultOf, IsCardOf}
-use Rattle.study_facts.proofs.TimeCounted.{time-none, time-unplayed}
+use Rattle.study_facts.proofs.TimeCounted.{time-none}
 use Rattle.study_facts.proofs.Within.{leads-at}
 use Rattle.study_facts.proofs.Within.{asks-wider}
-use Rattle.study_page.proofs.MadeRows.{fault-listed, time-listed, mistake-listed, fault-plain, fault-unplayed, card-made, no-card, nothing-grew}
+use Rattle.study_page.proofs.MadeRows.{fault-listed, time-listed, mistake-listed, fault-plain, card-made, nothing-grew}
 use Rattle.study_page.proofs.parts.add_move.Goals as goal
 
 pub returns-in-Some-Dual-clause-faults : goal.returns-in-Some-Dual-clause-faults
 returns-in-Some-Dual-clause-faults g c h =
-    let made = c.fill_made.new.made in
+    let made = c.args.made.now in
     let before = made.before in
     let mark = Some (variant.Dual c.in-Some-Dual.k) in
     let v = c.value_at-value.result in
     let listed = c.is_solution_move-listed.result in
     on_ok_weaker c.add_dual.result
-    (λ grew. fault-listed (marked c.args.bench.now) c.args.steps.now made (c.fill_made.ensures.made c.if-not-fill_made.false) v mark listed c.args.parts.now.faults c.add_dual.new.parts.faults
+    (λ grew. fault-listed (marked c.args.bench.now) c.args.steps.now made c.requires.made v mark listed c.args.parts.now.faults c.add_dual.new.parts.faults
     c.is_solution_move-listed.ensures (sym (c.in-Some-Dual.is ∙ ap Some c.in-Some-Dual.field-0-is) ∙ c.mark_at.ensures) c.value_at-value.ensures
     (subst (λ (st : Start). Grew (EmptyUnless listed (IsFaultOf st before.aim before.depth before.line.items before.position made.played v mark))
     c.args.parts.now.faults c.add_dual.new.parts.faults) c.start-first.ensures.value grew))
@@ -29,19 +29,19 @@ returns-in-Some-Dual-clause-faults g c h =
 pub returns-in-Some-Dual-clause-time : goal.returns-in-Some-Dual-clause-time
 returns-in-Some-Dual-clause-time g c h =
     on_ok_weaker c.add_dual.result
-    (λ rose. time-listed (marked c.args.bench.now) c.args.steps.now c.fill_made.new.made (c.fill_made.ensures.made c.if-not-fill_made.false) c.in-Some-Dual.k c.is_solution_move-listed.result
+    (λ rose. time-listed (marked c.args.bench.now) c.args.steps.now c.args.made.now c.requires.made c.in-Some-Dual.k c.is_solution_move-listed.result
     c.args.parts.now.time_faults c.add_dual.new.parts.time_faults c.is_solution_move-listed.ensures
     (sym (c.in-Some-Dual.is ∙ ap Some c.in-Some-Dual.field-0-is) ∙ c.mark_at.ensures) rose)
     (c.add_dual.ensures.time h)
 
 pub returns-in-Some-Dual-clause-duals : goal.returns-in-Some-Dual-clause-duals
 returns-in-Some-Dual-clause-duals g c h =
-    let made = c.fill_made.new.made in
+    let made = c.args.made.now in
     let before = made.before in
     let mark = Some (variant.Dual c.in-Some-Dual.k) in
     let v = c.value_at-value.result in
     on_ok_weaker c.add_dual.result
-    (λ grew. card-made (marked c.args.bench.now) c.args.steps.now made (c.fill_made.ensures.made c.if-not-fill_made.false) v mark c.args.parts.now.duals c.add_dual.new.parts.duals
+    (λ grew. card-made (marked c.args.bench.now) c.args.steps.now made c.requires.made v mark c.args.parts.now.duals c.add_dual.new.parts.duals
     (sym (c.in-Some-Dual.is ∙ ap Some c.in-Some-Dual.field-0-is) ∙ c.mark_at.ensures) c.value_at-value.ensures
     (subst (λ (st : Start). Grew (IsCardOf st before.aim before.depth before.line.items before.position made.played v mark)
     c.args.parts.now.duals c.add_dual.new.parts.duals) c.start-first.ensures.value grew))
@@ -49,36 +49,27 @@ returns-in-Some-Dual-clause-duals g c h =
 
 pub returns-in-Some-Dual-clause-asked : goal.returns-in-Some-Dual-clause-asked
 returns-in-Some-Dual-clause-asked g c =
-    asks-wider g.V.Values.source (marked c.args.bench.now).start.position c.fill_made.new.made.before.position (leads-at (marked c.args.bench.now) (c.fill_made.ensures.made c.if-not-fill_made.false).front c.fill_made.new.made.before.position c.start-first.ensures.study.playable (c.fill_made.ensures.made c.if-not-fill_made.false).before.position)
+    asks-wider g.V.Values.source (marked c.args.bench.now).start.position c.args.made.now.before.position (leads-at (marked c.args.bench.now) c.requires.made.front c.args.made.now.before.position c.start-first.ensures.study.playable c.requires.made.before.position)
     c.args.values.now c.add_dual.new.values c.add_dual.result c.add_dual.ensures.asked
 
 pub returns-in_ok-put_listed_mistake-in-Some-Mistake-clause-faults : goal.returns-in_ok-put_listed_mistake-in-Some-Mistake-clause-faults
 returns-in_ok-put_listed_mistake-in-Some-Mistake-clause-faults g c h =
-    mistake-listed (marked c.args.bench.now) c.args.steps.now c.fill_made.new.made (c.fill_made.ensures.made c.if-not-fill_made.false) c.value_at-value.result c.is_solution_move-listed.result c.start-first.result.now
+    mistake-listed (marked c.args.bench.now) c.args.steps.now c.args.made.now c.requires.made c.value_at-value.result c.is_solution_move-listed.result c.start-first.result.now
     c.args.parts.now.faults c.put_listed_mistake.new.html c.is_solution_move-listed.ensures
     (sym (c.in-Some-Mistake.is ∙ ap Some c.in-Some-Mistake.field-0-is) ∙ c.mark_at.ensures) c.value_at-value.ensures c.start-first.ensures.value
     c.in_ok-put_listed_mistake-in-Some-Mistake.ensures
-
-pub returns-then-not-fill_made-clause-faults : goal.returns-then-not-fill_made-clause-faults
-returns-then-not-fill_made-clause-faults g c h = fault-unplayed (marked c.args.bench.now) c.args.steps.now c.args.parts.now.faults (c.fill_made.ensures.none c.if-not-fill_made.true)
-
-pub returns-then-not-fill_made-clause-time : goal.returns-then-not-fill_made-clause-time
-returns-then-not-fill_made-clause-time g c h = time-unplayed (marked c.args.bench.now) c.args.steps.now c.args.parts.now.time_faults (c.fill_made.ensures.none c.if-not-fill_made.true)
-
-pub returns-then-not-fill_made-clause-duals : goal.returns-then-not-fill_made-clause-duals
-returns-then-not-fill_made-clause-duals g c h = no-card (marked c.args.bench.now) c.args.steps.now c.args.parts.now.duals (c.fill_made.ensures.none c.if-not-fill_made.true)
 
 pub returns-in_ok-put_listed_mistake-in-Some-Mistake-clause-time : goal.returns-in_ok-put_listed_mistake-in-Some-Mistake-clause-time
 returns-in_ok-put_listed_mistake-in-Some-Mistake-clause-time g c h = time-none (marked c.args.bench.now) c.args.steps.now c.args.parts.now.time_faults (Some variant.Mistake) (sym (c.in-Some-Mistake.is ∙ ap Some c.in-Some-Mistake.field-0-is) ∙ c.mark_at.ensures) refl
 
 pub returns-in_ok-put_listed_mistake-in-Some-Mistake-clause-duals : goal.returns-in_ok-put_listed_mistake-in-Some-Mistake-clause-duals
 returns-in_ok-put_listed_mistake-in-Some-Mistake-clause-duals g c h =
-    card-made (marked c.args.bench.now) c.args.steps.now c.fill_made.new.made (c.fill_made.ensures.made c.if-not-fill_made.false) c.value_at-value.result (Some variant.Mistake) c.args.parts.now.duals c.args.parts.now.duals
+    card-made (marked c.args.bench.now) c.args.steps.now c.args.made.now c.requires.made c.value_at-value.result (Some variant.Mistake) c.args.parts.now.duals c.args.parts.now.duals
     (sym (c.in-Some-Mistake.is ∙ ap Some c.in-Some-Mistake.field-0-is) ∙ c.mark_at.ensures) c.value_at-value.ensures (nothing-grew _ c.args.parts.now.duals refl)
 
 pub returns-in-Some-Only-clause-faults : goal.returns-in-Some-Only-clause-faults
 returns-in-Some-Only-clause-faults g c h =
-    fault-plain (marked c.args.bench.now) c.args.steps.now c.fill_made.new.made (c.fill_made.ensures.made c.if-not-fill_made.false) c.value_at-value.result (Some variant.Only) c.is_solution_move-listed.result
+    fault-plain (marked c.args.bench.now) c.args.steps.now c.args.made.now c.requires.made c.value_at-value.result (Some variant.Only) c.is_solution_move-listed.result
     c.args.parts.now.faults c.is_solution_move-listed.ensures (sym (c.in-Some-Only.is ∙ ap Some c.in-Some-Only.field-0-is) ∙ c.mark_at.ensures) c.value_at-value.ensures tt
 
 pub returns-in-Some-Only-clause-time : goal.returns-in-Some-Only-clause-time
@@ -86,12 +77,12 @@ returns-in-Some-Only-clause-time g c h = time-none (marked c.args.bench.now) c.a
 
 pub returns-in-Some-Only-clause-duals : goal.returns-in-Some-Only-clause-duals
 returns-in-Some-Only-clause-duals g c h =
-    card-made (marked c.args.bench.now) c.args.steps.now c.fill_made.new.made (c.fill_made.ensures.made c.if-not-fill_made.false) c.value_at-value.result (Some variant.Only) c.args.parts.now.duals c.args.parts.now.duals
+    card-made (marked c.args.bench.now) c.args.steps.now c.args.made.now c.requires.made c.value_at-value.result (Some variant.Only) c.args.parts.now.duals c.args.parts.now.duals
     (sym (c.in-Some-Only.is ∙ ap Some c.in-Some-Only.field-0-is) ∙ c.mark_at.ensures) c.value_at-value.ensures (nothing-grew _ c.args.parts.now.duals refl)
 
 pub returns-in-Some-Idle-clause-faults : goal.returns-in-Some-Idle-clause-faults
 returns-in-Some-Idle-clause-faults g c h =
-    fault-plain (marked c.args.bench.now) c.args.steps.now c.fill_made.new.made (c.fill_made.ensures.made c.if-not-fill_made.false) c.value_at-value.result (Some variant.Idle) c.is_solution_move-listed.result
+    fault-plain (marked c.args.bench.now) c.args.steps.now c.args.made.now c.requires.made c.value_at-value.result (Some variant.Idle) c.is_solution_move-listed.result
     c.args.parts.now.faults c.is_solution_move-listed.ensures (sym (c.in-Some-Idle.is ∙ ap Some c.in-Some-Idle.field-0-is) ∙ c.mark_at.ensures) c.value_at-value.ensures tt
 
 pub returns-in-Some-Idle-clause-time : goal.returns-in-Some-Idle-clause-time
@@ -99,12 +90,12 @@ returns-in-Some-Idle-clause-time g c h = time-none (marked c.args.bench.now) c.a
 
 pub returns-in-Some-Idle-clause-duals : goal.returns-in-Some-Idle-clause-duals
 returns-in-Some-Idle-clause-duals g c h =
-    card-made (marked c.args.bench.now) c.args.steps.now c.fill_made.new.made (c.fill_made.ensures.made c.if-not-fill_made.false) c.value_at-value.result (Some variant.Idle) c.args.parts.now.duals c.args.parts.now.duals
+    card-made (marked c.args.bench.now) c.args.steps.now c.args.made.now c.requires.made c.value_at-value.result (Some variant.Idle) c.args.parts.now.duals c.args.parts.now.duals
     (sym (c.in-Some-Idle.is ∙ ap Some c.in-Some-Idle.field-0-is) ∙ c.mark_at.ensures) c.value_at-value.ensures (nothing-grew _ c.args.parts.now.duals refl)
 
 pub returns-in-Some-Reply-clause-faults : goal.returns-in-Some-Reply-clause-faults
 returns-in-Some-Reply-clause-faults g c h =
-    fault-plain (marked c.args.bench.now) c.args.steps.now c.fill_made.new.made (c.fill_made.ensures.made c.if-not-fill_made.false) c.value_at-value.result (Some variant.Reply) c.is_solution_move-listed.result
+    fault-plain (marked c.args.bench.now) c.args.steps.now c.args.made.now c.requires.made c.value_at-value.result (Some variant.Reply) c.is_solution_move-listed.result
     c.args.parts.now.faults c.is_solution_move-listed.ensures (sym (c.in-Some-Reply.is ∙ ap Some c.in-Some-Reply.field-0-is) ∙ c.mark_at.ensures) c.value_at-value.ensures tt
 
 pub returns-in-Some-Reply-clause-time : goal.returns-in-Some-Reply-clause-time
@@ -112,12 +103,12 @@ returns-in-Some-Reply-clause-time g c h = time-none (marked c.args.bench.now) c.
 
 pub returns-in-Some-Reply-clause-duals : goal.returns-in-Some-Reply-clause-duals
 returns-in-Some-Reply-clause-duals g c h =
-    card-made (marked c.args.bench.now) c.args.steps.now c.fill_made.new.made (c.fill_made.ensures.made c.if-not-fill_made.false) c.value_at-value.result (Some variant.Reply) c.args.parts.now.duals c.args.parts.now.duals
+    card-made (marked c.args.bench.now) c.args.steps.now c.args.made.now c.requires.made c.value_at-value.result (Some variant.Reply) c.args.parts.now.duals c.args.parts.now.duals
     (sym (c.in-Some-Reply.is ∙ ap Some c.in-Some-Reply.field-0-is) ∙ c.mark_at.ensures) c.value_at-value.ensures (nothing-grew _ c.args.parts.now.duals refl)
 
 pub returns-in-None-clause-faults : goal.returns-in-None-clause-faults
 returns-in-None-clause-faults g c h =
-    fault-plain (marked c.args.bench.now) c.args.steps.now c.fill_made.new.made (c.fill_made.ensures.made c.if-not-fill_made.false) c.value_at-value.result None c.is_solution_move-listed.result
+    fault-plain (marked c.args.bench.now) c.args.steps.now c.args.made.now c.requires.made c.value_at-value.result None c.is_solution_move-listed.result
     c.args.parts.now.faults c.is_solution_move-listed.ensures (sym c.in-None.is ∙ c.mark_at.ensures) c.value_at-value.ensures tt
 
 pub returns-in-None-clause-time : goal.returns-in-None-clause-time
@@ -125,5 +116,5 @@ returns-in-None-clause-time g c h = time-none (marked c.args.bench.now) c.args.s
 
 pub returns-in-None-clause-duals : goal.returns-in-None-clause-duals
 returns-in-None-clause-duals g c h =
-    card-made (marked c.args.bench.now) c.args.steps.now c.fill_made.new.made (c.fill_made.ensures.made c.if-not-fill_made.false) c.value_at-value.result None c.args.parts.now.duals c.args.parts.now.duals
+    card-made (marked c.args.bench.now) c.args.steps.now c.args.made.now c.requires.made c.value_at-value.result None c.args.parts.now.duals c.args.parts.now.duals
     (sym c.in-None.is ∙ c.mark_at.ensures) c.value_at-value.ensures (nothing-grew _ c.args.parts.now.duals refl)
