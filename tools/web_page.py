@@ -12,6 +12,7 @@ import hashlib
 import os
 import re
 import struct
+import subprocess
 import sys
 
 WEB = os.path.join(os.path.dirname(os.path.abspath(__file__)), "..", "web")
@@ -50,6 +51,13 @@ def packed(path):
     return "%d %s" % (len(data), letters)
 
 
+def small_style(path):
+    """A style sheet without the blanks and line ends that only its reader needs."""
+    with open(path, "rb") as file:
+        done = subprocess.run(["esbuild", "--loader=css", "--minify", "--charset=utf8"], stdin=file, stdout=subprocess.PIPE, check=True)
+    return done.stdout.decode().strip()
+
+
 def digest(text):
     return "'sha256-%s'" % base64.b64encode(hashlib.sha256(text.encode()).digest()).decode()
 
@@ -62,7 +70,7 @@ def version():
 
 def main():
     page_js, worker_js, module64, module32, out = sys.argv[1:6]
-    script, worker, style = read(page_js).strip(), read(worker_js).strip(), read(os.path.join(WEB, "board.css")).strip()
+    script, worker, style = read(page_js).strip(), read(worker_js).strip(), small_style(os.path.join(WEB, "board.css"))
     for text in (script, worker):
         assert "</script" not in text.lower() and "<!--" not in text, "a bundle that would end its element"
     policy = ("default-src 'none'; script-src %s 'wasm-unsafe-eval'; worker-src blob:; style-src %s; img-src data:; "

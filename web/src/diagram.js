@@ -1,6 +1,6 @@
 // @ts-check
 // The position that is shown as a picture of its own, and as a FEN to copy.
-import {$, button, download, h} from './dom.js';
+import {$, download, h, smallButton} from './dom.js';
 import {services, say} from './state.js';
 import {shownFen} from './board.js';
 
@@ -62,8 +62,6 @@ async function copyFen() {
   services.show();
 }
 /** What can be done with the position that is shown. */
-export const diagramView =
-  () => [button('Copy FEN', 'the position that is shown', copyFen, {class: 'chip act', id: 'copyFen'}),
-    button('Save diagram', 'a picture of lines, as SVG', () => save('svg'), {class: 'chip act', id: 'saveSvg'}),
-    button('PNG', 'a picture of points', () => save('png'),
-      {class: 'chip act', id: 'savePng', 'aria-label': 'Save diagram as PNG'})];
+export const diagramView = () => [smallButton('Copy FEN', 'the position that is shown', copyFen, {id: 'copyFen'}),
+  smallButton('Save diagram', 'a picture of lines, as SVG', () => save('svg'), {id: 'saveSvg'}),
+  smallButton('PNG', 'a picture of points', () => save('png'), {id: 'savePng', 'aria-label': 'Save diagram as PNG'})];

@@ -1,6 +1,6 @@
 // @ts-check
 // The list of the documents that this browser keeps.
-import {$, button, h, put} from './dom.js';
+import {$, button, h, put, smallButton} from './dom.js';
 import {services} from './state.js';
 import {forget, isHere, list, openKept, otherPages} from './documents.js';
 import {table} from './review_view.js';
@@ -24,13 +24,13 @@ function rowView(head) {
     close();
     openKept(head.id);
   }, {class: 'link', 'data-kept': head.id, 'aria-current': here && 'true'});
-  const remove = button(sure === head.id ? 'Remove for good' : 'Remove', 'take it out of this browser', () => {
+  const remove = smallButton(sure === head.id ? 'Remove for good' : 'Remove', 'take it out of this browser', () => {
     if (sure === head.id) forget(head.id);
     else {
       sure = head.id;
       services.show();
     }
-  }, {class: 'chip act', 'aria-label': `Remove ${name}`});
+  }, {'aria-label': `Remove ${name}`});
   const where = here ? 'open here' : other ? 'open in another window' : '';
   return [
     [open, head.name && h('div', {class: 'note'}, head.name), where && h('div', {class: 'note'}, where)],

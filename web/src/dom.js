@@ -37,7 +37,8 @@ const some = kids => /** @type {any[]} */ (
  * @param {Kid[]} kids
  * @returns {any}
  */
-export const h = (tag, props, ...kids) => fill(document.createElement(tag), props, kids);
+export const h = (tag, props, ...kids) =>
+  fill(document.createElement(tag), tag === 'button' ? {type: 'button', ...props} : props, kids);
 /**
  * @param {string} tag
  * @param {Props | null} props
@@ -94,8 +95,16 @@ function without(node) {
  * @param {Props} props
  * @returns {any}
  */
-export const button = (text, title, onclick, props = {}) =>
-  h('button', {type: 'button', title, onclick, ...props}, text);
+export const button = (text, title, onclick, props = {}) => h('button', {title, onclick, ...props}, text);
+/**
+ * A button within a text or a table.
+ * @param {Kid} text
+ * @param {string} title
+ * @param {(e: any) => any} onclick
+ * @param {Props} props
+ * @returns {any}
+ */
+export const smallButton = (text, title, onclick, props) => button(text, title, onclick, {class: 'chip act', ...props});
 
 /**
  * A text or bytes as a file for the user.

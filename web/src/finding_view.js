@@ -1,6 +1,6 @@
 // @ts-check
 // The panel 'Find': a class, a theme and squares; what is found while it searches; a press opens one.
-import {$, button, h, put} from './dom.js';
+import {$, button, h, put, smallButton} from './dom.js';
 import {track} from './actions.js';
 import {app, services} from './state.js';
 import {CLASSES} from './core_host.js';
@@ -87,12 +87,12 @@ function formView() {
   return h('div', {class: 'row'},
     choice('findClass', 'The men', CLASSES.map(name => [name, name]), form.name, chooseClass),
     here && here !== form.name &&
-      button('these men', `the class ${here}`,
+      smallButton('these men', `the class ${here}`,
         () => {
           chooseClass(here);
           showFinding();
         },
-        {class: 'chip act', id: 'findHere'}),
+        {id: 'findHere'}),
     choice('findTheme', 'What is sought', THEMES, form.theme,
       value => {
         form.theme = value;

@@ -32,13 +32,8 @@ export function headView(s) {
     h('h1', {}, isKnown(t.Event) ? nameOf(s, 'Event') : 'Untitled'), by && h('p', {class: 'by'}, by),
     old.length > 0 &&
       h('p', {class: 'note'}, `Set for an earlier study and not since: ${old.map(name => LABELS[name]).join(', ')}. `,
-        h('button', {
-          type: 'button',
-          class: 'chip act',
-          id: 'clearOld',
-          title: 'not known for this study',
-          onclick: () => clearTags(old)
-        },
+        h('button',
+          {class: 'chip act', id: 'clearOld', title: 'not known for this study', onclick: () => clearTags(old)},
           'Clear')),
     h('div', {class: 'row'},
       aimView(s.aim,

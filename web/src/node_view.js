@@ -143,7 +143,6 @@ function chip(s, n, m) {
   }[m.mark];
   const title = [`${m.san}: ${valueText(after, m.value)}`, meaning, there && 'in the tree'].filter(Boolean).join('; ');
   return h('button', {
-    type: 'button',
     class: `chip m ${m.mark}${there ? ' in' : ''}`,
     'data-san': m.san,
     title,

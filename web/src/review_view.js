@@ -1,6 +1,6 @@
 // @ts-check
 // The review: duals in side lines, tries and their refutations, defences that are missing, best play from open ends.
-import {button, h} from './dom.js';
+import {h, smallButton} from './dom.js';
 import {other, sideOf} from './fen.js';
 import {change} from './actions.js';
 import {app} from './state.js';
@@ -26,7 +26,7 @@ export function table(head, items, cells) {
     more.remove();
     body.append(...rest.map(row));
   };
-  const more = h('button', {type: 'button', class: 'chip act more', onclick: all}, `Show ${rest.length} more`);
+  const more = h('button', {class: 'chip act more', onclick: all}, `Show ${rest.length} more`);
   const heads = h('thead', {}, h('tr', {}, head.map(t => h('th', {scope: 'col'}, t))));
   return h('div', {class: 'scroll'}, h('table', {}, heads, body), rest.length > 0 && more);
 }
@@ -139,8 +139,8 @@ function defencesView(s, review, root) {
   return rows.length > 0 && section('defences', 'Defences that are not in the tree', note, [
     single > 1 &&
       h('p', {class: 'act'},
-        button(`Add all ${single} with one answer`, 'each with its only answer', () => addAll(rows),
-          {class: 'chip act', id: 'addAll'})),
+        smallButton(
+          `Add all ${single} with one answer`, 'each with its only answer', () => addAll(rows), {id: 'addAll'})),
     table(['After', 'Given', 'Not given, with the answer where only one holds'], rows,
       ([n, list]) => missingView(s, n, list))
   ]);
@@ -186,12 +186,9 @@ function missingView(s, n, list) {
                             : h('small', {}, ` ${d.count} answers`),
           '; '];
   const rest = sorted.slice(FIRST),
-        more = h('button', {
-          type: 'button',
-          class: 'chip act more',
-          onclick: () => more.replaceWith(...rest.flatMap(d => view(d)).flat())
-        },
-          `and ${rest.length} more`);
+        more =
+          h('button', {class: 'chip act more', onclick: () => more.replaceWith(...rest.flatMap(d => view(d)).flat())},
+            `and ${rest.length} more`);
   return [
     nodeLink(n), n.children.map(c => c.san).join(' ') || '–',
     [...sorted.slice(0, FIRST).map(view), rest.length > 0 && more]

@@ -1,6 +1,6 @@
 // @ts-check
 // The set-up of men: palette, side to move, stipulation, FEN, what the program says of it, and what it becomes.
-import {$, button, h, put} from './dom.js';
+import {$, button, h, put, smallButton} from './dom.js';
 import {manName, menOf} from './fen.js';
 import {app, node, services, study} from './state.js';
 import {manIcon} from './board.js';
@@ -70,9 +70,8 @@ const TURN_WORDS = /** @type {[import('./turning.js').Turn, string, string][]} *
 ]);
 /** The whole diagram over, with the moves of its study. */
 const turnView = () => h('p', {class: 'row', role: 'group', 'aria-label': 'The whole diagram'},
-  h('span', {class: 'note'}, 'The whole diagram: '),
-  TURN_WORDS.map(([turn, text, title]) => button(
-                   text, title, () => turnDraft(turn), {class: 'chip act', 'aria-label': title, 'data-turn': turn})));
+  h('span', {class: 'note'}, 'The whole diagram: '), TURN_WORDS.map(([turn, text,
+    title]) => smallButton(text, title, () => turnDraft(turn), {'aria-label': title, 'data-turn': turn})));
 /**
  * What comes late: what the program says of the draft, and what can be done with it.
  * @param {Draft} d
@@ -97,7 +96,6 @@ function toolView(d, letter) {
     if (e.target.releasePointerCapture) e.target.releasePointerCapture(e.pointerId);
   };
   return h('button', {
-    type: 'button',
     id: 'man' + letter,
     class: `${d.tool === letter ? 'on' : ''}${away ? ' text' : ''}`,
     'data-man': letter,

@@ -1,6 +1,6 @@
 // @ts-check
 // 'Where else': the man that is chosen, the squares on which it could stand, and what is known of them.
-import {button, h, svg} from './dom.js';
+import {button, h, svg, smallButton} from './dom.js';
 import {isWhite, squareName} from './fen.js';
 import {MOST_IN_ROW, byRow, byTree, thereText} from './elsewhere.js';
 import {moveDraft} from './setup.js';
@@ -61,8 +61,8 @@ function rowsView(spots) {
 function treesView(d, spots) {
   if (!treesRequested(spots))
     return h('p', {},
-      button('What becomes of the moves there?', 'the faults that this study would have on each square', lookAtTrees,
-        {id: 'lookAtTrees', class: 'chip act'}));
+      smallButton('What becomes of the moves there?', 'the faults that this study would have on each square',
+        lookAtTrees, {id: 'lookAtTrees'}));
   const kept = byTree(spots), done = spots.filter(spot => spot.there).length, none = done - kept.length,
         more = kept.length - FIRST;
   const end = done < spots.length ? ` ${done} of ${spots.length} squares looked at …`
@@ -81,5 +81,5 @@ function thereView(d, spot) {
   const put = () => {
     if (man !== null && d.men[man]) moveDraft(man, spot.to, d.men[man], true);
   };
-  return button(thereText(name, spot), 'put the man there', put, {class: 'chip act', 'data-there': name});
+  return smallButton(thereText(name, spot), 'put the man there', put, {'data-there': name});
 }

@@ -22,8 +22,7 @@ function moveView(s, n, first) {
   const title =
     [valueText(sideOf(n.fen), n.value), markMeaning(n, s.aim ? s.aim.hero : undefined)].filter(Boolean).join('; ');
   return h('span', {class: 'mv'},
-    h('button',
-      {type: 'button', class: `m ${n.mark}`, 'data-path': n.path, title, 'aria-label': `${moveName(n)}: ${title}`},
+    h('button', {class: `m ${n.mark}`, 'data-path': n.path, title, 'aria-label': `${moveName(n)}: ${title}`},
       num + n.san, sign && h('b', {}, sign)),
     s.aim && h('sub', {}, valueSign(s.aim.hero, sideOf(n.fen), n.value)),
     n.mark === 'dual' && h('span', {class: 'tag'}, `dual ${n.duals}`),

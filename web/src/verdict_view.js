@@ -45,7 +45,7 @@ function notJudged() {
       'Not judged yet: its tables are being built. The marks come then, and the board follows the moves.');
   return h('p', {class: 'say', id: 'unjudged'}, `This study is not judged: ${app.noView}. `,
     / table|ables /.test(app.noView) &&
-      h('button', {type: 'button', class: 'chip act', id: 'buildNow', onclick: judgeAgain}, 'Build the tables'));
+      h('button', {class: 'chip act', id: 'buildNow', onclick: judgeAgain}, 'Build the tables'));
 }
 /**
  * The faults, each with what mends it.
@@ -92,8 +92,7 @@ const fullName = n => (app.view && n.parent && n.parent.parent && sharedNames(ap
     ? numberedLine(n.parent.parent.fen, [n.parent.san, n.san])
     : moveName(n));
 /** @param {TreeNode} n */
-export const nodeLink = n =>
-  h('button', {type: 'button', class: 'link', title: lineTo(n), onclick: () => go(n.path)}, fullName(n));
+export const nodeLink = n => h('button', {class: 'link', title: lineTo(n), onclick: () => go(n.path)}, fullName(n));
 /**
  * All moves from the start to a node.
  * @param {TreeNode} n
@@ -113,7 +112,6 @@ function lineTo(n) {
  * @param {boolean} [named]      whether the title is its name for a screen reader too
  */
 export const add = (path, sans, label, title, named = false) => h('button', {
-  type: 'button',
   class: 'chip add',
   title: title || `put ${sans.join(' ')} into the tree`,
   'aria-label': named && title,
@@ -161,12 +159,7 @@ function mistakeView(s, n) {
                     : valueText(sideOf(n.fen), n.value);
   return [
     nodeLink(n), h('b', {}, ' lets the aim go'), `: ${left} `,
-    better &&
-      [
-        h('button', {type: 'button', class: 'chip act', onclick: () => promote(better, true)},
-          `Put ${better.san} first`),
-        ' '
-      ],
+    better && [h('button', {class: 'chip act', onclick: () => promote(better, true)}, `Put ${better.san} first`), ' '],
     cut(n, 'Delete it')
   ];
 }
@@ -181,7 +174,6 @@ function cut(n, text) {
   const gone = below ? `delete ${counted(below + 1, 'move')}: ${lineFrom(n)}` : `delete ${moveName(n)}`;
   const words = [below && counted(below + 1, 'move'), next].filter(Boolean).join('; ');
   return h('button', {
-    type: 'button',
     class: 'chip act',
     title: [gone, next].filter(Boolean).join('; '),
     'data-cut': n.path,
@@ -232,5 +224,5 @@ function adviceView(s) {
 function aimButton(words) {
   const onclick = () =>
     change(now => (now.studies[now.at] ? stipulate(now.lines, now.studies[now.at], words) : null), 'head');
-  return h('button', {type: 'button', class: 'chip add', 'data-aim': words, onclick}, aimText(readAim(words)));
+  return h('button', {class: 'chip add', 'data-aim': words, onclick}, aimText(readAim(words)));
 }
