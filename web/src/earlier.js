@@ -6,7 +6,7 @@ import {isWhite, menOf, placement} from './fen.js';
 import {readView} from './parse_answers.js';
 import {toText} from './script.js';
 /**
- * @typedef {{fen: string, san: string, mark: string}} Before
+ * @typedef {{fen: string, san: string, from: number, mark: string}} Before
  *   a position, and the move that leads from it; its mark in the study
  */
 
@@ -44,7 +44,7 @@ export async function movesBefore(fen, aim) {
     const {text: shown} = await services.core.answer('view root', `${texts[i]}stipulate ${aim}\n`, PAGES),
                  view = readView(shown);
     const move = view && view.moves.find(m => m.from === place.from && m.to === place.to && !m.promoted);
-    if (move) found.push({fen: place.fen, san: move.san, mark: move.mark});
+    if (move) found.push({fen: place.fen, san: move.san, from: place.from, mark: move.mark});
   }
   const rank = (/** @type {Before} */ m) => ['only', 'reply', 'dual', 'idle', 'mistake'].indexOf(m.mark);
   return found.sort((x, y) => rank(x) - rank(y));

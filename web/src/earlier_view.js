@@ -1,11 +1,11 @@
 // @ts-check
 // The panel 'Begin earlier': first the move of the opponent that led to the start, then the hero's before it.
-import {$, button, h, put} from './dom.js';
+import {$, button, h, put, smallButton} from './dom.js';
 import {change, track} from './actions.js';
 import {app, doc, services, say, study} from './state.js';
 import {movesBefore} from './earlier.js';
 import {withMoves} from './edits.js';
-import {control, other, sideOf} from './fen.js';
+import {control, other, sideOf, squareName} from './fen.js';
 import {bareOf, insertions} from './turning.js';
 import {aimWords, markSign} from './words.js';
 /** @typedef {import('./earlier.js').Before} Before */
@@ -57,14 +57,19 @@ function begin() {
   }, 'board');
 }
 /** @param {Before} move */
-const moveView = move => h('button', {
-  type: 'button',
-  class: `chip m ${move.mark}`,
-  'data-before': move.san,
-  title: control(move.fen),
-  onclick: () => choose(move)
-},
-  move.san, markSign(move) && h('b', {}, markSign(move)));
+const moveView = move => h('button',
+  {class: `chip m ${move.mark}`, 'data-before': move.san, title: control(move.fen), onclick: () => choose(move)},
+  move.san, markSign(move) && h('b', {}, markSign(move)), h('small', {}, ` from ${squareName(move.from)}`));
+/**
+ * What the marks of the moves say, of which those come first that are best.
+ * @param {Before[]} list
+ * @param {boolean} mine      whether they are the hero's
+ */
+function marksIn(list, mine) {
+  const has = (/** @type {string} */ mark) => list.some(move => move.mark === mark);
+  if (mine) return has('only') ? '; those first that alone hold' : '; none is the only one that holds';
+  return has('mistake') ? '; from before one with ? the aim is out of reach' : '';
+}
 function draw() {
   if ($('earlier').hidden) return;
   const at = chosen.length ? chosen[0].fen : study() ? study().fen : '', mover = other(sideOf(at));
@@ -72,7 +77,7 @@ function draw() {
         none = `No move of ${mover} without a capture can have led here.`;
   const words = fault ? `Not found: ${fault}.`
     : offered === null ? 'The moves before are looked for …'
-    : offered.length   ? `${mover}'s move before ${next}; those first that alone hold:`
+    : offered.length   ? `${mover}'s move before ${next}${marksIn(offered, study().aim?.hero === mover)}:`
                        : none;
   put('earlier',
     h('div', {class: 'row'}, h('h2', {}, 'Begin earlier'), h('span', {class: 'gap'}),
@@ -86,9 +91,9 @@ function draw() {
 }
 /** Offered at the start of a study that has a stipulation. */
 export const earlierButton = () =>
-  (study() && study().aim ? button('Begin earlier', 'put the moves before the start in front', () => {
+  (study() && study().aim ? smallButton('Begin earlier', 'put the moves before the start in front', () => {
     openEarlier().catch(why => {
       say('board', `${why.message}.`);
       services.show();
     });
-  }, {class: 'chip act', id: 'beginEarlier'}) : null);
+  }, {id: 'beginEarlier'}) : null);
