@@ -96,7 +96,9 @@ export async function search({name, theme, filters, most}, spawn, report) {
       const answer = await core.answer(request, '', PAGES);
       if (answer.ended !== 'done') throw new Error(reason(refusalIn(answer)));
       addFound(now, answer.text.split('\n').filter(Boolean));
-      if (now.at >= now.of || now.found.length >= most) now.ended = now.at >= now.of ? 'all' : 'enough';
+      if (now.found.length > most || now.at < now.of && now.found.length === most) now.ended = 'enough';
+      else if (now.at >= now.of) now.ended = 'all';
+      now.found = now.found.slice(0, most);
       if (!report(now)) now.ended = now.ended || 'stopped';
       piece = Math.round(piece * Math.max(0.25, Math.min(4, ALIKE / (performance.now() - began + 1))));
     }
