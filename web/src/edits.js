@@ -190,7 +190,10 @@ function withOriginal(lines, study, name, original) {
  */
 export function setTag(lines, study, name, text, original = '') {
   const carried = study.tags[name] !== undefined && study.place[name] === undefined;
-  const set = setLine(lines, study, name, text ? `tag ${name} ${text}` : carried ? `tag ${name} ${unknown(name)}` : '');
+  const own = lines.findIndex(
+    (line, at) => at > study.from && at < study.end && wordsOf(line).slice(0, 2).join(' ') === 'tag ' + name);
+  const there = own < 0 ? study : {...study, place: {[name]: own, ...study.place}};
+  const set = setLine(lines, there, name, text ? `tag ${name} ${text}` : carried ? `tag ${name} ${unknown(name)}` : '');
   return {lines: withOriginal(set, study, name, original)};
 }
 

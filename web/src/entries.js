@@ -27,6 +27,26 @@ export const nameOf = (s, name) => s.originals[name] || (isKnown(s.tags[name]) ?
  * @param {Study} s
  */
 export const studyName = s => [nameOf(s, 'Event'), nameOf(s, 'White')].filter(Boolean).join(', ') || control(s.fen);
+/**
+ * Whether a tag has the text that an earlier study left.
+ * @param {Study} s
+ * @param {string} name
+ */
+const isCarried = (s, name) => s.place[name] === undefined && !s.originals[name];
+/**
+ * The text of a tag in the list: that of its own line, also where it was refused; one that an earlier study left is not
+ * given as this one's.
+ * @param {Doc} doc
+ * @param {Study} s
+ * @param {string} name
+ */
+function listedName(doc, s, name) {
+  const text = nameOf(s, name), refused = refusedIn(doc, s).map(r => tagIn(r.text)).find(m => m && m[1] === name);
+  if (!isCarried(s, name)) return text;
+  return refused ? refused[2] : text && `${text} (set for an earlier study)`;
+}
+/** @param {string} line */
+const tagIn = line => /^ *tag +(\w+) +(.*?) *$/.exec(line);
 
 /**
  * Whether some move of the hero is in a tree: what a review calls `empty`, for a tree that has no review yet.
@@ -47,11 +67,20 @@ export function hasSolution(lines, s, review) {
   return s.aim !== null && hasHeroMove(bareTree(lines.slice(s.from, s.end)), s.fen, s.aim);
 }
 /**
- * The first line of a study that was refused: its verdict is not that of the entry then.
- * @param {Doc} doc
+ * @param {{refused: import('./types.js').Refused[]}} doc
  * @param {Study} s
  */
-export const unreadIn = (doc, s) => doc.refused.find(r => s.from < r.line && r.line < s.end && isEdit(r.text));
+const refusedIn = (doc, s) => doc.refused.filter(r => s.from < r.line && r.line < s.end && isEdit(r.text));
+/**
+ * What is said of a study of which a line was refused, by the first such line: its verdict is not that of the entry
+ * then.
+ * @param {{refused: import('./types.js').Refused[]}} doc
+ * @param {Study} s
+ */
+export function unreadIn(doc, s) {
+  const [unread] = refusedIn(doc, s), words = unread ? wordsOf(unread.text) : [];
+  return unread ? `not read: ${words.slice(words[0] === 'insert' ? 2 : 0).join(' ').slice(0, 40)}` : '';
+}
 /**
  * What is said of a study by one word and more: its verdict, but where a line of it was not read, where no move of the
  * solution was given, or where only time is lost.
@@ -62,14 +91,25 @@ export const unreadIn = (doc, s) => doc.refused.find(r => s.from < r.line && r.l
  */
 export function stampOf(doc, s, review) {
   const unread = unreadIn(doc, s), [kind] = s.verdict.split(' ');
-  if (unread) {
-    const words = wordsOf(unread.text), from = words[0] === 'insert' ? 2 : 0;
-    return {kind: 'not read', text: `not read: ${words.slice(from).join(' ').slice(0, 40)}`};
-  }
+  if (unread) return {kind: 'not read', text: unread};
   if (!kind) return {kind: 'not judged', text: 'not judged'};
   if (kind === 'sound' && !hasSolution(doc.lines, s, review)) return {kind: 'holds', text: 'holds'};
   if (review && review.waste.startsWith('sound')) return {kind: 'time', text: review.waste};
   return {kind, text: (review && review.waste) || s.verdict};
+}
+/**
+ * Refused lines by what is wrong: those behind it in the same study that lack what it was to give come with it.
+ * @param {import('./types.js').Refused[]} refused
+ * @param {(line: number) => number} of      the study of a line
+ */
+export function byCause(refused, of) {
+  const causes = /** @type {import('./types.js').Refused[][]} */ ([]);
+  for (const r of refused) {
+    const last = causes[causes.length - 1];
+    if (last && of(last[0].line) === of(r.line) && /^error No(Study|SuchNode|Position)/.test(r.reply)) last.push(r);
+    else causes.push([r]);
+  }
+  return causes;
 }
 /**
  * What the lines after a refused position say of it: who the author is, and which entry it was to be.
@@ -79,8 +119,8 @@ export function stampOf(doc, s, review) {
 function tagsAfter(lines, from) {
   const tags = /** @type {Record<string, string>} */ ({});
   for (let at = from + 1; at < lines.length && wordsOf(lines[at])[0] !== 'position'; at++) {
-    const m = /^ *tag +(\w+) +(.*)$/.exec(lines[at]);
-    if (m) tags[m[1]] = m[2].trim();
+    const m = tagIn(lines[at]);
+    if (m) tags[m[1]] = m[2];
   }
   return tags;
 }
@@ -119,12 +159,12 @@ export function entriesOf(doc, reviews = []) {
       line: s.from,
       at,
       kind,
-      title: nameOf(s, 'Event') || control(s.fen),
-      author: nameOf(s, 'White'),
+      title: listedName(doc, s, 'Event') || control(s.fen),
+      author: listedName(doc, s, 'White'),
       fen: s.fen,
       aim: s.aim ? aimText(s.aim) : '',
       stamp: text,
-      review: reviews[at] || null
+      review: kind === 'not read' ? null : reviews[at] || null
     };
   });
   const refused = doc.refused.filter(r => isPosition(r.text)).map(r => {

@@ -48,8 +48,8 @@ export function listView() {
       entry => [number(entry), entry.title, entry.author, entry.aim || '–', stampView(entry)])
   ];
 }
-/** The facts of all studies are found first. */
+/** The facts of all studies are found first. Spreadsheets take the letters for UTF-8 by the mark at the front. */
 async function saveList() {
   await reviewAll(doc(), true);
-  download(`${doc().name || 'studies'}.csv`, csvOf(entriesOf(doc(), knownReviews(doc()))));
+  download(`${doc().name || 'studies'}.csv`, '\ufeff' + csvOf(entriesOf(doc(), knownReviews(doc()))));
 }

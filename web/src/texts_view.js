@@ -1,17 +1,17 @@
 // @ts-check
 // The texts: the game as PGN, the script, and refused lines.
-import {button, h} from './dom.js';
+import {button, h, smallButton} from './dom.js';
 import {change, goStudy} from './actions.js';
 import {app, doc} from './state.js';
 import {dropStudy, tidy} from './edits.js';
 import {copyStudy, moveStudy} from './study_edits.js';
-import {numbersOf, unreadIn} from './entries.js';
+import {byCause, numbersOf, unreadIn} from './entries.js';
 import {table} from './review_view.js';
 import {messageAt} from './head_view.js';
 import {diagramView} from './diagram.js';
 import {openText} from './opening.js';
 import {counted, reason} from './words.js';
-/** @typedef {import('./types.js').Study} Study */
+/** @typedef {import('./types.js').Study} Study @typedef {import('./types.js').Refused} Refused */
 
 const open = {
   pgn: false,
@@ -73,27 +73,31 @@ function scriptView(s) {
 }
 const copy = () => change(now => copyStudy(now.lines, now.studies, now.at), 'script');
 /** What is done with the study as a whole. */
-const studyButtons =
-  () => [button('Copy this study', 'one more of the same behind it', copy, {class: 'chip act', id: 'copyStudy'}),
-    doc().studies.length > 1 && [moveButton('Move up', -1), moveButton('Move down', 1)]];
+const studyButtons = () => [smallButton('Copy this study', 'one more of the same behind it', copy, {id: 'copyStudy'}),
+  doc().studies.length > 1 && [moveButton('Move up', -1), moveButton('Move down', 1)]];
 /**
  * @param {string} text
  * @param {1 | -1} by
  */
-const moveButton = (text, by) => button(text, 'this study among those of the script',
+const moveButton = (text, by) => smallButton(text, 'this study among those of the script',
   () => change(now => moveStudy(now.lines, now.studies, now.at, by), 'script'),
-  {class: 'chip act', id: by < 0 ? 'studyUp' : 'studyDown', disabled: !doc().studies[doc().at + by]});
+  {id: by < 0 ? 'studyUp' : 'studyDown', disabled: !doc().studies[doc().at + by]});
 function refusedView() {
   const list = doc().refused, studies = doc().studies;
   const of = (/** @type {number} */ line) => studies.findIndex(s => s.from <= line && line < s.end);
-  const cells = (/** @type {import('./types.js').Refused} */ r) => [`${r.line + 1}`,
-    of(r.line) < 0 ? '–' : studyLink(of(r.line)), h('code', {}, r.text.slice(0, 80)), reason(r.reply)];
+  const cells =
+    (/** @type {Refused[]} */[r, ...rest]) => [`${r.line + 1}`, of(r.line) < 0 ? '–' : studyLink(of(r.line)),
+      h('code', {}, r.text.slice(0, 80)), [reason(r.reply), rest.length > 0 && followView(rest)]];
   return [
     h('h2', {id: 'refused'},
       `${counted(list.length, 'line')} of the script ${list.length === 1 ? 'was' : 'were'} refused`),
-    table(['Line', 'Study', 'Text', 'Reason'], list, cells)
+    table(['Line', 'Study', 'Text', 'Reason'], byCause(list, of), cells)
   ];
 }
+/** @param {Refused[]} rest */
+const followView = rest =>
+  h('details', {}, h('summary', {class: 'note'}, `${counted(rest.length, 'more line')} for want of it`),
+    rest.map(r => h('div', {}, `${r.line + 1}: `, h('code', {}, r.text.slice(0, 80)))));
 /** @param {number} i */
 const studyLink = i => button(
   `${numbersOf(doc()).get(i)}`, 'show it', () => goStudy(i), {class: 'link', 'aria-current': i === doc().at && 'true'});

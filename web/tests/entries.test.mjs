@@ -1,7 +1,8 @@
 // Entries, their stamps and the list as a file; whole studies copied and moved; diagrams turned with their moves.
 import test from 'node:test';
 import assert from 'node:assert/strict';
-import {countsOf, csvOf, entriesOf, hasSolution, nameOf, stampOf} from '../src/entries.js';
+import {setTag} from '../src/edits.js';
+import {byCause, countsOf, csvOf, entriesOf, hasSolution, nameOf, stampOf} from '../src/entries.js';
 import {readReview, readReviews} from '../src/parse_answers.js';
 import {readScript} from '../src/script.js';
 import {copyStudy, moveStudy} from '../src/study_edits.js';
@@ -30,7 +31,8 @@ test('each entry has a row and a stamp', () => {
   const d = doc(['unsound 1', 'sound', 'sound']), review = readReview(REVIEW);
   const rows = entriesOf(d, [review]);
   assert.deepEqual(rows.map(r => [r.kind, r.title, r.author, r.stamp]), [
-    ['time', 'A, "first"', 'Reti', 'sound but for loss of time'], ['holds', 'B', 'Reti', 'holds'],
+    ['time', 'A, "first"', 'Reti', 'sound but for loss of time'],
+    ['holds', 'B', 'Reti (set for an earlier study)', 'holds'],
     ['left out', '', 'Kasparyan, G.', 'left out: not six fields, and not four'],
     ['left out', 'game 9 of the PGN, line 3', '', 'left out: 7 men'],
     ['not read', 'Kh8 Pc6 / Ka6 Ph5', '', 'not read: Kz9']
@@ -57,8 +59,29 @@ test('the list as comma-separated values', () => {
   const text = csvOf(entriesOf(doc(['unsound 1', 'sound', 'sound']), readReviews(REVIEW)));
   const [, first, second] = text.split('\r\n');
   assert.equal(first, `1,"A, ""first""",Reti,${FEN},White to win,sound but for loss of time,1,1,1`);
-  assert.equal(second, `2,B,Reti,${FEN},White to win,holds,,,`);
+  assert.equal(second, `2,B,Reti (set for an earlier study),${FEN},White to win,holds,,,`);
   assert.equal(text.split('\r\n').length, 7);
+});
+test('a name that was refused is not that of the study before, and facts of a part are not those of the entry', () => {
+  const lines =
+          ['position ' + FEN, 'stipulate white win', 'tag White Kling', '', 'position ' + FEN, 'tag White Prokeš'],
+        sent = lines.map((text, line) => ({text, line})).filter(({text}) => text);
+  const script = readScript(
+    lines, sent, ['position ' + FEN, 'stipulate White to win', 'tag White', 'position ' + FEN, 'error BadByte']);
+  const [, row] =
+    entriesOf({...script, at: 0, path: 'root', name: '', id: 'x', note: '', judged: true}, [null, readReview(REVIEW)]);
+  assert.deepEqual([row.author, row.stamp, row.review], ['Prokeš', 'not read: tag White Prokeš', null]);
+  const {lines: mended} = setTag(lines, script.studies[1], 'White', 'Prokes', 'Prokeš');
+  assert.deepEqual(mended.slice(4), ['# White was: Prokeš', 'position ' + FEN, 'tag White Prokes']);
+});
+test('refused lines by what is wrong', () => {
+  const row = (line, reply) => ({line, text: 'x', reply: 'error ' + reply});
+  const list = [
+    row(1, 'NotSan'), row(2, 'NoSuchNode'), row(3, 'BadByte'), row(4, 'NoSuchNode'), row(11, 'NoStudy'),
+    row(12, 'NoStudy')
+  ];
+  assert.deepEqual(
+    byCause(list, line => (line < 10 ? 0 : 1)).map(rows => rows.map(r => r.line)), [[1, 2], [3, 4], [11, 12]]);
 });
 test('studies that are copied and moved stand alone', () => {
   const d = doc(['sound', 'sound', 'sound']), moved = moveStudy(d.lines, d.studies, 0, 1),
