@@ -2,7 +2,8 @@
 // For other programs: `studyboard` on window. Promises of texts, as the program writes them.
 import {idle} from './actions.js';
 import {app, doc, services, PAGES, study} from './state.js';
-import {editsTo, fensOf, gamesOf, toText, linesOf} from './script.js';
+import {savedGames} from './notes.js';
+import {editsTo, fensOf, toText, linesOf} from './script.js';
 import {openText} from './opening.js';
 
 /**
@@ -108,7 +109,7 @@ export function makeApi(spawn) {
     study: () => (study() ? toText(editsTo(doc().lines, study())) : ''),
     path: () => doc().path,
     /** The games, as `Save PGN` writes them. */
-    pgn: () => gamesOf(doc()),
+    pgn: () => savedGames(doc()),
     /** Settles when all that was requested before is done. */
     idle,
     /** What the last answer took, for measures. */

@@ -2,6 +2,7 @@
 // What a PGN says beside its moves - comments, NAGs, tags that a script has no place for - kept as remarks of the
 // script, each at the moves that lead to it, and written into the saved PGN again where these moves still stand there.
 import {isKnown} from './edits.js';
+import {unreadIn} from './entries.js';
 import {TAGS} from './script.js';
 /** @typedef {import('./types.js').Study} Study @typedef {import('./types.js').Script} Script */
 
@@ -119,8 +120,12 @@ export function remarksOf(game) {
   const [tags, movetext] = parts(game), own = isOwn(movetext), out = /** @type {string[]} */ ([]);
   for (const [name, text] of Object.entries(tags))
     if (!OWN_TAGS.has(name)) out.push(`# tag ${name} ${text}`);
+  let last = '';
   walk(movetext, (kind, text, path) => {
-    if (kind === 'move' || !text || (own && (kind === 'nag' ? /^\$[14]$/.test(text) : isOurs(text)))) return;
+    const behindMove = last === 'move';
+    last = kind;
+    if (kind === 'move' || !text) return;
+    if (own && (kind === 'nag' ? behindMove && /^\$[14]$/.test(text) : isOurs(text))) return;
     for (const part of partsOf(text)) out.push(`# note ${path.join(' ') || '-'}: ${part}`);
   });
   return out.map(short);
@@ -148,15 +153,17 @@ export function withNotes(game, remarks) {
   const cut = game.indexOf('\n\n') + 1, head = game.slice(0, cut), movetext = game.slice(cut),
         puts = /** @type {Map<number, string[]>} */ (new Map());
   let last = '\n';
-  const ends = /** @type {Map<string, number>} */ (new Map());
-  walk(movetext, (kind, _, path, end) => {
+  const ends = /** @type {Map<string, number>} */ (new Map()), nags = /** @type {Map<string, string>} */ (new Map());
+  walk(movetext, (kind, text, path, end) => {
     last = path.join(' ');
     if (kind === 'move' || ends.has(last) || !last) ends.set(last, end);
+    if (kind === 'nag') nags.set(last, text);
   });
-  const nearly = new Map([...ends].reverse().map(([key, end]) => [loose(key), end]));
+  const nearly = new Map([...ends.keys()].reverse().map(key => [loose(key), key]));
   for (const [key, list] of notes) {
-    const end = ends.get(key) ?? nearly.get(loose(key));
-    if (end !== undefined) puts.set(end, [...(puts.get(end) || []), ...list]);
+    const at = ends.has(key) ? key : nearly.get(loose(key)) || '-', end = ends.get(at);
+    const more = list.filter(note => note !== nags.get(at));
+    if (end !== undefined) puts.set(end, [...(puts.get(end) || []), ...more]);
   }
   const text = [...puts]
                  .sort(([x], [y]) => y - x)
@@ -179,16 +186,18 @@ function wrap(text) {
 }
 
 /**
- * A study's games as they are saved: names in their own letters, and what a PGN said beside the moves.
- * @param {string[]} lines
+ * A study's games as they are saved: names in their own letters, what a PGN said beside the moves, and that it was not
+ * read to its end.
+ * @param {Script} script
  * @param {Study} study
  */
-function gamesOfStudy(lines, study) {
-  const remarks = lines.slice(study.head, study.from);
+function gamesOfStudy(script, study) {
+  const unread = unreadIn(script, study).replace(/[{}]/g, ''),
+        remarks = script.lines.slice(study.head, study.from).concat(unread && `# note -: ${unread}`);
   return study.games.map(game => withNotes(inOwnLetters(study, game), remarks));
 }
 /** @param {Script} script */
-export const savedGames = ({lines, studies}) => studies.flatMap(study => gamesOfStudy(lines, study)).join('');
+export const savedGames = script => script.studies.flatMap(study => gamesOfStudy(script, study)).join('');
 /**
  * A game with the texts of its tags in their own letters.
  * @param {Study} study

@@ -1,13 +1,13 @@
 // @ts-check
 // A file or a text becomes the document: a script as it stands, a PGN by way of the program.
-import {$, button, h} from './dom.js';
+import {$, h, smallButton} from './dom.js';
 import {change, track, sayOpened, work} from './actions.js';
 import {app, doc, services, say} from './state.js';
 import {decode, documentOf, importNote, leftOutBy, looksLikePgn, notKept, withoutAim} from './imported.js';
 import {freshId} from './keep.js';
-import {gamesIn, namesOf, remarksOf} from './notes.js';
+import {gamesIn, namesOf, remarksOf, savedGames} from './notes.js';
 import {replace} from './history.js';
-import {gamesOf, isCommand, isSilent, linesOf} from './script.js';
+import {isCommand, isSilent, linesOf} from './script.js';
 import {aimText, counted, endedReason, readAim} from './words.js';
 
 /** What was opened as a PGN last, so that it can be read again with a stipulation. */
@@ -16,26 +16,33 @@ let source = /** @type {{bytes: Uint8Array, name: string, id: string, waiting: n
 export function checkWhole() {
   const d = doc();
   if (!source || source.id !== d.id || !d.note || !d.judged) return;
-  if (decode(source.bytes).replace(/\r\n/g, '\n') !== gamesOf(d)) return;
+  if (decode(source.bytes).replace(/\r\n/g, '\n') !== savedGames(d)) return;
   app.history = replace(app.history, {...d, note: '', name: source.name.replace(/\.\w+$/, '')});
   services.keep();
   services.show();
 }
 /**
- * The lines that the program makes of a PGN, each in the letters in which it came.
+ * Lines, each in the letters in which it came.
+ * @param {Uint8Array} bytes
+ */
+function decodedLines(bytes) {
+  const lines = /** @type {string[]} */ ([]);
+  for (let at = 0; at < bytes.length;) {
+    const end = bytes.indexOf(10, at), next = end < 0 ? bytes.length : end;
+    lines.push(decode(bytes.subarray(at, next)));
+    at = next + 1;
+  }
+  return lines;
+}
+/**
+ * The lines that the program makes of a PGN.
  * @param {Uint8Array} bytes
  * @param {string} aim      words of a stipulation for games that say none, or nothing
  */
 async function importPgn(bytes, aim) {
-  const answer = await services.core.ask(aim ? 'import ' + aim : 'import', bytes, 0),
-        lines = /** @type {string[]} */ ([]);
+  const answer = await services.core.ask(aim ? 'import ' + aim : 'import', bytes, 0);
   if (answer.ended !== 'done') throw new Error(endedReason(answer.ended));
-  for (let at = 0; at < answer.bytes.length;) {
-    const end = answer.bytes.indexOf(10, at), next = end < 0 ? answer.bytes.length : end;
-    lines.push(decode(answer.bytes.subarray(at, next)));
-    at = next + 1;
-  }
-  return lines;
+  return decodedLines(answer.bytes);
 }
 /**
  * The lines of an import, with what its games say beside their moves as remarks above each position, and whose those
@@ -68,6 +75,7 @@ export async function plainText(typed) {
   const lines = await importPgn(new TextEncoder().encode(pgn), 'white win');
   return (lines.find(line => line.startsWith('tag White ')) || 'tag White ?').slice('tag White '.length);
 }
+const LATIN = 'Letters that are no UTF-8 are read as Latin 1.';
 /**
  * A PGN is saved under another name than the one it was opened by, since not all of it is kept.
  * @param {string} name
@@ -89,8 +97,9 @@ async function openPgn(bytes, where, name, aim = '') {
     say(where, `No study was found in this PGN. ${importNote(lines)} Nothing was changed.`);
     return services.show();
   }
-  await take(withRemarks(documentOf(lines), decode(bytes)), where, checkedName(name),
-    [importNote(lines), notKept(lines)].filter(Boolean).join(' '));
+  const latin = /\ufffd/.test(new TextDecoder().decode(bytes)) && LATIN,
+        remarked = withRemarks(documentOf(lines), decodedLines(bytes).join('\n'));
+  await take(remarked, where, checkedName(name), [importNote(lines), latin, notKept(lines)].filter(Boolean).join(' '));
   source.id = doc().id;
   services.show();
   checkWhole();
@@ -159,9 +168,9 @@ export function importView() {
   const file = doc().name ? `${doc().name}.pgn` : 'a file of another name';
   const without = / Left out: /.test(note) ? ', without the games that were left out' : '';
   const [doNot, them] = waiting === 1 ? ['does not', 'it'] : ['do not', 'them'];
-  const aimButton = (/** @type {string} */ words) => button(aimText(readAim(words)),
-    'read the PGN again, with this stipulation where none is said',
-    () => again && track(openPgn(again.bytes, 'board', again.name, words)), {class: 'chip act', 'data-import': words});
+  const aimButton = (/** @type {string} */ words) =>
+    smallButton(aimText(readAim(words)), 'read the PGN again, with this stipulation where none is said',
+      () => again && track(openPgn(again.bytes, 'board', again.name, words)), {'data-import': words});
   return [
     note && (!again || mine) && h('p', {class: 'note', id: 'notKept'}, `${note} Save PGN writes ${file}${without}.`),
     again && waiting > 0 &&

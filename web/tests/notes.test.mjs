@@ -1,7 +1,7 @@
 // What a PGN says beside its moves is kept, and written again.
 import test from 'node:test';
 import assert from 'node:assert/strict';
-import {gamesIn, namesOf, remarksOf, withNotes} from '../src/notes.js';
+import {gamesIn, namesOf, remarksOf, savedGames, withNotes} from '../src/notes.js';
 
 const GAME = `[Event "Rigaer Tageblatt"]
 [White "Reti"]
@@ -36,12 +36,27 @@ test('they are written behind what the program says there', () => {
   const text = withNotes(OURS, remarksOf(GAME));
   assert.match(text, /\[SetUp "1"\]\n\[Annotator "an editor"\]\n\n/);
   const words = text.slice(text.indexOf('\n\n')).replace(/\s+/g, ' ');
-  assert.ok(words.includes(
-              'White mates in 28} {A study for practice.} 1. Kg3 $1 {White mates in 28} $1 {The only move} (1. b4'),
+  assert.ok(
+    words.includes('White mates in 28} {A study for practice.} 1. Kg3 $1 {White mates in 28} {The only move} (1. b4'),
     words);
   assert.ok(words.includes('Kf6 {draw} {draws [%cal Gg5f6]})'));
   assert.equal(withNotes(OURS, []), OURS);
   assert.equal(withNotes(OURS, ['# note Kh1: gone']).replace(/\s+/g, ' '), OURS.replace(/\s+/g, ' '));
+});
+test('what is written is read and written again the same', () => {
+  const dual = OURS.replace('2. Kf3 $1 {White mates in 27}', '2. Kf3 {White mates in 27; dual 2}'),
+        text = withNotes(dual, remarksOf(GAME));
+  assert.ok(text.replace(/\s+/g, ' ').includes('2. Kf3 {White mates in 27; dual 2} $1 1-0'), text);
+  assert.equal(withNotes(dual, remarksOf(text)), text);
+});
+test('a study that was not read to its end says so where it is saved', () => {
+  const script = {
+    lines: ['position x', 'insert root 1.Kg3'],
+    studies: [{head: 0, from: 0, end: 2, originals: {}, games: [OURS]}],
+    refused: [{line: 1, text: 'insert root 1.Kg3', reply: 'error NotSan'}]
+  };
+  assert.ok(savedGames(script).replace(/\s+/g, ' ').includes('mates in 28} {not read: 1.Kg3} 1. Kg3'));
+  assert.equal(savedGames({...script, refused: []}), OURS);
 });
 test('games are cut as the program cuts them', () => {
   assert.equal(gamesIn(GAME + '\n' + OURS).length, 2);
