@@ -68,7 +68,7 @@ const moveView = move => h('button',
 function marksIn(list, mine) {
   const has = (/** @type {string} */ mark) => list.some(move => move.mark === mark);
   if (mine) return has('only') ? '; those first that alone hold' : '; none is the only one that holds';
-  return has('mistake') ? '; from before one with ? the aim is out of reach' : '';
+  return has('mistake') ? '; before one with ? the study does not hold' : '';
 }
 function draw() {
   if ($('earlier').hidden) return;

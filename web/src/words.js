@@ -144,6 +144,7 @@ export function otherAims(aim, verdict, mover, value, duals) {
     if (won !== aim.hero) return [`${won.toLowerCase()} win`];
     return aim.goal === 'mate' ? [`${won.toLowerCase()} mate ${movesTo(value)}`] : [];
   }
+  if (aim.goal === 'draw' && won === aim.hero) return [`${won.toLowerCase()} win`];
   const mate = `${aim.hero.toLowerCase()} mate ${movesTo(value)}`;
   return duals && aim.goal === 'win' && movesTo(value) <= 127 ? [mate] : [];
 }

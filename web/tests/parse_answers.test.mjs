@@ -4,7 +4,7 @@ import assert from 'node:assert/strict';
 import {readFileSync, readdirSync} from 'node:fs';
 import {menOf, sideOf, squareName, isWhite} from '../src/fen.js';
 import {nodeAt, readReview, readSurvey, readView, refusalIn, allNodes} from '../src/parse_answers.js';
-import {aimText, valueSign, valueText, verdictSentence} from '../src/words.js';
+import {aimText, otherAims, valueSign, valueText, verdictSentence} from '../src/words.js';
 
 const folder = new URL('./data/', import.meta.url), text = name => readFileSync(new URL(name, folder), 'utf8');
 const views =
@@ -95,4 +95,12 @@ test('refusals', () => {
   assert.equal(refusalIn({text: 'NoTable KRK\n', ended: 'refused'}), 'error NoTable KRK');
   assert.equal(refusalIn({text: 'study 8/8/8/8/8/k7/8/K7 w - - 0 1\nrefused 2 UnknownStipulation\n', ended: 'done'}),
     'error UnknownStipulation');
+});
+test('what could be said instead', () => {
+  const win = {kind: 'win', n: 13}, draw = {kind: 'draw', n: 0}, aim = (goal, hero = 'White') => ({hero, goal, k: 0});
+  assert.deepEqual(otherAims(aim('draw'), 'sound', 'White', win, false), ['white win']);
+  assert.deepEqual(otherAims(aim('draw'), 'sound', 'White', draw, true), []);
+  assert.deepEqual(otherAims(aim('win'), 'unsound 1', 'White', win, true), ['white mate 7']);
+  assert.deepEqual(otherAims(aim('win'), 'wrong', 'White', draw, false), ['white draw', 'black draw']);
+  assert.deepEqual(otherAims(aim('draw'), 'wrong', 'Black', win, false), ['black win']);
 });
