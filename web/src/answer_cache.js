@@ -93,7 +93,7 @@ export async function viewOf(text, path) {
   const kept = await keptView(text, path);
   if (kept) return kept;
   // A core that was started again has no tables.
-  await services.tables.load(await services.tables.classesOf(fensOf(text.split('\n'))));
+  await services.tables.loadFor(fensOf(text.split('\n')));
   const answer = await services.core.answer('view ' + path, text, PAGES), view = readView(answer.text);
   if (!view) return reason(refusalIn(answer));
   remember(views, keyOf(text, path), view);
@@ -127,7 +127,7 @@ export async function reviewOf(text, fen, stamp) {
   await pause(expected > 150 ? Math.min(1000, 2 * expected) : 30);
   if (stamp !== app.stamp) return;
   try {
-    await services.tables.load(await services.tables.classesOf([fen]), services.facts);
+    await services.tables.loadFor([fen], services.facts);
     if (stamp !== app.stamp) return;
     const began = performance.now(), answer = await services.facts.answer('review', text + 'pgn\n', PAGES);
     const review = readReview(answer.text);

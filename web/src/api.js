@@ -2,8 +2,7 @@
 // For other programs: `studyboard` on window. Promises of texts, as the program writes them.
 import {idle} from './actions.js';
 import {app, doc, services, PAGES, study} from './state.js';
-import {savedGames} from './notes.js';
-import {editsTo, fensOf, toText, linesOf} from './script.js';
+import {editsTo, fensOf, gamesOf, toText, linesOf} from './script.js';
 import {openText} from './opening.js';
 
 /**
@@ -31,7 +30,7 @@ async function answer(request, script, core = services.core, pages = PAGES) {
  */
 async function factsOf(request, script) {
   await tablesOf(script);
-  await services.tables.load(await services.tables.classesOf(fensOf(linesOf(script))), services.facts);
+  await services.tables.loadFor(fensOf(linesOf(script)), services.facts);
   return answer(request, script, services.facts);
 }
 /** @param {() => import('./engine.js').Core} spawn */
@@ -109,7 +108,7 @@ export function makeApi(spawn) {
     study: () => (study() ? toText(editsTo(doc().lines, study())) : ''),
     path: () => doc().path,
     /** The games, as `Save PGN` writes them. */
-    pgn: () => savedGames(doc()),
+    pgn: () => gamesOf(doc()),
     /** Settles when all that was requested before is done. */
     idle,
     /** What the last answer took, for measures. */

@@ -89,7 +89,7 @@ export async function search({name, theme, filters, most}, spawn, report) {
   const fens = placements(name), core = spawn(), now = /** @type {Search} */ ({at: 0, of: 0, found: [], ended: ''});
   try {
     await services.tables.ready(fens);
-    await services.tables.load(await services.tables.classesOf(fens), core);
+    await services.tables.loadFor(fens, core);
     for (let piece = PIECE; !now.ended;) {
       const began = performance.now(),
             request = ['find', name, theme, filters, now.at, now.at + piece].filter(word => word !== '').join(' ');

@@ -26,7 +26,7 @@ export function knownReviews(d) {
 const pause = (/** @type {number} */ ms) => new Promise(on => setTimeout(on, ms));
 /** @param {string} text */
 async function find(text) {
-  await services.tables.load(await services.tables.classesOf(fensOf(text.split('\n'))), services.facts);
+  await services.tables.loadFor(fensOf(text.split('\n')), services.facts);
   const {text: facts} = await services.facts.answer('review', text + 'pgn\n', PAGES);
   if (found.size >= MOST) found.clear();
   found.set(text, readReview(facts));

@@ -145,7 +145,7 @@ on('print', () => {
 /** The printed pages of all studies. */
 const saveReport = () => work(async () => {
   const {lines} = doc();
-  await services.tables.load(await services.tables.classesOf(fensOf(lines)), services.facts);
+  await services.tables.loadFor(fensOf(lines), services.facts);
   const answer = await services.facts.answer('report', toText(gameLines(doc())), PAGES);
   if (answer.ended === 'done') {
     download(fileName('.html'), answer.text);

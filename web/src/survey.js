@@ -52,7 +52,7 @@ export function hideSurvey() {
  * Loads the tables of a position into the worker of facts: no move waits for it.
  * @param {string} fen
  */
-const loadTables = async fen => services.tables.load(await services.tables.classesOf([fen]), services.facts);
+const loadTables = async fen => services.tables.loadFor([fen], services.facts);
 const OFTEN = 150;
 /**
  * Does something for some squares of a survey, as long as it is shown, and draws it now and then.

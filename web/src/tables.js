@@ -138,11 +138,16 @@ export function makeTables({core, spawn, readers, store, report}) {
     return names.filter(name => lacking.includes(name));
   }
   /**
+   * @param {string[]} fens
+   * @param {Core} into
+   */
+  const loadFor = async (fens, into = core) => load(await classesOf(fens), into);
+  /**
    * The tables of these positions that are not there; those that are kept are in the core afterwards.
    * @param {string[]} fens
    */
   async function lacking(fens) {
-    const missing = await load(await classesOf(fens));
+    const missing = await loadFor(fens);
     fetched.clear();
     return missing;
   }
@@ -279,6 +284,7 @@ export function makeTables({core, spawn, readers, store, report}) {
     knownClasses,
     fetchAhead,
     load,
+    loadFor,
     lacking,
     ready,
     estimate,
