@@ -5,6 +5,7 @@ import {services, PAGES} from './state.js';
 import {isWhite, menOf, placement} from './fen.js';
 import {readView} from './parse_answers.js';
 import {toText} from './script.js';
+import {aimWords} from './words.js';
 /**
  * @typedef {{fen: string, san: string, from: number, mark: string}} Before
  *   a position, and the move that leads from it; its mark in the study
@@ -28,6 +29,13 @@ export function placesBefore(fen) {
   }
   return out;
 }
+/**
+ * The words of a stipulation from before some moves: a mate comes later by those that are the hero's.
+ * @param {import('./types.js').Aim} aim
+ * @param {import('./types.js').Side[]} movers
+ */
+export const aimBefore = (aim, movers) =>
+  aimWords({...aim, k: aim.k && aim.k + movers.filter(side => side === aim.hero).length});
 /**
  * The moves that can have led to a position, those first that are the only ones to hold.
  * @param {string} fen

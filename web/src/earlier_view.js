@@ -3,11 +3,11 @@
 import {$, button, h, put, smallButton} from './dom.js';
 import {change, track} from './actions.js';
 import {app, doc, services, say, study} from './state.js';
-import {movesBefore} from './earlier.js';
+import {aimBefore, movesBefore} from './earlier.js';
 import {withMoves} from './edits.js';
 import {control, other, sideOf, squareName} from './fen.js';
 import {bareOf, insertions} from './turning.js';
-import {aimWords, markSign} from './words.js';
+import {markSign} from './words.js';
 /** @typedef {import('./earlier.js').Before} Before */
 
 /** The moves chosen so far, the last one first; and those to choose from, or none while they are looked for. */
@@ -24,6 +24,8 @@ export function close() {
   $('earlier').hidden = true;
   return open;
 }
+/** @param {Before[]} moves */
+const movers = moves => moves.map(move => sideOf(move.fen));
 /** @param {string} fen */
 function look(fen) {
   const s = study(), mine = doc().lines;
@@ -35,7 +37,8 @@ function look(fen) {
   const failed = (/** @type {Error} */ why) => {
     fault = why.message;
   };
-  const done = movesBefore(fen, s.aim ? aimWords(s.aim) : 'white win').then(found, failed);
+  const done = movesBefore(fen, s.aim ? aimBefore(s.aim, [other(sideOf(fen)), ...movers(chosen)]) : 'white win')
+                 .then(found, failed);
   return track(done.finally(() => (doc().lines === mine ? draw() : close())));
 }
 /** @param {Before} move */
@@ -51,9 +54,10 @@ function begin() {
   return change(now => {
     const s = now.studies[now.at];
     if (!s || !s.aim) return null;
+    const aim = aimBefore(s.aim, movers(moves));
     const front = moves.map((move, i) => `insert ${i ? Array(i).fill(0).join('.') : 'root'} ${move.san}`);
     const tree = insertions(bareOf(view.root), Array(moves.length).fill(0).join('.')).map(({line}) => line);
-    return {...withMoves(now.lines, s, first.fen, aimWords(s.aim), [...front, ...tree]), path: 'root', lenient: false};
+    return {...withMoves(now.lines, s, first.fen, aim, [...front, ...tree]), path: 'root', lenient: false};
   }, 'board');
 }
 /** @param {Before} move */

@@ -95,8 +95,8 @@ function firstLeftOut(games) {
   return first.join('; ') + (games.length > MOST ? `; and ${games.length - MOST} more` : '');
 }
 /**
- * How many games and studies there were. A game that was left out is named with the reason; of several beside studies only
- * their number, since the list has a row for each.
+ * How many games and studies there were. A game that was left out is named with the reason; of several beside studies
+ * only their number, since the list has a row for each.
  * @param {string[]} lines
  */
 export function importNote(lines) {

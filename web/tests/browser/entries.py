@@ -231,6 +231,24 @@ def test_a_study_begins_earlier(user):
     ], sans
 
 
+def test_a_mate_begins_earlier(user):
+    user.open_tables(TABLES, SMALL)
+    mate = "position 8/k1P5/2K5/8/8/8/8/8 w - - 0 1\nstipulate white mate 2\ninsert root c8=R\n"
+    user.promise("studyboard.open(a[0])", mate)
+    user.settle()
+    user.click("first")
+    user.settle()
+    user.click("beginEarlier")
+    for state in ("the start", "before Ka7"):
+        user.until(f"document.getElementById('earlierState').innerText.includes('{state}')", 60)
+        user.until("document.querySelector('#earlier [data-before]')", 60)
+        chips = user.js("return [...document.querySelectorAll('#earlier [data-before]')].map(b => b.innerText)")
+        assert len(chips) == len(set(chips)) > 1 and all(" from " in chip for chip in chips), chips
+        user.d.find_element(By.CSS_SELECTOR, "#earlier [data-before]").click()
+    user.settle()
+    assert "\nstipulate white mate 3\n" in script(user) and user.text("stamp") != "wrong", script(user)
+
+
 def test_a_diagram_is_saved(user):
     user.open_tables(TABLES, SMALL)
     user.set_up(FEN, "white win")
