@@ -243,14 +243,14 @@ export function addStudy(lines, fen, aim, before) {
   ];
 }
 /**
- * Removes a study from the script.
+ * Removes a study from the script, with the remarks above it, which are its own.
  * @param {string[]} lines
  * @param {Study} study
  * @param {number} at
  * @returns {Change}
  */
 export const dropStudy = (lines, study, at) =>
-  ({lines: splice(lines, study.from, study.end - study.from), at: Math.max(at - 1, 0), path: 'root'});
+  ({lines: splice(lines, study.head, study.end - study.head), at: Math.max(at - 1, 0), path: 'root'});
 
 /**
  * A study written again in its shortest form, in written order.

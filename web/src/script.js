@@ -1,7 +1,7 @@
 // @ts-check
 // The script is the document: lines of edits, run from the first to the last. Here its replies become studies.
 import {aimText, aimWords} from './words.js';
-import {originalsIn} from './imported.js';
+import {leftOutBy, originalsIn} from './imported.js';
 import {readStipulation} from './parse_answers.js';
 /** @typedef {import('./types.js').Script} Script @typedef {import('./types.js').Study} Study */
 /** @typedef {import('./types.js').Aim} Aim */
@@ -110,15 +110,17 @@ export function readScript(lines, sent, replies) {
   return script;
 }
 /**
- * The end of a study: the head of the next one, or that of an entry between them whose position was refused.
+ * The end of a study: the head of the next one, or that of an entry between them whose position was refused or whose
+ * game was left out.
  * @param {Script} script
  * @param {Study} study
  * @param {number} next
  */
 function endOf({lines, refused}, study, next) {
   const faulty = refused.find(r => study.from < r.line && r.line < next && isPosition(r.text));
-  let end = faulty ? faulty.line : next;
-  while (faulty && /^ *#/.test(lines[end - 1])) end--;
+  let end = study.from + 1;
+  while (end < next && end !== faulty?.line && !leftOutBy(lines[end])) end++;
+  while (end < next && /^ *#/.test(lines[end - 1])) end--;
   return end;
 }
 /**

@@ -12,6 +12,8 @@ import {
   whyLeftOut,
   withoutAim
 } from '../src/imported.js';
+import {dropStudy} from '../src/edits.js';
+import {copyStudy} from '../src/study_edits.js';
 import {savedGames} from '../src/notes.js';
 import {readScript, assumeAccepted} from '../src/script.js';
 
@@ -63,8 +65,12 @@ test('what a script has no place for', () => {
 test('remarks above a position are the study\'s, and names stay in their letters', () => {
   const lines = documentOf(LINES), {studies} = assumeAccepted(lines);
   assert.equal(lines.length, LINES.length - 2);
-  assert.deepEqual(studies.map(s => [s.head, s.from, s.end]), [[0, 3, 14], [14, 16, lines.length]]);
+  assert.deepEqual(studies.map(s => [s.head, s.from, s.end]), [[0, 3, 8], [14, 16, lines.length]]);
   assert.deepEqual(studies.map(s => s.originals), [{White: 'Троицкий'}, {}]);
+  const dropped = assumeAccepted(dropStudy(lines, studies[0], 0).lines);
+  assert.deepEqual(dropped.studies.map(s => s.originals), [{}]);
+  assert.deepEqual(leftOut(dropped.lines), leftOut(lines));
+  assert.deepEqual(leftOut(copyStudy(lines, studies, 0).lines), leftOut(lines));
   assert.deepEqual(originalsIn(['# Site was:  a b ']), {Site: 'a b'});
   const game = '[Event "?"]\n[White "Troickij"]\n\n1-0\n\n', sent = lines.map((text, line) => ({text, line}));
   const replies = lines.map(text => (text === 'pgn'            ? game

@@ -101,6 +101,10 @@ def test_ten_entries_are_ten_rows(user):
     user.click("undo")
     user.settle()
     assert rows(user)[7][4].startswith("left out")
+    for name, number in (("copyStudy", 11), ("drop", 10), ("drop", 9), ("tidy", 9)):
+        user.js(f"document.getElementById('{name}').click()")
+        user.settle()
+        assert len(rows(user)) == number and sum("left out" in row[4] for row in rows(user)) == 4, rows(user)
 
 
 def test_letters_of_another_code(user):
