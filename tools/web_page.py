@@ -75,7 +75,7 @@ def main():
         assert "</script" not in text.lower() and "<!--" not in text, "a bundle that would end its element"
     policy = ("default-src 'none'; script-src %s 'wasm-unsafe-eval'; worker-src blob:; style-src %s; img-src data:; "
               "base-uri 'none'; form-action 'none'") % (digest(script), digest(style))
-    page = read(os.path.join(WEB, "page.html"))
+    page = read(os.path.join(WEB, "page.html")).replace(">\n<", "><")
     parts = {"/*POLICY*/": policy, "/*STYLE*/": style, "<!--MEN-->": read(os.path.join(WEB, "men.svg")).strip(), "/*WORKER*/": worker,
              "/*MODULE64*/": packed(module64), "/*MODULE32*/": packed(module32), "/*SCRIPT*/": script,
              "/*VERSION*/": version()}

@@ -1,6 +1,6 @@
 // @ts-check
 // The way from fingers and keys to squares and moves.
-import {$, button, h} from './dom.js';
+import {$, button, h, onDocument} from './dom.js';
 import {corner, man, manIcon, movesFrom, showBoard, shownFen, WIDTH, X, Y} from './board.js';
 import {isWhite, manName, menOf, sideOf, squareName, NAMES} from './fen.js';
 import {prefetchMoves} from './prefetch.js';
@@ -96,13 +96,13 @@ function onRelease(e) {
 }
 export function listen() {
   $('board').addEventListener('pointerdown', onPress);
-  document.addEventListener('pointermove', onDrag);
-  document.addEventListener('pointerup', onRelease);
-  document.addEventListener('pointercancel', () => {
+  onDocument('pointermove', onDrag);
+  onDocument('pointerup', onRelease);
+  onDocument('pointercancel', () => {
     hold = null;
     services.show();
   });
-  document.addEventListener('pointerdown', e => {
+  onDocument('pointerdown', e => {
     if (!(/** @type {Element} */ (e.target).closest('.choose'))) closeChoice();
   }, true);
 }

@@ -1,6 +1,6 @@
 // @ts-check
 // The list of the documents that this browser keeps.
-import {$, button, h, put, smallButton} from './dom.js';
+import {$, button, h, put, smallButton, panelHead} from './dom.js';
 import {services} from './state.js';
 import {forget, isHere, list, openKept, otherPages} from './documents.js';
 import {table} from './review_view.js';
@@ -46,9 +46,7 @@ export const listView = most => {
 export function showDocuments() {
   if ($('documents').hidden) return;
   const heads = list();
-  put('documents',
-    h('div', {class: 'row'}, h('h2', {}, 'Documents'), h('span', {class: 'gap'}),
-      button('Close', 'Escape', close, {id: 'closeDocuments'})),
+  put('documents', panelHead('Documents', close, 'closeDocuments'),
     h('p', {class: 'note'},
       'Each script that was begun or opened, as this browser keeps it, with its undo. Save as a file what is to ' +
         'last.'),

@@ -107,6 +107,17 @@ export const button = (text, title, onclick, props = {}) => h('button', {title, 
 export const smallButton = (text, title, onclick, props) => button(text, title, onclick, {class: 'chip act', ...props});
 
 /**
+ * The head of a panel, with the button that closes it.
+ * @param {string} title
+ * @param {() => any} close
+ * @param {string} id
+ */
+export const panelHead = (title, close, id) =>
+  h('div', {class: 'row'}, h('h2', {}, title), h('span', {class: 'gap'}), button('Close', 'Escape', close, {id}));
+/** @type {typeof document.addEventListener} */
+export const onDocument = (/** @type {any} */ kind, /** @type {any} */ act) => document.addEventListener(kind, act);
+
+/**
  * A text or bytes as a file for the user.
  * @param {string} name
  * @param {BlobPart} content

@@ -1,11 +1,12 @@
 // @ts-check
 // The panel 'Begin earlier': first the move of the opponent that led to the start, then the hero's before it.
-import {$, button, h, put, smallButton} from './dom.js';
+import {$, button, h, put, smallButton, panelHead} from './dom.js';
 import {change, track} from './actions.js';
 import {app, doc, services, say, study} from './state.js';
 import {aimBefore, movesBefore} from './earlier.js';
 import {withMoves} from './edits.js';
 import {control, other, sideOf, squareName} from './fen.js';
+import {notesMoved, plain} from './notes.js';
 import {bareOf, insertions} from './turning.js';
 import {markSign} from './words.js';
 /** @typedef {import('./earlier.js').Before} Before */
@@ -57,7 +58,8 @@ function begin() {
     const aim = aimBefore(s.aim, movers(moves));
     const front = moves.map((move, i) => `insert ${i ? Array(i).fill(0).join('.') : 'root'} ${move.san}`);
     const tree = insertions(bareOf(view.root), Array(moves.length).fill(0).join('.')).map(({line}) => line);
-    return {...withMoves(now.lines, s, first.fen, aim, [...front, ...tree]), path: 'root', lenient: false};
+    const path = moves.map(move => plain(move.san)).join(' '), lines = notesMoved(now.lines, s, to => `${path} ${to}`);
+    return {...withMoves(lines, s, first.fen, aim, [...front, ...tree]), path: 'root', lenient: false};
   }, 'board');
 }
 /** @param {Before} move */
@@ -83,10 +85,8 @@ function draw() {
     : offered === null ? 'The moves before are looked for …'
     : offered.length   ? `${mover}'s move before ${next}${marksIn(offered, study().aim?.hero === mover)}:`
                        : none;
-  put('earlier',
-    h('div', {class: 'row'}, h('h2', {}, 'Begin earlier'), h('span', {class: 'gap'}),
-      button('Close', 'Escape', close, {id: 'closeEarlier'})),
-    h('p', {role: 'status', id: 'earlierState'}, words), h('p', {class: 'chips'}, (offered || []).map(moveView)),
+  put('earlier', panelHead('Begin earlier', close, 'closeEarlier'), h('p', {role: 'status', id: 'earlierState'}, words),
+    h('p', {class: 'chips'}, (offered || []).map(moveView)),
     chosen.length > 0 &&
       h('p', {}, button(`Begin with ${chosen[0].san}`, 'one move earlier alone', begin, {id: 'beginOne'})));
   if (!offered && !fault) return;

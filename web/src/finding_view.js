@@ -1,6 +1,6 @@
 // @ts-check
 // The panel 'Find': a class, a theme and squares; what is found while it searches; a press opens one.
-import {$, button, h, put, smallButton} from './dom.js';
+import {$, button, h, put, smallButton, panelHead} from './dom.js';
 import {track} from './actions.js';
 import {app, services} from './state.js';
 import {CLASSES} from './core_host.js';
@@ -194,9 +194,7 @@ export function showFinding() {
   if ($('finding').hidden) return;
   const focus = document.activeElement, id = focus && $('finding').contains(focus) ? focus.id : '',
         found = state.search ? state.search.found : [];
-  put('finding',
-    h('div', {class: 'row'}, h('h2', {}, 'Find'), h('span', {class: 'gap'}),
-      button('Close', 'Escape', close, {id: 'closeFinding'})),
+  put('finding', panelHead('Find', close, 'closeFinding'),
     h('p', {class: 'note'},
       'All positions of these men that have the theme, each once up to symmetry, none missing: proved. ' +
         'A press opens one as a study.'),

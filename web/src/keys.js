@@ -1,6 +1,6 @@
 // @ts-check
 // What keys do.
-import {$} from './dom.js';
+import {$, onDocument} from './dom.js';
 import {go, goStudy, redo, undo} from './actions.js';
 import {app, doc, node} from './state.js';
 import {flip, focusBoard, showBoard} from './board.js';
@@ -84,4 +84,4 @@ function onKey(e) {
   e.preventDefault();
   KEYS[e.key](n);
 }
-export const listenToKeys = () => document.addEventListener('keydown', onKey);
+export const listenToKeys = () => onDocument('keydown', onKey);

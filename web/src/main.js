@@ -1,6 +1,6 @@
 // @ts-check
 // The beginning: workers, what was kept, the bar, files and keys.
-import {$, download} from './dom.js';
+import {$, download, onDocument} from './dom.js';
 import {makeApi} from './api.js';
 import {arrive, track, goStudy, judgeAgain, work} from './actions.js';
 import {PAGES, app, doc, services, say, study} from './state.js';
@@ -27,7 +27,7 @@ import {refusalIn} from './parse_answers.js';
 
 // ---- the module, in the form that this browser can run; it stands after this script, so that tables are read while
 // it comes
-const whole = new Promise(on => document.addEventListener('DOMContentLoaded', on));
+const whole = new Promise(on => onDocument('DOMContentLoaded', on));
 /**
  * @param {string} id
  * @returns {Promise<Uint8Array>}
@@ -112,7 +112,7 @@ on('open', () => $('file').click());
 on('documentsButton', openDocuments);
 on('findButton', openFinding);
 startFinding(spawn);
-document.addEventListener('pointerdown', e => {
+onDocument('pointerdown', e => {
   const within = (/** @type {string} */ places) => /** @type {Element} */ (e.target).closest(places);
   if (!within('#documents, #documentsButton')) close();
   if (!within('#finding, #findButton')) closeFinding();
@@ -188,12 +188,12 @@ function theme(dark, kept = true) {
     } catch { /* for this visit */
     }
 }
-document.addEventListener('dragover', e => {
+onDocument('dragover', e => {
   e.preventDefault();
   document.body.classList.add('dropping');
 });
-document.addEventListener('dragleave', () => document.body.classList.remove('dropping'));
-document.addEventListener('drop', e => {
+onDocument('dragleave', () => document.body.classList.remove('dropping'));
+onDocument('drop', e => {
   e.preventDefault();
   document.body.classList.remove('dropping');
   const files = e.dataTransfer ? [...e.dataTransfer.files] : [], tables = files.filter(f => /\.dtm$/i.test(f.name));

@@ -11,7 +11,7 @@ const TOKEN = /\{([^}]*)\}|;([^\n]*)|(\$\d+)|([()])|([!?]{1,2})|([^\s(){};$!?]+)
 /** @param {string} text */
 const oneLine = text => text.replace(/\s+/g, ' ').trim();
 /** @param {string} symbol */
-const plain = symbol =>
+export const plain = symbol =>
   symbol.replace(/^\d+\.+/, '').replace(/[+#]+$/, '').replace(/[x:=]/g, '').replace(/e\.?p\.?$/, '');
 const RESULT = /^(1-0|0-1|1\/2-1\/2|1\/2|\*)$/,
       SIGNS = /** @type {Record<string, string>} */ (
@@ -137,6 +137,16 @@ const isOurs = comment => VERDICT.test(comment) || OURS.test(comment);
 /** @param {string} movetext */
 const isOwn = movetext => VERDICT.test(oneLine((/\{([^}]*)\}/.exec(movetext) || [])[1] || ''));
 
+/**
+ * The lines of a script with the notes of a study at other moves.
+ * @param {string[]} lines
+ * @param {Study} study
+ * @param {(moves: string) => string} to      the moves that lead to a note from now on
+ */
+export const notesMoved = (lines, study, to) =>
+  lines.map((line, at) => (at >= study.head && at < study.from
+                ? line.replace(/^# note (\w[^:]*)/, (_, moves) => `# note ${to(moves)}`)
+                : line));
 /**
  * A game as the program writes it, with the tags and notes of remarks put in, each behind what the program says there.
  * @param {string} game

@@ -1,6 +1,6 @@
 // @ts-check
 // What is shown: each part a function of the document, its view and its facts.
-import {$, button, h, put} from './dom.js';
+import {$, button, h, put, onDocument} from './dom.js';
 import {spokenMove} from './fen.js';
 import {prefetch} from './prefetch.js';
 import {app, doc, node, study} from './state.js';
@@ -26,12 +26,12 @@ let pressing = false;
 const late = /** @type {Set<() => void>} */ (new Set());
 export function watch() {
   listenToTree();
-  document.addEventListener('pointerover', pointedAt);
+  onDocument('pointerover', pointedAt);
   addEventListener('scroll', () => {
     $('toast').hidden = true;
   }, {passive: true});
   for (const kind of ['pointerdown', 'pointerup', 'pointercancel'])
-    document.addEventListener(kind, () => {
+    onDocument(kind, () => {
       pressing = kind === 'pointerdown';
       if (!pressing) setTimeout(afterwards);
     }, true);

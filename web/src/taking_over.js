@@ -5,9 +5,10 @@ import {$} from './dom.js';
 import {change, track, evaluate, sayOpened} from './actions.js';
 import {app, doc, services, say} from './state.js';
 import {addStudy, replacePosition, withMoves} from './edits.js';
+import {notesMoved} from './notes.js';
 import {fensOf} from './script.js';
 import {closeSetup, draftFen} from './setup.js';
-import {bareOf, legalPart, turnedTree} from './turning.js';
+import {bareOf, legalPart, turnedSan, turnedTree} from './turning.js';
 import {counted} from './words.js';
 /** @typedef {import('./types.js').Study} Study @typedef {import('./types.js').Doc} Doc */
 /** @typedef {import('./setup.js').Draft} Draft */
@@ -61,7 +62,9 @@ async function takeOverOnce(how) {
   if (!kept || app.setup !== d) return;
   const done = await change(now => {
     const s = now.studies[now.at];
-    return how === 'keep' && s ? withMoves(now.lines, s, fen, d.aim, kept.lines) : anew(d, now, fen);
+    const turned = (/** @type {string} */ moves) => d.turns.reduce((text, turn) => turnedSan(turn, text), moves);
+    return how === 'keep' && s ? withMoves(notesMoved(now.lines, s, turned), s, fen, d.aim, kept.lines)
+                               : anew(d, now, fen);
   }, 'fen');
   if (!done) return;
   closeSetup();

@@ -1,7 +1,7 @@
 // What a PGN says beside its moves is kept, and written again.
 import test from 'node:test';
 import assert from 'node:assert/strict';
-import {gamesIn, namesOf, remarksOf, savedGames, withNotes} from '../src/notes.js';
+import {gamesIn, namesOf, notesMoved, remarksOf, savedGames, withNotes} from '../src/notes.js';
 
 const GAME = `[Event "Rigaer Tageblatt"]
 [White "Reti"]
@@ -57,6 +57,11 @@ test('a study that was not read to its end says so where it is saved', () => {
   };
   assert.ok(savedGames(script).replace(/\s+/g, ' ').includes('mates in 28} {not read: 1.Kg3} 1. Kg3'));
   assert.equal(savedGames({...script, refused: []}), OURS);
+});
+test('notes follow their moves', () => {
+  const lines = ['# note Kb2: of another study', '', '# note -: all', '# note Kg3 Kf5: here', 'position x'];
+  assert.deepEqual(notesMoved(lines, {head: 2, from: 4}, moves => 'Kg2 Kg5 ' + moves),
+    ['# note Kb2: of another study', '', '# note -: all', '# note Kg2 Kg5 Kg3 Kf5: here', 'position x']);
 });
 test('games are cut as the program cuts them', () => {
   assert.equal(gamesIn(GAME + '\n' + OURS).length, 2);
