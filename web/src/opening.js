@@ -127,7 +127,7 @@ export const openFile = file => track(file.arrayBuffer().then(buffer => {
  */
 async function openScript(text, where, name) {
   const lines = linesOf(text);
-  if (!lines.every(isSilent) && !lines.some(isCommand)) {
+  if (!lines.some(isCommand) && (name || !lines.every(isSilent))) {
     say(where, 'This is neither a script nor a PGN. Nothing was changed.');
     if (where === 'script') Object.assign(app.say || {}, {field: 'script', typed: text});
     return services.show();

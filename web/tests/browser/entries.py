@@ -133,6 +133,7 @@ def test_neither_script_nor_pgn(user):
     for name, text in (
         ("a.json", '{"position": 1}'),
         ("b.txt", "prose\nand more\n"),
+        ("e.pgn", ""),
         ("c.pgn", '[Event "x"]\n\n1. e4 *\n'),
     ):
         user.open_file(name, text)
