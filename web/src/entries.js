@@ -41,9 +41,10 @@ const isCarried = (s, name) => s.place[name] === undefined && !s.originals[name]
  * @param {string} name
  */
 function listedName(doc, s, name) {
-  const text = nameOf(s, name), refused = refusedIn(doc, s).map(r => tagIn(r.text)).find(m => m && m[1] === name);
+  const text = nameOf(s, name);
   if (!isCarried(s, name)) return text;
-  return refused ? refused[2] : text && `${text} (set for an earlier study)`;
+  const own = refusedIn(doc, s, line => (tagIn(line) || [])[1] === name), m = own && tagIn(own.text);
+  return m ? m[2] : text && `${text} (set for an earlier study)`;
 }
 /** @param {string} line */
 const tagIn = line => /^ *tag +(\w+) +(.*?) *$/.exec(line);
@@ -67,10 +68,12 @@ export function hasSolution(lines, s, review) {
   return s.aim !== null && hasHeroMove(bareTree(lines.slice(s.from, s.end)), s.fen, s.aim);
 }
 /**
+ * The first refused line of a study that is as wanted.
  * @param {{refused: import('./types.js').Refused[]}} doc
  * @param {Study} s
+ * @param {(line: string) => any} wanted
  */
-const refusedIn = (doc, s) => doc.refused.filter(r => s.from < r.line && r.line < s.end && isEdit(r.text));
+const refusedIn = (doc, s, wanted) => doc.refused.find(r => s.from < r.line && r.line < s.end && wanted(r.text));
 /**
  * What is said of a study of which a line was refused, by the first such line: its verdict is not that of the entry
  * then.
@@ -78,7 +81,7 @@ const refusedIn = (doc, s) => doc.refused.filter(r => s.from < r.line && r.line 
  * @param {Study} s
  */
 export function unreadIn(doc, s) {
-  const [unread] = refusedIn(doc, s), words = unread ? wordsOf(unread.text) : [];
+  const unread = refusedIn(doc, s, isEdit), words = unread ? wordsOf(unread.text) : [];
   return unread ? `not read: ${words.slice(words[0] === 'insert' ? 2 : 0).join(' ').slice(0, 40)}` : '';
 }
 /**
