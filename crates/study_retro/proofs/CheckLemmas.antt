@@ -1,6 +1,6 @@
 -- Whether a king is attacked after one of the men of a row has gone to another square, by the men that stay.
 use Rattle.std.proofs.Common.{◌≡◌, ℕ, ◌+◌, ◌<◌, ◌≤◌, ◌==◌, Bool, true, false, cond, not, ◌&&◌, ◌||◌, inl, inr, List, [], ◌∷◌, ◌++◌}
-use Rattle.std.proofs.Common.{map, take, get_or, length, refl, sym, ◌∙◌, ap, arith}
+use Rattle.std.proofs.Common.{map, take, get_or, length, refl, sym, ◌∙◌, ap, subst, arith}
 use Rattle.std.specs.Prelude.{count_by}
 use Rattle.std.specs.List.{Contains, list_any}
 use Rattle.std.proofs.lemmas.Bool.{and_left, eq-eqb, false≢true, or_from, or_parts}
@@ -17,7 +17,7 @@ use Rattle.study_board.proofs.Faults.{list_any_same}
 use Rattle.study_board.proofs.Lists.{count_by-cons}
 use Rattle.study_moves.proofs.KingSafety.{not_at_end}
 use Rattle.study_moves.proofs.MenOfList.{IsAmong, none_among}
-use Rattle.study_retro.specs.RowMoves.{AreOnDistinctSquares, AreBearers, AreRest, IsOnlyKing, attacked_with_last, keeps_attack_past, keeps_attack_with, gone_to}
+use Rattle.study_retro.specs.RowMoves.{AreOnDistinctSquares, AreAttackers, AreRest, IsOnlyKing, attacked_with_last, keeps_attack_past, keeps_attack_with, gone_to}
 use Rattle.study_retro.specs.RowMoves.{king_attacked_with, does_not_block}
 use Rattle.study_retro.specs.declared.rows.checks.Attacker.{Attacker}
 use Rattle.study_retro.specs.Still.{facing, on_square}
@@ -92,19 +92,19 @@ bears_without men m x s e = by_test (attacks_square [] m x) refl
     by_test false o = absurd (false≢true (sym (neither s (attacks_square men m x) (bears_alone men m x o)) ∙ e))
 
 -- if no man bears on x, no man of any kind does
-pub none_with : (bearers : List Attacker) (p : Man → Bool) (x : ℕ) → list_any (λ b. has b.squares x) bearers ≡ false
-    → list_any (λ b. has b.squares x && p b.man) bearers ≡ false
-none_with bearers p x none =
-    none_of (λ b. has b.squares x) (λ b. has b.squares x && p b.man) (λ b e. and_left (has b.squares x) (p b.man) e) bearers none
+pub none_with : (attackers : List Attacker) (p : Man → Bool) (x : ℕ) → list_any (λ b. has b.squares x) attackers ≡ false
+    → list_any (λ b. has b.squares x && p b.man) attackers ≡ false
+none_with attackers p x none =
+    none_of (λ b. has b.squares x) (λ b. has b.squares x && p b.man) (λ b e. and_left (has b.squares x) (p b.man) e) attackers none
 
 -- one more man is of the side, or is not
 module _ (men : List Man) (by : Side) (i : ℕ) (d m : Man) (lt : i < length men) (is : m ≡ get_or men i d) (x : ℕ) (p : Man → Bool) where
-  pub bearer_more : (bs : List Attacker) (s : ℕ)
+  pub attacker_more : (bs : List Attacker) (s : ℕ)
       → list_any (λ b. has b.squares x && p b.man) bs ≡ list_any (λ k. (same_side k.side by && attacks_square men k x) && p k) (take i men)
       → has s x ≡ attacks_square men m x → same_side m.side by ≡ true
       → list_any (λ b. has b.squares x && p b.man) (bs ++ record { man = m; squares = s } ∷ [])
       ≡ list_any (λ k. (same_side k.side by && attacks_square men k x) && p k) (take (i + 1) men)
-  bearer_more bs s so_far on ours =
+  attacker_more bs s so_far on ours =
       let q : Attacker → Bool = λ b. has b.squares x && p b.man in
       let of : Man → Bool = λ k. (same_side k.side by && attacks_square men k x) && p k in
       let all = list_any-append q bs (record { man = m; squares = s } ∷ []) in
@@ -114,22 +114,29 @@ module _ (men : List Man) (by : Side) (i : ℕ) (d m : Man) (lt : i < length men
       (or_none (has s x && p m) ∙ ap (λ (b : Bool). b && p m) (on ∙ sym (ap (λ (b : Bool). b && attacks_square men m x) ours)) ∙ ap of is)
       ∙ sym (list_any_more of men i d lt)
 
-  pub bearer_less : same_side m.side by ≡ false
+  pub attacker_less : same_side m.side by ≡ false
       → list_any (λ k. (same_side k.side by && attacks_square men k x) && p k) (take i men)
       ≡ list_any (λ k. (same_side k.side by && attacks_square men k x) && p k) (take (i + 1) men)
-  bearer_less other =
+  attacker_less other =
       let of : Man → Bool = λ k. (same_side k.side by && attacks_square men k x) && p k in
       sym (list_any_more of men i d lt
       ∙ ap (λ (b : Bool). list_any of (take i men) || b) (sym (ap of is) ∙ ap (λ (b : Bool). (b && attacks_square men m x) && p m) other)
       ∙ or_none (list_any of (take i men)))
 
 -- the men that bear on a square are among those that bear
-pub among_bearers : (men : List Man) (by : Side) (bearers : List Attacker) → AreBearers men by bearers → (x y : ℕ) → x < 64
-    → list_any (λ b. has b.squares x && does_not_block b.man x y) bearers ≡ list_any (λ m. same_side m.side by && keeps_attack_with men y m x) men
-among_bearers men by bearers bear x y on =
+pub among_attackers : (men : List Man) (by : Side) (attackers : List Attacker) → AreAttackers men by attackers → (x y : ℕ) → x < 64
+    → list_any (λ b. has b.squares x && does_not_block b.man x y) attackers ≡ list_any (λ m. same_side m.side by && keeps_attack_with men y m x) men
+among_attackers men by attackers bear x y on =
     bear x on (λ m. does_not_block m x y)
     ∙ list_any_same (λ m. (same_side m.side by && attacks_square men m x) && does_not_block m x y) (λ m. same_side m.side by && keeps_attack_with men y m x)
     (λ m. and_and (same_side m.side by) (attacks_square men m x) (does_not_block m x y)) men
+
+-- what is true of the men, the last man, the side and the man that the checks are for
+pub made-for : (P : List Man → Man → Side → Man → Type 0) {xs ys : List Man} → xs ≡ ys → {l k : Man} → l ≡ k → {s t : Side} → s ≡ t
+    → {m n : Man} → m ≡ n → P xs l s m → P ys k t n
+made-for P {xs} {ys} others {l} {k} last {s} {t} side {m} {n} man p =
+    subst (P ys k t) man (subst (λ (z : Side). P ys k z m) side
+    (subst (λ (z : Man). P ys z s m) last (subst (λ (zs : List Man). P zs l s m) others p)))
 
 -- one more man of the others stays, or is the one that goes
 module _ (others : List Man) (from i : ℕ) (d m : Man) (lt : i < length others) (is : m ≡ get_or others i d) where
@@ -275,8 +282,8 @@ module _ (others staying : List Man) (last man : Man) (to y : ℕ) (among : Cont
 
   -- ---- on another square
 
-  module _ (side : Side) (bearers : List Attacker) (bear : AreBearers staying side bearers) (x : ℕ) (on : x < 64) where
-    by_staying : list_any (λ m. same_side m.side side && keeps_attack_with moved y m x) staying ≡ list_any (keeps_attack_past to x y) bearers
+  module _ (side : Side) (attackers : List Attacker) (bear : AreAttackers staying side attackers) (x : ℕ) (on : x < 64) where
+    by_staying : list_any (λ m. same_side m.side side && keeps_attack_with moved y m x) staying ≡ list_any (keeps_attack_past to x y) attackers
     by_staying =
         list_any_same (λ m. same_side m.side side && keeps_attack_with moved y m x)
         (λ m. (same_side m.side side && attacks_square staying m x) && (does_not_block m x to && does_not_block m x y))
@@ -298,14 +305,14 @@ module _ (others staying : List Man) (last man : Man) (to y : ℕ) (among : Cont
         ∙ sym (and_and (same_side last.side side) (attacks_square staying (facing last x) y) (does_not_block (facing last x) y to))
 
     pub by_three : attacked_with_last moved last side x y
-        ≡ ((list_any (keeps_attack_past to x y) bearers || ((same_side man.side side && attacks_square staying (facing man x) to) && does_not_block z x y))
+        ≡ ((list_any (keeps_attack_past to x y) attackers || ((same_side man.side side && attacks_square staying (facing man x) to) && does_not_block z x y))
         || ((same_side last.side side && attacks_square staying (facing last x) y) && does_not_block (facing last x) y to))
     by_three =
         ap (λ (b : Bool). b || (same_side last.side side && attacks_square moved (facing last x) y))
         (any_moved (λ m. same_side m.side side && keeps_attack_with moved y m x)
         ∙ ap (λ (b : Bool). b || (same_side man.side side && keeps_attack_with moved y z x)) by_staying
-        ∙ ap (λ (b : Bool). list_any (keeps_attack_past to x y) bearers || b) by_itself)
-        ∙ ap (λ (b : Bool). (list_any (keeps_attack_past to x y) bearers
+        ∙ ap (λ (b : Bool). list_any (keeps_attack_past to x y) attackers || b) by_itself)
+        ∙ ap (λ (b : Bool). (list_any (keeps_attack_past to x y) attackers
         || ((same_side man.side side && attacks_square staying (facing man x) to) && does_not_block z x y)) || b) by_last
 
   -- ---- on the square of a king, that of the man or another

@@ -1,5 +1,5 @@
 -- Not part of any public contract: the attacks on the men of a row and their moves, by the square of the man of the last slot.
-use Rattle.std.specs.Prelude.{◌≡◌, ℕ, ◌<◌, ◌≤◌, Bool, not, ◌&&◌, ◌||◌, ◌==◌, List, [], ◌∷◌, ◌++◌, Option, None, IfSome, if◌then◌else◌, map, count_by}
+use Rattle.std.specs.Prelude.{◌≡◌, ℕ, ◌<◌, ◌≤◌, Bool, not, ◌&&◌, ◌||◌, ◌==◌, List, [], ◌∷◌, ◌++◌, None, if◌then◌else◌, map, count_by}
 use Rattle.std.specs.List.{list_any}
 use Rattle.study_board.specs.declared.men.Side.{Side}
 use Rattle.study_board.specs.declared.men.Kind.TheVariants.{King}
@@ -69,17 +69,10 @@ abbrev pub keeps_attack_past : ℕ → ℕ → ℕ → Attacker → Bool
 keeps_attack_past z x y b = has b.squares x && (does_not_block b.man x z && does_not_block b.man x y)
 
 -- the men of the side, each with the squares on which it bears, by the properties of the men that bear on a square
-abbrev pub AreBearers : List Man → Side → List Attacker → Type 0
-AreBearers men side bearers = (x : ℕ) → x < 64 → (p : Man → Bool)
-    → list_any (λ b. has b.squares x && p b.man) bearers ≡ list_any (λ m. (same_side m.side side && attacks_square men m x) && p m) men
+abbrev pub AreAttackers : List Man → Side → List Attacker → Type 0
+AreAttackers men side attackers = (x : ℕ) → x < 64 → (p : Man → Bool)
+    → list_any (λ b. has b.squares x && p b.man) attackers ≡ list_any (λ m. (same_side m.side side && attacks_square men m x) && p m) men
 
--- the others that stay when the man goes; the bearers are those of them that are not of the side, and bear on the squares of the first set; and from the
--- squares of the other two sets the last man and the moving man, if they are not of the side, bear on the side's only king
-pub record IsCheckInfo (others : List Man) (last man : Man) (side : Side) (staying : List Man) (bearers : List Attacker) (attacked : ℕ)
-    (king : Option ℕ) (checks checks_of_man : ℕ) : Type 0 where
-  pub rest : AreRest others man.at staying
-  pub bear : AreBearers staying (other_side side) bearers
-  pub all : (x : ℕ) → x < 64 → has attacked x ≡ list_any (λ b. has b.squares x) bearers
-  pub only : IfSome king (λ k. IsOnlyKing others side k)
-  pub last_bears : IfSome king (λ k. (y : ℕ) → y < 64 → has checks y ≡ (same_side last.side (other_side side) && attacks_square staying (facing last k) y))
-  pub man_bears : IfSome king (λ k. (y : ℕ) → y < 64 → has checks_of_man y ≡ (same_side man.side (other_side side) && attacks_square staying (facing man k) y))
+-- the set has the squares from which the man, if it is of the side, bears on k
+abbrev pub AreChecks : List Man → Man → Side → ℕ → ℕ → Type 0
+AreChecks men man side set k = (y : ℕ) → y < 64 → has set y ≡ (same_side man.side side && attacks_square men (facing man k) y)

@@ -1,12 +1,13 @@
 //! The squares of the man of the last slot with which a king is attacked: only that man's square varies in a row of numbers.
 ghost use Rattle.std.specs.Prelude.{◌≡◌, ◌<◌, ◌≤◌, ◌&&◌, ◌||◌, ℕ, not, true, false, length, map, [], ◌∷◌, ◌++◌, Some, IfSome};
 ghost use Rattle.std.specs.List.{list_any, Contains};
+ghost use Rattle.std.specs.Option.{ForSome};
 ghost use Rattle.study_board.specs.declared.men.Kind.TheVariants.{King};
 ghost use Rattle.study_board.specs.Geometry.{strictly_between};
 ghost use Rattle.study_board.specs.Men.{attacks_square, other_side, same_kind, same_side, moved_if};
 ghost use Rattle.study_board.specs.Position.{in_check};
 ghost use Rattle.study_board.specs.Sets.{has, is_slider};
-ghost use Rattle.study_retro.specs.RowMoves.{AreOnDistinctSquares, AreBearers, AreRest, IsCheckInfo, IsOnlyKing, attacked_with_last};
+ghost use Rattle.study_retro.specs.RowMoves.{AreAttackers, AreChecks, AreOnDistinctSquares, AreRest, IsOnlyKing, attacked_with_last};
 ghost use Rattle.study_retro.specs.RowMoves.{keeps_attack_past, keeps_attack_with, gone_to, king_attacked_with, does_not_block};
 ghost use Rattle.study_retro.specs.Still.{facing, on_square};
 
@@ -142,53 +143,63 @@ impl Default for Attacker {
     }
 }
 
-/// Checks to the king of a side while one of the others moves: the men that stay, the attackers among them, the squares on which these bear, the square of
-/// the king before the move, if it is unique, and the squares from which the last man and the moving man bear on it.
+/// Checks to the king of the side while the man, one of the others, moves: the men that stay, the attackers among them, the squares on which these bear,
+/// the square of the king before the move, if it is unique, and the squares from which the last man and the moving man bear on it.
 #[derive(Drop)]
-pub struct CheckInfo {
+pub struct CheckInfo<'r> {
+    pub others: &'r [Man],
+    pub last: &'r Man,
+    pub man: &'r Man,
+    pub side: Side,
     pub men: ArrayVec<Man, 4>,
-    pub bearers: ArrayVec<Attacker, 4>,
+    pub attackers: ArrayVec<Attacker, 4>,
     pub attacked: SquareSet,
     pub king: Option<Square>,
-    pub checks: SquareSet,
+    pub checks_of_last: SquareSet,
     pub checks_of_man: SquareSet,
+    ghost few: { length others.now ≤ 4 },
+    ghost piece: { same_kind last.now.kind King ≡ false },
+    ghost rest: { AreRest others.now man.now.at men.items },
+    ghost bear: { AreAttackers men.items (other_side side) attackers.items },
+    ghost all: { (x : ℕ) → x < 64 → has attacked x ≡ list_any (λ b. has b.squares x) attackers.items },
+    ghost only: { ForSome king (IsOnlyKing others.now side) },
+    ghost last_bears: { ForSome king (AreChecks men.items last.now (other_side side) checks_of_last) },
+    ghost man_bears: { ForSome king (AreChecks men.items man.now (other_side side) checks_of_man) },
 }
 
-impl CheckInfo {
+impl<'r> CheckInfo<'r> {
     /// The state for a move of the man.
     #[inline(always)]
-    pub fn new(others: &[Man], last: &Man, man: &Man, side: Side) -> Self
-        requires { length others.now ≤ 4 }
-        ensures { IsCheckInfo others.now last.now man.now side result.men.items result.bearers.items
-            result.attacked result.king
-            result.checks result.checks_of_man }
+    pub fn new(others: &'r [Man], last: &'r Man, man: &'r Man, side: Side) -> Self
+        requires few { length others.now ≤ 4 }
+        requires piece { same_kind last.now.kind King ≡ false }
+        ensures others { result.others.now ≡ others.now }
+        ensures last { result.last.now ≡ last.now }
+        ensures man { result.man.now ≡ man.now }
+        ensures side { result.side ≡ side }
     {
         let by = side.other();
         let men = men_except(others, man.at);
-        let bearers = attackers_of(men.as_slice(), by);
-        let attacked = squares_attacked_by(bearers.as_slice());
-        match only_king(others, side) {
-            Some(square) => {
-                let checks = squares_of_last(men.as_slice(), last, by, square);
-                let checks_of_man = squares_of_last(men.as_slice(), man, by, square);
-                let king = Some(square);
-                CheckInfo {
-                    men,
-                    bearers,
-                    attacked,
-                    king,
-                    checks,
-                    checks_of_man,
-                }
-            }
-            None => CheckInfo {
-                men,
-                bearers,
-                attacked,
-                king: None,
-                checks: SquareSet::empty(),
-                checks_of_man: SquareSet::empty(),
-            },
+        let attackers = attackers_of(men.as_slice(), by);
+        let attacked = squares_attacked_by(attackers.as_slice());
+        let king = only_king(others, side);
+        let mut checks_of_last = SquareSet::empty();
+        let mut checks_of_man = SquareSet::empty();
+        if let Some(square) = king {
+            checks_of_last = squares_of_last(men.as_slice(), last, by, square);
+            checks_of_man = squares_of_last(men.as_slice(), man, by, square);
+        }
+        CheckInfo {
+            others,
+            last,
+            man,
+            side,
+            men,
+            attackers,
+            attacked,
+            king,
+            checks_of_last,
+            checks_of_man,
         }
     }
 }
@@ -236,7 +247,7 @@ fn men_except(others: &[Man], from: Square) -> ArrayVec<Man, 4>
 #[inline]
 fn attackers_of(men: &[Man], by: Side) -> ArrayVec<Attacker, 4>
     requires { length men.now ≤ 4 }
-    ensures { AreBearers men.now by result.items }
+    ensures { AreAttackers men.now by result.items }
 {
     let mut list = ArrayVec::new();
     for m in men {
@@ -252,11 +263,11 @@ fn attackers_of(men: &[Man], by: Side) -> ArrayVec<Attacker, 4>
 
 /// The squares on which at least one of them bears.
 #[inline]
-fn squares_attacked_by(bearers: &[Attacker]) -> SquareSet
-    ensures { (x : ℕ) → x < 64 → has result x ≡ list_any (λ b. has b.squares x) bearers.now }
+fn squares_attacked_by(attackers: &[Attacker]) -> SquareSet
+    ensures { (x : ℕ) → x < 64 → has result x ≡ list_any (λ b. has b.squares x) attackers.now }
 {
     let mut set = SquareSet::empty();
-    for b in bearers {
+    for b in attackers {
         set = set.union(b.squares);
     }
     set
@@ -276,17 +287,17 @@ fn squares_bearing(b: &Attacker, x: Square) -> SquareSet
 
 /// The squares of a further man with which at least one of them bears on the square, given the squares on which they bear without it.
 #[inline(always)]
-fn squares_attacking_of(bearers: &[Attacker], attacked: SquareSet, x: Square) -> SquareSet
-    requires { (z : ℕ) → z < 64 → has attacked z ≡ list_any (λ b. has b.squares z) bearers.now }
+fn squares_attacking_of(attackers: &[Attacker], attacked: SquareSet, x: Square) -> SquareSet
+    requires { (z : ℕ) → z < 64 → has attacked z ≡ list_any (λ b. has b.squares z) attackers.now }
     ensures { (y : ℕ) → y < 64
-        → has result y ≡ list_any (λ b. has b.squares x && does_not_block b.man x y) bearers.now }
+        → has result y ≡ list_any (λ b. has b.squares x && does_not_block b.man x y) attackers.now }
 {
     let _square = x.number();
     let mut set = SquareSet::empty();
     if !attacked.contains(x) {
         return set;
     }
-    for b in bearers {
+    for b in attackers {
         set = set.union(squares_bearing(b, x));
     }
     set
@@ -311,43 +322,36 @@ fn squares_keeping_attack_past(b: &Attacker, to: Square, x: Square) -> SquareSet
 /// The squares of a further man with which at least one of them bears on the square past a man on `to`, given the squares on which they bear without both.
 #[inline(always)]
 fn squares_attacking_past(
-    bearers: &[Attacker],
+    attackers: &[Attacker],
     attacked: SquareSet,
     to: Square,
     x: Square,
 ) -> SquareSet
-    requires { (z : ℕ) → z < 64 → has attacked z ≡ list_any (λ b. has b.squares z) bearers.now }
-    ensures { (y : ℕ) → y < 64 → has result y ≡ list_any (keeps_attack_past to x y) bearers.now }
+    requires { (z : ℕ) → z < 64 → has attacked z ≡ list_any (λ b. has b.squares z) attackers.now }
+    ensures { (y : ℕ) → y < 64 → has result y ≡ list_any (keeps_attack_past to x y) attackers.now }
 {
     let _square = x.number();
     let mut set = SquareSet::empty();
     if !attacked.contains(x) {
         return set;
     }
-    for b in bearers {
+    for b in attackers {
         set = set.union(squares_keeping_attack_past(b, to, x));
     }
     set
 }
 
-/// The squares of the man of the last slot with which the square is attacked by it or by men that stay, given the squares on
-/// which the men of the side bear without it.
+/// The squares of the man of the last slot with which the square is attacked by it or by men that stay.
 #[inline(always)]
-fn squares_attacking_by(
-    staying: &[Man],
-    bearers: &[Attacker],
-    attacked: SquareSet,
-    last: &Man,
-    by: Side,
-    x: Square,
-) -> SquareSet
-    requires bear { AreBearers staying.now by bearers.now }
-    requires attacked { (z : ℕ) → z < 64
-        → has attacked z ≡ list_any (λ b. has b.squares z) bearers.now }
-    ensures { (y : ℕ) → y < 64 → has result y ≡ attacked_with_last staying.now last.now by x y }
+fn squares_attacking_by(checks: &CheckInfo, x: Square) -> SquareSet
+    ensures { (y : ℕ) → y < 64 → has result y ≡ attacked_with_last checks.now.men.items
+        checks.now.last.now (other_side checks.now.side) x y }
 {
     let _square = x.number();
-    squares_attacking_of(bearers, attacked, x).union(squares_of_last(staying, last, by, x))
+    let men = checks.men.as_slice();
+    let attackers = checks.attackers.as_slice();
+    let of_last = squares_of_last(men, checks.last, checks.side.other(), x);
+    squares_attacking_of(attackers, checks.attacked, x).union(of_last)
 }
 
 /// The squares of a further man with which the man, on `to`, bears on the square, given the squares from which it does so without the further man.
@@ -400,36 +404,23 @@ fn squares_of_last_past(
 
 /// The squares of the man of the last slot with which the only king of the side, on that square before the move, is attacked with the man on `to`.
 #[inline(always)]
-fn squares_attacking_after(
-    others: &[Man],
-    staying: &CheckInfo,
-    last: &Man,
-    side: Side,
-    man: &Man,
-    to: Square,
-    king: Square,
-) -> SquareSet
-    requires few { length others.now ≤ 4 }
-    requires man { Contains others.now man.now }
-    requires staying { IsCheckInfo others.now last.now man.now side staying.now.men.items
-        staying.now.bearers.items staying.now.attacked
-        staying.now.king staying.now.checks staying.now.checks_of_man }
-    requires king { staying.now.king ≡ Some king }
+fn squares_attacking_after(checks: &CheckInfo, to: Square, king: Square) -> SquareSet
+    requires man { Contains checks.now.others.now checks.now.man.now }
+    requires king { checks.now.king ≡ Some king }
     ensures { (y : ℕ) → y < 64
-        → AreOnDistinctSquares (others.now ++ on_square last.now y ∷ []) → has result y
-        ≡ attacked_with_last (map (moved_if man.now.at to) others.now) last.now (other_side side)
-        (gone_to man.now.at to king) y }
+        → AreOnDistinctSquares (checks.now.others.now ++ on_square checks.now.last.now y ∷ [])
+        → has result y ≡ attacked_with_last
+        (map (moved_if checks.now.man.now.at to) checks.now.others.now) checks.now.last.now
+        (other_side checks.now.side) (gone_to checks.now.man.now.at to king) y }
 {
-    let _read = (others.len(), king.number(), to.number());
-    let by = side.other();
-    let men = staying.men.as_slice();
-    let bearers = staying.bearers.as_slice();
+    let _read = (king.number(), to.number());
+    let man = checks.man;
     if king == man.at {
-        return squares_attacking_by(men, bearers, staying.attacked, last, by, to);
+        return squares_attacking_by(checks, to);
     }
-    let of_man = squares_keeping_attack_from(staying.checks_of_man, man, to, king);
-    let of_last = squares_of_last_past(staying.checks, last, man, to, king);
-    squares_attacking_past(bearers, staying.attacked, to, king)
+    let of_man = squares_keeping_attack_from(checks.checks_of_man, man, to, king);
+    let of_last = squares_of_last_past(checks.checks_of_last, checks.last, man, to, king);
+    squares_attacking_past(checks.attackers.as_slice(), checks.attacked, to, king)
         .union(of_man)
         .union(of_last)
 }
@@ -447,31 +438,20 @@ fn with_man_on(others: &[Man], from: Square, to: Square) -> ArrayVec<Man, 4>
     list
 }
 
-/// The squares of the man of the last slot with which a king of the side is attacked after one of the other men has gone to `to`.
+/// The squares of the man of the last slot with which a king of the side is attacked after the man has gone to `to`.
 #[inline(always)]
-pub fn squares_of_check_after(
-    others: &[Man],
-    staying: &CheckInfo,
-    last: &Man,
-    side: Side,
-    man: &Man,
-    to: Square,
-) -> SquareSet
-    requires few { length others.now ≤ 4 }
-    requires last { same_kind last.now.kind King ≡ false }
-    requires man { Contains others.now man.now }
-    requires staying { IsCheckInfo others.now last.now man.now side staying.now.men.items
-        staying.now.bearers.items staying.now.attacked
-        staying.now.king staying.now.checks staying.now.checks_of_man }
-    ensures { (y : ℕ) → y < 64 → AreOnDistinctSquares (others.now ++ on_square last.now y ∷ [])
-        → has result y
-        ≡ in_check (map (moved_if man.now.at to) others.now ++ on_square last.now y ∷ []) side }
+pub fn squares_of_check_after(checks: &CheckInfo, to: Square) -> SquareSet
+    requires { Contains checks.now.others.now checks.now.man.now }
+    ensures { (y : ℕ) → y < 64
+        → AreOnDistinctSquares (checks.now.others.now ++ on_square checks.now.last.now y ∷ [])
+        → has result y ≡ in_check (map (moved_if checks.now.man.now.at to) checks.now.others.now
+        ++ on_square checks.now.last.now y ∷ []) checks.now.side }
 {
-    match staying.king {
-        Some(king) => squares_attacking_after(others, staying, last, side, man, to, king),
+    match checks.king {
+        Some(king) => squares_attacking_after(checks, to, king),
         None => {
-            let moved = with_man_on(others, man.at, to);
-            squares_of_check(moved.as_slice(), last, side)
+            let moved = with_man_on(checks.others, checks.man.at, to);
+            squares_of_check(moved.as_slice(), checks.last, checks.side)
         }
     }
 }

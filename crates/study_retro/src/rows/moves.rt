@@ -8,7 +8,7 @@ ghost use Rattle.study_board.specs.Position.{in_check, is_occupied};
 ghost use Rattle.study_board.specs.Sets.{has};
 ghost use Rattle.study_moves.specs.AnyOrder.{is_safe_target};
 ghost use Rattle.study_moves.specs.Unmoves.{is_unmove_origin, comes};
-ghost use Rattle.study_retro.specs.RowMoves.{AreOnDistinctSquares, IsCheckInfo, goes_quietly, does_not_interfere};
+ghost use Rattle.study_retro.specs.RowMoves.{AreOnDistinctSquares, goes_quietly, does_not_interfere};
 ghost use Rattle.study_retro.specs.Still.{on_square};
 
 use crate::numbers::moves::occupied;
@@ -27,52 +27,32 @@ pub fn origins_among(others: &[Man], man: &Man) -> SquareSet
 /// The squares of the man of the last slot on which it neither stands in the way of the man nor leaves a king of the side
 /// attacked with the man on the other square.
 #[inline(always)]
-fn squares_not_interfering(
-    others: &[Man],
-    staying: &CheckInfo,
-    last: &Man,
-    side: Side,
-    man: &Man,
-    to: Square,
-) -> SquareSet
-    requires few { length others.now ≤ 4 }
-    requires last { same_kind last.now.kind King ≡ false }
-    requires man { Contains others.now man.now }
-    requires staying { IsCheckInfo others.now last.now man.now side staying.now.men.items
-        staying.now.bearers.items staying.now.attacked
-        staying.now.king staying.now.checks staying.now.checks_of_man }
-    ensures { (y : ℕ) → y < 64 → AreOnDistinctSquares (others.now ++ on_square last.now y ∷ [])
-        → has result y ≡ does_not_interfere others.now last.now side man.now.at to y }
+fn squares_not_interfering(checks: &CheckInfo, to: Square) -> SquareSet
+    requires { Contains checks.now.others.now checks.now.man.now }
+    ensures { (y : ℕ) → y < 64
+        → AreOnDistinctSquares (checks.now.others.now ++ on_square checks.now.last.now y ∷ [])
+        → has result y ≡ does_not_interfere checks.now.others.now checks.now.last.now
+        checks.now.side checks.now.man.now.at to y }
 {
-    between(man.at, to)
+    between(checks.man.at, to)
         .union(SquareSet::of(to))
-        .union(squares_of_check_after(others, staying, last, side, man, to))
+        .union(squares_of_check_after(checks, to))
         .complement()
 }
 
 /// The squares of the man of the last slot with which the man can have come from the square by a quiet move.
 #[inline]
-pub fn squares_allowing_unmove(
-    others: &[Man],
-    staying: &CheckInfo,
-    last: &Man,
-    to_move: Side,
-    man: &Man,
-    origin: Square,
-) -> SquareSet
-    requires few { length others.now ≤ 4 }
-    requires last { same_kind last.now.kind King ≡ false }
-    requires man { Contains others.now man.now }
-    requires staying { IsCheckInfo others.now last.now man.now to_move staying.now.men.items
-        staying.now.bearers.items staying.now.attacked
-        staying.now.king staying.now.checks staying.now.checks_of_man }
-    requires side { same_side man.now.side (other_side to_move) ≡ true }
-    requires comes { comes others.now man.now origin ≡ true }
-    ensures { (y : ℕ) → y < 64 → AreOnDistinctSquares (others.now ++ on_square last.now y ∷ [])
+pub fn squares_allowing_unmove(checks: &CheckInfo, origin: Square) -> SquareSet
+    requires man { Contains checks.now.others.now checks.now.man.now }
+    requires side { same_side checks.now.man.now.side (other_side checks.now.side) ≡ true }
+    requires comes { comes checks.now.others.now checks.now.man.now origin ≡ true }
+    ensures { (y : ℕ) → y < 64
+        → AreOnDistinctSquares (checks.now.others.now ++ on_square checks.now.last.now y ∷ [])
         → has result y ≡ is_unmove_origin
-        (others.now ++ on_square last.now y ∷ []) to_move man.now origin }
+        (checks.now.others.now ++ on_square checks.now.last.now y ∷ [])
+        checks.now.side checks.now.man.now origin }
 {
-    squares_not_interfering(others, staying, last, to_move, man, origin)
+    squares_not_interfering(checks, origin)
 }
 
 /// The empty squares to which the man goes, by the moves of its kind, with only the others on the board.
@@ -89,28 +69,18 @@ pub fn targets_among(others: &[Man], man: &Man) -> SquareSet
 
 /// The squares of the man of the last slot with which the man can go to the square without a capture.
 #[inline]
-pub fn squares_allowing_move(
-    others: &[Man],
-    staying: &CheckInfo,
-    last: &Man,
-    to_move: Side,
-    man: &Man,
-    target: Square,
-) -> SquareSet
-    requires few { length others.now ≤ 4 }
-    requires last { same_kind last.now.kind King ≡ false }
-    requires man { Contains others.now man.now }
-    requires staying { IsCheckInfo others.now last.now man.now to_move staying.now.men.items
-        staying.now.bearers.items staying.now.attacked
-        staying.now.king staying.now.checks staying.now.checks_of_man }
-    requires side { same_side man.now.side to_move ≡ true }
-    requires goes { goes_quietly others.now man.now target ≡ true }
+pub fn squares_allowing_move(checks: &CheckInfo, target: Square) -> SquareSet
+    requires man { Contains checks.now.others.now checks.now.man.now }
+    requires side { same_side checks.now.man.now.side checks.now.side ≡ true }
+    requires goes { goes_quietly checks.now.others.now checks.now.man.now target ≡ true }
     ensures { (y : ℕ) → y < 64
-        → AreOnDistinctSquares (others.now ++ on_square last.now y ∷ []) → has result y
-        ≡ (is_safe_target (others.now ++ on_square last.now y ∷ []) to_move man.now target
-        && not (is_occupied (others.now ++ on_square last.now y ∷ []) target)) }
+        → AreOnDistinctSquares (checks.now.others.now ++ on_square checks.now.last.now y ∷ [])
+        → has result y ≡ (is_safe_target
+        (checks.now.others.now ++ on_square checks.now.last.now y ∷ [])
+        checks.now.side checks.now.man.now target && not (is_occupied
+        (checks.now.others.now ++ on_square checks.now.last.now y ∷ []) target)) }
 {
-    squares_not_interfering(others, staying, last, to_move, man, target)
+    squares_not_interfering(checks, target)
 }
 
 /// The man on another square.

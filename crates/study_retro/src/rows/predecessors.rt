@@ -233,21 +233,14 @@ fn write_before_man_from(
         → IsSetWhere change.cell change.over cells.new n }
 {
     let others = row.others.as_slice();
-    let staying = CheckInfo::new(others, &row.last, man, row.to_move);
+    let checks = CheckInfo::new(others, &row.last, man, row.to_move);
     let mut count = 0u64;
     let mut rest = origins_among(others, man);
     let mut next = 0u8;
     while !rest.is_empty() {
         let origin = rest.first();
         rest = rest.without(SquareSet::of(origin));
-        let led = decided.intersection(squares_allowing_unmove(
-            others,
-            &staying,
-            &row.last,
-            row.to_move,
-            man,
-            origin,
-        ));
+        let led = decided.intersection(squares_allowing_unmove(&checks, origin));
         write_predecessors(cells, departure, led, man, slot, origin, change);
         count = count.saturating_add(u64::from(led.len()));
         next = origin.number() + 1;

@@ -266,7 +266,7 @@ fn quiet_moves_of_man_from<A: Allocator>(
     ensures some { HaveMoves game.now.class row.now.number result.some }
 {
     let others = row.others.as_slice();
-    let staying = CheckInfo::new(others, &row.last, man, row.to_move);
+    let checks = CheckInfo::new(others, &row.last, man, row.to_move);
     let mut losing = so_far.losing;
     let mut some = so_far.some;
     let mut rest = targets_among(others, man);
@@ -277,14 +277,7 @@ fn quiet_moves_of_man_from<A: Allocator>(
         }
         let target = rest.first();
         rest = rest.without(SquareSet::of(target));
-        let going = losing.intersection(squares_allowing_move(
-            others,
-            &staying,
-            &row.last,
-            row.to_move,
-            man,
-            target,
-        ));
+        let going = losing.intersection(squares_allowing_move(&checks, target));
         let lost = losing_after(game, cells, departure, going, man, slot, target, level);
         losing = losing.without(going).union(lost);
         some = some.union(going);

@@ -6,7 +6,7 @@ use Rattle.study_board.specs.Men.{attacks_square, same_side}
 use Rattle.study_board.specs.Sets.{has}
 use Rattle.study_board.proofs.EqualMen.{side_same}
 use Rattle.study_retro.specs.declared.rows.checks.Attacker.{Attacker}
-use Rattle.study_retro.proofs.CheckLemmas.{bearer_less, bearer_more}
+use Rattle.study_retro.proofs.CheckLemmas.{attacker_less, attacker_more}
 use Rattle.study_retro.proofs.rows.checks.attackers_of.Goals as goal
 use Rattle.study_retro.proofs.rows.checks.attackers_of.Goals.{then-eq, else-eq}
 
@@ -32,13 +32,13 @@ loop-m-preserved c =
           record {
             few = (let f = inv.few in omega (arith, f, ap length more));
             bear = λ x on p. ap (λ (l : List Attacker). list_any (λ b. has b.squares x && p b.man) l) more
-                ∙ bearer_more men by i _ m c.loop-m-test.true c.m-item.is x p bs w.attacks.result (inv.bear x on p) (w.attacks.ensures x on) ours;
+                ∙ attacker_more men by i _ m c.loop-m-test.true c.m-item.is x p bs w.attacks.result (inv.bear x on p) (w.attacks.ensures x on) ours;
           })
       | else-eq w ↦ rw w.list-is (
           let other : same_side m.side by ≡ false = sym (side_same m.side by) ∙ sym c.eq.ensures ∙ w.if-eq.false in
           record {
             few = (let f = inv.few in omega (arith, f));
-            bear = λ x on p. inv.bear x on p ∙ bearer_less men by i _ m c.loop-m-test.true c.m-item.is x p other;
+            bear = λ x on p. inv.bear x on p ∙ attacker_less men by i _ m c.loop-m-test.true c.m-item.is x p other;
           })
     ]
 

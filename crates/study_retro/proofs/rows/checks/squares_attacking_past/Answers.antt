@@ -9,7 +9,7 @@ use Rattle.study_retro.proofs.rows.checks.squares_attacking_past.Goals as goal
 
 pub returns-then-not-contains : goal.returns-then-not-contains
 returns-then-not-contains c y ly =
-    rw c.empty-set.ensures (has-zero y ∙ sym (none_with c.args.bearers.now (λ m. does_not_block m c.args.x c.args.to && does_not_block m c.args.x y) c.args.x
+    rw c.empty-set.ensures (has-zero y ∙ sym (none_with c.args.attackers.now (λ m. does_not_block m c.args.x c.args.to && does_not_block m c.args.x y) c.args.x
     (sym (c.requires c.args.x c.number-square.ensures.small) ∙ sym c.contains.ensures ∙ c.if-not-contains.true)))
 
 pub loop-b-init : goal.loop-b-init
@@ -17,10 +17,10 @@ loop-b-init c y ly = rw c.empty-set.ensures (has-zero y)
 
 pub loop-b-preserved : goal.loop-b-preserved
 loop-b-preserved c y ly =
-    gathered (keeps_attack_past c.args.to c.args.x y) c.args.bearers.now c.loop-b.b-index _ c.b-item.result y _ _ _ c.loop-b-test.true c.b-item.is
+    gathered (keeps_attack_past c.args.to c.args.x y) c.args.attackers.now c.loop-b.b-index _ c.b-item.result y _ _ _ c.loop-b-test.true c.b-item.is
     (c.loop-b.invariant y ly) (c.squares_keeping_attack_past.ensures y ly) (c.union-set.ensures y)
 
 pub returns : goal.returns
 returns c y ly =
     c.loop-b.invariant y ly
-    ∙ ap (λ (l : List Attacker). list_any (keeps_attack_past c.args.to c.args.x y) l) (take_all c.loop-b.b-index c.args.bearers.now (omega arith))
+    ∙ ap (λ (l : List Attacker). list_any (keeps_attack_past c.args.to c.args.x y) l) (take_all c.loop-b.b-index c.args.attackers.now (omega arith))

@@ -5,4 +5,4 @@ use Rattle.study_retro.specs.RowMoves.{keeps_attack_past}
 use Rattle.study_retro.proofs.rows.checks.squares_attacking_past.Given as goal
 
 abbrev pub invariant-loop-b : goal.invariant-loop-b
-invariant-loop-b l = (y : ℕ) → y < 64 → has l.set y ≡ list_any (keeps_attack_past l.to l.x y) (take l.b-index l.bearers)
+invariant-loop-b l = (y : ℕ) → y < 64 → has l.set y ≡ list_any (keeps_attack_past l.to l.x y) (take l.b-index l.attackers)

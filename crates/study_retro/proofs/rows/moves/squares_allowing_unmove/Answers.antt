@@ -4,5 +4,6 @@ use Rattle.study_retro.proofs.rows.moves.squares_allowing_unmove.Goals as goal
 
 pub returns : goal.returns
 returns c y ly apart =
+    let checks = c.args.checks.now in
     c.squares_not_interfering.ensures y ly apart
-    ∙ led_with c.args.others.now c.args.last.now y c.args.man.now c.args.origin c.requires.man apart c.args.to_move c.requires.side c.requires.comes
+    ∙ led_with checks.others.now checks.last.now y checks.man.now c.args.origin c.requires.man apart checks.side c.requires.side c.requires.comes

@@ -11,6 +11,7 @@ use Rattle.study_retro.specs.RowBack.{IsBeforeRowBy, IsBeforeRowFrom}
 use Rattle.study_retro.specs.RowMoves.{AreOnDistinctSquares}
 use Rattle.study_retro.specs.Still.{on_square}
 use Rattle.study_retro.proofs.BackLemmas.{set-then, set-kept, set-why}
+use Rattle.study_retro.proofs.CheckLemmas.{made-for}
 use Rattle.study_retro.proofs.RowBackLemmas.{row_apart, row_led, row_came}
 use Rattle.study_levels.proofs.SquaresLeft.{AreLeft, left-all, first-only, left-more, left-none}
 use Rattle.study_retro.proofs.rows.predecessors.write_before_man_from.Goals as goal
@@ -45,8 +46,10 @@ write_predecessors-requires-clause-led c = λ y q on e at.
     (ap (λ (d : ℕ). position_numbered c.args.departure.now.class (64 * d + y)) (sym c.requires.row) ∙ at) in
     row_led row.class (64 * row.number + y) y q here row.others.items row.last row.to_move (row.encoded y on) man c.requires.man c.requires.side a f.inside
     c.squares_allowing_unmove.result
-    (subst (λ (xs : List Man). AreOnDistinctSquares (xs ++ on_square row.last y ∷ []) → has c.squares_allowing_unmove.result y ≡ is_unmove_origin (xs ++ on_square row.last y ∷ []) row.to_move man a)
-    c.as_slice-others.ensures.value (c.squares_allowing_unmove.ensures y on)) both.1
+    (made-for (λ xs last side m. AreOnDistinctSquares (xs ++ on_square last y ∷ [])
+    → has c.squares_allowing_unmove.result y ≡ is_unmove_origin (xs ++ on_square last y ∷ []) side m a)
+    (c.new-checks.ensures.others ∙ c.as_slice-others.ensures.value) c.new-checks.ensures.last c.new-checks.ensures.side c.new-checks.ensures.man
+    (c.squares_allowing_unmove.ensures y on)) both.1
 
 pub loop-next-preserved : goal.loop-next-preserved
 loop-next-preserved c =
@@ -79,8 +82,10 @@ loop-next-preserved c =
     λ n y on e b.
     let q = c.requires.numbered y on e in
     let came = row_came row.class (64 * number + y) y q.0 q.1 row.others.items row.last row.to_move (row.encoded y on) man c.requires.man a n f.inside b in
-    let word = subst (λ (xs : List Man). AreOnDistinctSquares (xs ++ on_square row.last y ∷ []) → has c.squares_allowing_unmove.result y ≡ is_unmove_origin (xs ++ on_square row.last y ∷ []) row.to_move man a)
-    c.as_slice-others.ensures.value (c.squares_allowing_unmove.ensures y on) in
+    let word = made-for (λ xs last side m. AreOnDistinctSquares (xs ++ on_square last y ∷ [])
+    → has c.squares_allowing_unmove.result y ≡ is_unmove_origin (xs ++ on_square last y ∷ []) side m a)
+    (c.new-checks.ensures.others ∙ c.as_slice-others.ensures.value) c.new-checks.ensures.last c.new-checks.ensures.side c.new-checks.ensures.man
+    (c.squares_allowing_unmove.ensures y on) in
     let apart = row_apart row.class (64 * number + y) y q.0 q.1 row.others.items row.last row.to_move (row.encoded y on) in
     c.write_predecessors.ensures.done n y on (c.intersection-led.ensures y ∙ rw (e, word apart ∙ came.1) refl) (of_row y n b) in
     record {

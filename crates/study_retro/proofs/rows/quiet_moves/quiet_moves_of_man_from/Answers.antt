@@ -16,12 +16,13 @@ use Rattle.study_retro.specs.Predecessors.{AreTold}
 use Rattle.study_retro.specs.RowEscapes.{CanGo}
 use Rattle.study_retro.specs.RowMoves.{AreOnDistinctSquares, goes_quietly}
 use Rattle.study_retro.specs.Still.{IsWonAfter, move_to, on_square}
+use Rattle.study_retro.proofs.CheckLemmas.{made-for}
 use Rattle.study_retro.proofs.RowEscapeLemmas.{go_some, row_can, row_goes, row_stays, thin-cases, thin-gone}
 use Rattle.study_levels.proofs.SquaresLeft.{AreLeft, left-all, first-only, left-more, left-none}
 use Rattle.study_retro.proofs.rows.quiet_moves.quiet_moves_of_man_from.Goals as goal
 
-pub loop-others-init : goal.loop-others-init
-loop-others-init g c = record {
+pub loop-checks-init : goal.loop-checks-init
+loop-checks-init g c = record {
   left = left-all c.targets_among-rest.result;
   among = λ y on e. e;
   hold = λ y on e f. absurd (false≢true (sym f ∙ e));
@@ -32,12 +33,12 @@ loop-others-init g c = record {
 -- if no number may lose the other moves need not be examined
 pub returns-then-is_empty-clause-yes : goal.returns-then-is_empty-clause-yes
 returns-then-is_empty-clause-yes g c = λ y q on e.
-    absurd (false≢true (sym (ap (λ (s : ℕ). has s y) (c.is_empty-in-loop-others.ensures.0 c.if-is_empty.true) ∙ has-zero y) ∙ e))
+    absurd (false≢true (sym (ap (λ (s : ℕ). has s y) (c.is_empty-in-loop-checks.ensures.0 c.if-is_empty.true) ∙ has-zero y) ∙ e))
 
 pub losing_after-lost-requires-clause-numbered : goal.losing_after-lost-requires-clause-numbered
 losing_after-lost-requires-clause-numbered g c = λ y on e.
     let both = and_parts _ _ (sym (c.intersection-going.ensures y) ∙ e) in
-    let q = c.requires.numbered y on (c.loop-others.invariant.among y on both.0) in
+    let q = c.requires.numbered y on (c.loop-checks.invariant.among y on both.0) in
     (q.0, ap (λ (d : ℕ). position_numbered c.args.game.now.class (64 * d + y)) c.requires.row ∙ q.1)
 
 pub losing_after-lost-requires-clause-going : goal.losing_after-lost-requires-clause-going
@@ -47,29 +48,31 @@ losing_after-lost-requires-clause-going g c = λ y on e.
     let a = c.first-target.result in
     let small = row.plain in
     let both = and_parts _ _ (sym (c.intersection-going.ensures y) ∙ e) in
-    let q = c.requires.numbered y on (c.loop-others.invariant.among y on both.0) in
+    let q = c.requires.numbered y on (c.loop-checks.invariant.among y on both.0) in
     let told = subst (λ (d : Class). AreTold d (64 * row.number + y) (row.others.items ++ on_square row.last y ∷ []) row.to_move) c.requires.class
     (row.encoded y on) in
     let his = c.requires.side in
-    let word = subst (λ (xs : List Man). AreOnDistinctSquares (xs ++ on_square row.last y ∷ []) → has c.squares_allowing_move.result y
-    ≡ (is_safe_target (xs ++ on_square row.last y ∷ []) row.to_move man a && not (is_occupied (xs ++ on_square row.last y ∷ []) a)))
-    c.as_slice-others.ensures.value (c.squares_allowing_move.ensures y on) in
+    let word = made-for (λ xs last side m. AreOnDistinctSquares (xs ++ on_square last y ∷ [])
+    → has c.squares_allowing_move.result y
+    ≡ (is_safe_target (xs ++ on_square last y ∷ []) side m a && not (is_occupied (xs ++ on_square last y ∷ []) a)))
+    (c.new-checks.ensures.others ∙ c.as_slice-others.ensures.value) c.new-checks.ensures.last c.new-checks.ensures.side c.new-checks.ensures.man
+    (c.squares_allowing_move.ensures y on) in
     subst (λ (d : ℕ). CanGo c.args.game.now.class (64 * d + y) man a) (sym c.requires.row)
     (row_can c.args.game.now.class (64 * row.number + y) y q.0 q.1 (omega (arith, small, on)) row.others.items row.last row.to_move told man c.requires.man
     his a c.squares_allowing_move.result word both.1)
 
-pub loop-others-preserved : goal.loop-others-preserved
-loop-others-preserved g c =
+pub loop-checks-preserved : goal.loop-checks-preserved
+loop-checks-preserved g c =
     let row = c.args.row.now in
     let man = c.args.man.now in
     let f = c.first-target.ensures in
     let a = c.first-target.result in
-    let inv = c.loop-others.invariant in
+    let inv = c.loop-checks.invariant in
     let class = c.args.game.now.class in
     let is_row : c.args.departure.now.row ≡ row.number = c.requires.row in
     let next : c.number-next.result ≡ a = c.number-next.ensures.value in
     let small = row.plain in
-    let losing = c.loop-others.losing in
+    let losing = c.loop-checks.losing in
     let going = c.intersection-going.result in
     let lost = c.losing_after-lost.result in
     let new = c.union-losing.result in
@@ -80,9 +83,11 @@ loop-others-preserved g c =
     let mine : (y : ℕ) → y < 64 → has going y ≡ true → has losing y ≡ true = λ y on e. (and_parts _ _ (sym (c.intersection-going.ensures y) ∙ e)).0 in
     let before : (y : ℕ) → y < 64 → has new y ≡ true → has losing y ≡ true = λ y on e.
     elim (cases y on e) [ inl l ↦ mine y on (c.losing_after-lost.ensures.only y on l) | inr k ↦ k.0 ] in
-    let word = λ (y : ℕ) (on : y < 64). subst (λ (xs : List Man). AreOnDistinctSquares (xs ++ on_square row.last y ∷ []) → has c.squares_allowing_move.result y
-    ≡ (is_safe_target (xs ++ on_square row.last y ∷ []) row.to_move man a && not (is_occupied (xs ++ on_square row.last y ∷ []) a)))
-    c.as_slice-others.ensures.value (c.squares_allowing_move.ensures y on) in
+    let word = λ (y : ℕ) (on : y < 64). made-for (λ xs last side m. AreOnDistinctSquares (xs ++ on_square last y ∷ [])
+    → has c.squares_allowing_move.result y
+    ≡ (is_safe_target (xs ++ on_square last y ∷ []) side m a && not (is_occupied (xs ++ on_square last y ∷ []) a)))
+    (c.new-checks.ensures.others ∙ c.as_slice-others.ensures.value) c.new-checks.ensures.last c.new-checks.ensures.side c.new-checks.ensures.man
+    (c.squares_allowing_move.ensures y on) in
     record {
       left = subst (λ (n : ℕ). AreLeft c.targets_among-rest.result c.without-rest.result (n + 1)) (sym next) left;
       among = λ y on e. inv.among y on (before y on e);
@@ -93,7 +98,7 @@ loop-others-preserved g c =
             (c.losing_after-lost.ensures.no y on k.0 k.1)
         | inr out ↦ inv.hold y on e out
       ];
-      lose = λ x y q l e on there at legal quiet. elim (cases_lt x c.loop-others.next) [
+      lose = λ x y q l e on there at legal quiet. elim (cases_lt x c.loop-checks.next) [
         | inl low ↦ inv.lose x y q low e on (before y on there) at legal quiet
         | inr high ↦ elim (cases_lt x a) [
           | inl low ↦ absurd (false≢true (sym (first-only _ _ _ inv.left a f.inside f.there f.least x high low
@@ -118,7 +123,7 @@ loop-others-preserved g c =
               ])
         ]
       ];
-      some = λ y q on e at. elim (cases_Bool (has c.loop-others.some y)) [
+      some = λ y q on e at. elim (cases_Bool (has c.loop-checks.some y)) [
         | inl there ↦ inv.some y q on there at
         | inr out ↦
             let goes : has going y ≡ true = sym (ap (λ (b : Bool). b || has going y) out) ∙ (sym (c.union-some.ensures y) ∙ e) in
@@ -142,7 +147,7 @@ returns-clause-yes g c = λ y q on e at x legal quiet.
     c.args.man.now c.requires.man x legal quiet in
     let there = c.targets_among-rest.ensures x go.0
     ∙ (ap (λ (xs : List Man). goes_quietly xs c.args.man.now x) c.as_slice-others.ensures.value ∙ go.2) in
-    elim (cases_lt x c.loop-others.next) [
-      | inl l ↦ c.loop-others.invariant.lose x y q l there on e at legal quiet
-      | inr h ↦ absurd (false≢true (sym (left-none _ _ _ c.loop-others.invariant.left (c.is_empty.ensures.0 c.loop-others-test.false) x h go.0) ∙ there))
+    elim (cases_lt x c.loop-checks.next) [
+      | inl l ↦ c.loop-checks.invariant.lose x y q l there on e at legal quiet
+      | inr h ↦ absurd (false≢true (sym (left-none _ _ _ c.loop-checks.invariant.left (c.is_empty.ensures.0 c.loop-checks-test.false) x h go.0) ∙ there))
     ]

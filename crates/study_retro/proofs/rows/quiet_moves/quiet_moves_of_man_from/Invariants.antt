@@ -10,8 +10,8 @@ use Rattle.study_retro.specs.Still.{IsWonAfter, move_to}
 use Rattle.study_levels.proofs.SquaresLeft.{AreLeft}
 use Rattle.study_retro.proofs.rows.quiet_moves.quiet_moves_of_man_from.Given as goal
 
-abbrev pub invariant-loop-others : goal.invariant-loop-others
-invariant-loop-others g l = record {
+abbrev pub invariant-loop-checks : goal.invariant-loop-checks
+invariant-loop-checks g l = record {
   left : AreLeft l.initial.rest l.rest l.next;
   among : AreAmong l.losing l.fn.so_far.losing;
   hold : OthersHold (class_game l.game.class l.game.tables.now) l.cells l.level l.row.number l.fn.so_far.losing l.losing;
@@ -21,5 +21,5 @@ invariant-loop-others g l = record {
   some : HaveMoves l.game.class l.row.number l.some;
 }
 
-abbrev pub decreases-loop-others : goal.decreases-loop-others
-decreases-loop-others g l = 64 - l.next
+abbrev pub decreases-loop-checks : goal.decreases-loop-checks
+decreases-loop-checks g l = 64 - l.next
