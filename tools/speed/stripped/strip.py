@@ -39,7 +39,7 @@ def without_ghosts(text):
         elif GHOST.match(line):
             at, ended = end_of_ghost(lines, at)
             if ended and "ghost" not in line:  # the last clause of a method without a body
-                kept[-1] += ";"
+                kept.append(";")  # a comment may be before it
         else:
             kept.append(line)
             at += 1
@@ -71,10 +71,12 @@ def write_modules(top, out, crates, plain):
     for crate in crates:
         folder = pathlib.Path(out) / crate
         folder.mkdir(parents=True, exist_ok=True)
-        for source in (pathlib.Path(top) / "crates" / crate / "src").glob("*.rt"):
-            is_root = source.name == "lib.rt"
-            name = "mod.rs" if is_root else f"{source.stem}.rs"
-            (folder / name).write_text(plain(source.read_text(), crate, is_root))
+        sources = pathlib.Path(top) / "crates" / crate / "src"
+        for source in sources.rglob("*.rt"):
+            is_root = source == sources / "lib.rt"
+            module = folder / ("mod.rs" if is_root else source.relative_to(sources).with_suffix(".rs"))
+            module.parent.mkdir(exist_ok=True)
+            module.write_text(plain(source.read_text(), crate, is_root))
 
 
 if __name__ == "__main__":
