@@ -20,7 +20,7 @@ use Rattle.study_board.specs.Men.{same_side, other_side, is_man}
 use Rattle.study_board.specs.Position.{Position, IsValid, IsAscending, has_one_king}
 use Rattle.study_board.specs.EqualLaws.{sides_equal}
 use Rattle.study_board.specs.Sets.{has}
-use Rattle.study_board.proofs.SetBits.{has-zero}
+use Rattle.study_board.proofs.SquareLists.{IsFirstOf}
 use Rattle.study_moves.specs.declared.moves.Move.{Move}
 use Rattle.study_moves.specs.Unmoves.{LeadsQuietly, IsEarlier, CanHaveLed, IsMoveFrom, IsLastMove, move_from, position_before, is_unmove_origin}
 use Rattle.study_moves.proofs.MenOfList.{IsAmong, above_among}
@@ -58,11 +58,12 @@ module _ (man : Man) (all : ℕ) where
   pub next_below : (rest next len old t : ℕ) (first now : List Move) → IsGathering man all rest next len old first now → t < 64 → has rest t ≡ true → next ≤ t
   next_below rest next len old t first now g lt e = elim (cases_lt t next) [ inl l ↦ absurd (false≢true (sym (g.done t l lt) ∙ e)) | inr l ↦ l ]
 
-  gathering_goes_on : (rest next len old t one rest' len' : ℕ) (first now : List Move)
-      → IsGathering man all rest next len old first now → t < 64 → has rest t ≡ true
-      → ((x : ℕ) → x < t → has rest x ≡ false) → ((x : ℕ) → x < 64 → has one x ≡ (t == x)) → ((x : ℕ) → x < 64 → has rest' x ≡ (has rest x && not (has one x)))
+  gathering_goes_on : (rest next len old t rest' len' : ℕ) (first now : List Move)
+      → IsGathering man all rest next len old first now → IsFirstOf rest t rest'
       → len' ≡ len + 1 → IsGathering man all rest' (t + 1) len' old first (now ++ move_from man t ∷ [])
-  gathering_goes_on rest next len old t one rest' len' first now g lt there least single less longer =
+  gathering_goes_on rest next len old t rest' len' first now g f longer =
+      let lt = f.inside in
+      let there = f.there in
       let low = next_below rest next len old t first now g lt there in
       record {
         kept = λ m. (λ h. (g.kept m).0 (back m h), λ h. on m ((g.kept m).1 h));
@@ -72,7 +73,7 @@ module _ (man : Man) (all : ℕ) where
           | inr e ↦ false≢true (sym (taken h.0 h.1 (ap (λ (x : Move). x.origin) (e ∙ h.3))) ∙ h.2)
         ];
         done = λ x l lx. elim (cases_lt x t) [
-          | inl k ↦ less x lx ∙ rw (least x k) refl
+          | inl k ↦ f.left x lx ∙ rw (f.least x k) refl
           | inr k ↦ taken x lx (omega arith)
         ];
         few = omega (arith, g.few);
@@ -84,13 +85,13 @@ module _ (man : Man) (all : ℕ) where
       and_false false = refl
 
       taken : (x : ℕ) → x < 64 → t ≡ x → has rest' x ≡ false
-      taken x lx e = less x lx ∙ rw (single x lx, eq-eqb t x e) (and_false (has rest x))
+      taken x lx e = f.left x lx ∙ rw (eq-eqb t x e) (and_false (has rest x))
 
       of_rest : (x : ℕ) → x < 64 → has rest' x ≡ true → has rest x ≡ true
-      of_rest x lx e = (and_parts (has rest x) (not (has one x)) (sym (less x lx) ∙ e)).0
+      of_rest x lx e = (and_parts (has rest x) (not (t == x)) (sym (f.left x lx) ∙ e)).0
 
       back : (m : Move) → Contains (now ++ move_from man t ∷ []) m ⊎ IsMoveFrom man (has rest') m → Contains now m ⊎ IsMoveFrom man (has rest) m
-      back m (inl c) = elim (Contains-push_cases now (move_from man t) m c) [ inl d ↦ inl d | inr e ↦ inr (t, lt, there, sym e) ]
+      back m (inl c) = elim (Contains-push_cases now (move_from man t) m c) [ inl d ↦ inl d | inr e ↦ inr (t, f.inside, f.there, sym e) ]
       back m (inr h) = inr (h.0, h.1, of_rest h.0 h.1 h.2, h.3)
 
       on : (m : Move) → Contains now m ⊎ IsMoveFrom man (has rest) m → Contains (now ++ move_from man t ∷ []) m ⊎ IsMoveFrom man (has rest') m
@@ -100,21 +101,20 @@ module _ (man : Man) (all : ℕ) where
             let same : move_from man t ≡ m = ap (λ (x : ℕ). move_from man x) (eqb-true t h.0 e) ∙ sym h.3 in
             let P : Move → Type 0 = λ r. Contains (now ++ move_from man t ∷ []) r in
             inl (subst P same (Contains-push now (move_from man t)))
-        | inr e ↦ inr (h.0, h.1, less h.0 h.1 ∙ rw (h.2, single h.0 h.1, e) refl, h.3)
+        | inr e ↦ inr (h.0, h.1, f.left h.0 h.1 ∙ rw (h.2, e) refl, h.3)
       ]
 
-  pub gathered_more : (rest next old t one rest' n : ℕ) (first now now' : List Move) (b : Move)
-      → IsGathering man all rest next (length now) old first now → t < 64 → has rest t ≡ true
-      → ((x : ℕ) → x < t → has rest x ≡ false) → ((x : ℕ) → x < 64 → has one x ≡ (t == x)) → ((x : ℕ) → x < 64 → has rest' x ≡ (has rest x && not (has one x)))
-      → b ≡ move_from man t → now' ≡ now ++ b ∷ [] → n ≡ t → IsGathering man all rest' (n + 1) (length now') old first now'
-  gathered_more rest next old t one rest' n first now now' b g lt there least single less is more same =
-      rw (more, is, same)
-      (gathering_goes_on rest next (length now) old t one rest' (length (now ++ move_from man t ∷ [])) first now g
-      lt there least single less (length-append now (move_from man t ∷ [])))
+  pub gathered_more : (rest next old t rest' : ℕ) (first now now' : List Move) (b : Move)
+      → IsGathering man all rest next (length now) old first now → IsFirstOf rest t rest'
+      → b ≡ move_from man t → now' ≡ now ++ b ∷ [] → IsGathering man all rest' (t + 1) (length now') old first now'
+  gathered_more rest next old t rest' first now now' b g f is more =
+      rw (more, is)
+      (gathering_goes_on rest next (length now) old t rest' (length (now ++ move_from man t ∷ [])) first now g f
+      (length-append now (move_from man t ∷ [])))
 
   pub gathering_ends : (q : Position) → ((a : ℕ) → a < 64 → has all a ≡ is_unmove_origin q.men q.to_move man a)
-      → (rest next len old : ℕ) (first now : List Move) → IsGathering man all rest next len old first now → rest ≡ 0
-      → (m : Move) → Contains now m ↔ (Contains first m ⊎ IsLastMove q man m)
+      → (rest next len old : ℕ) (first now : List Move) → IsGathering man all rest next len old first now
+      → ((x : ℕ) → x < 64 → has rest x ≡ false) → (m : Move) → Contains now m ↔ (Contains first m ⊎ IsLastMove q man m)
   gathering_ends q these rest next len old first now g e m = (λ c. here ((g.kept m).0 (inl c)), λ h. left ((g.kept m).1 (there h)))
     where
       here : Contains first m ⊎ IsMoveFrom man (has all) m → Contains first m ⊎ IsLastMove q man m
@@ -127,7 +127,7 @@ module _ (man : Man) (all : ℕ) where
 
       left : Contains now m ⊎ IsMoveFrom man (has rest) m → Contains now m
       left (inl c) = c
-      left (inr h) = absurd (false≢true (sym (has-zero h.0) ∙ rw e at h.2))
+      left (inr h) = absurd (false≢true (sym (e h.0 h.1) ∙ h.2))
 
   pub few_end : (rest next len old : ℕ) (first now : List Move) → IsGathering man all rest next len old first now → len ≤ old + 64
   few_end rest next len old first now g = omega (arith, g.few, g.small)

@@ -16,7 +16,7 @@ ghost use Rattle.study_moves.specs.MoveCount.{most_moves};
 use crate::Move;
 use crate::king_safety::unsafe_targets;
 use crate::legal::{is_legal_for, may_capture_en_passant, reaches_last_rank};
-use crate::targets::{target_range, targets};
+use crate::targets::targets;
 use arrayvec::ArrayVec;
 use study_board::{Kind, Man, Position, Square, SquareSet};
 
@@ -53,15 +53,9 @@ fn add_moves_of(p: &Position, man: &Man, list: &mut MoveList)
     ensures few { array_vec_len list.new ≤ array_vec_len list.old + most_moves man.now.kind }
 {
     let _origin = man.at.number();
-    let (start, end) = target_range(man);
     let (all, sure) = legal_targets(p, man);
-    let mut rest = all;
-    let mut next = start;
-    while !rest.is_empty() {
-        let target = rest.first();
-        rest = rest.without(SquareSet::of(target));
+    for target in all {
         add_target(p, man, target, sure, list);
-        next = target.number() + 1;
     }
 }
 

@@ -59,17 +59,12 @@ fn add_unmoves_of(q: &Position, man: &Man, list: &mut ArrayVec<Move, 192>)
     ensures few { array_vec_len list.new ≤ array_vec_len list.old + 64 }
 {
     let target = man.at;
-    let mut rest = unmove_origins(q.men(), q.to_move(), man);
-    let mut next = 0u8;
-    while !rest.is_empty() {
-        let origin = rest.first();
-        rest = rest.without(SquareSet::of(origin));
+    for origin in unmove_origins(q.men(), q.to_move(), man) {
         list.push(Move {
             origin,
             target,
             promoted: None,
         });
-        next = origin.number() + 1;
     }
 }
 

@@ -5,7 +5,7 @@ use Rattle.study_board.specs.Men.{same_side}
 use Rattle.study_moves.specs.declared.moves.Move.{Move}
 use Rattle.study_moves.specs.Order.{AreMovesBelow}
 use Rattle.study_board.proofs.EqualMen.{side_same}
-use Rattle.study_moves.proofs.PawnWindows.{first_at}
+use Rattle.study_moves.proofs.NoManBetween.{first_at}
 use Rattle.study_moves.proofs.ManByMan.{men_begin, men_more, men_end, man_here, man_begins}
 use Rattle.study_moves.proofs.LegalLists.{legal_list_is}
 use Rattle.study_moves.proofs.FewMoves.{most_of, most_of-mine, most_of-next, most_of-valid}

@@ -1,6 +1,6 @@
 use Rattle.std.proofs.Common.{◌≤◌, ◌+◌, ◌*◌, length, drop}
 use Rattle.study_moves.specs.Order.{AreMovesBelow}
-use Rattle.study_moves.proofs.PawnWindows.{first_at}
+use Rattle.study_moves.proofs.NoManBetween.{first_at}
 use Rattle.study_moves.proofs.FewMoves.{most_of}
 use Rattle.study_moves.proofs.movegen.legal_moves.Given as goal
 
