@@ -150,16 +150,9 @@ fn write_each_first<G: LevelGame>(game: &G, cells: &mut [u8], row: u32, squares:
 {
     let mut far = false;
     let _size = game.cells();
-    let mut rest = squares;
-    let mut next = 0u8;
-    while !rest.is_empty() {
-        let square = rest.first();
-        rest = rest.without(SquareSet::of(square));
+    for square in squares {
         let number = 64 * row + u32::from(square.number());
-        if write_first(game, cells, number) {
-            far = true;
-        }
-        next = square.number() + 1;
+        far |= write_first(game, cells, number);
     }
     far
 }

@@ -56,13 +56,8 @@ pub fn clear_in_row(cells: &mut [u8], row: u32, squares: SquareSet)
     ensures done { (y : ℕ) → y < 64 → has squares y ≡ true
         → slice_index cells.new (64 * row + y) ≡ 0 }
 {
-    let mut rest = squares;
-    let mut next = 0u8;
-    while !rest.is_empty() {
-        let square = rest.first();
-        rest = rest.without(SquareSet::of(square));
+    for square in squares {
         clear_cell(cells, 64 * row + u32::from(square.number()));
-        next = square.number() + 1;
     }
 }
 

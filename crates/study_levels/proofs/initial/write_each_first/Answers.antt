@@ -1,72 +1,61 @@
-use Rattle.std.proofs.Common.{arith, ℕ, ◌≡◌, ◌≢◌, ◌+◌, ◌*◌, ◌<◌, ◌≤◌, true, slice_index, ◌∙◌, sym, subst, inl, inr}
-use Rattle.std.proofs.lemmas.Bool.{false≢true, cases_lt}
+use Rattle.std.proofs.Common.{arith, ℕ, ◌≡◌, ◌≢◌, ◌+◌, ◌*◌, ◌<◌, ◌||◌, Bool, true, false, slice_index, refl, ap, ◌∙◌, sym, subst, inl, inr}
+use Rattle.std.proofs.lemmas.Bool.{false≢true}
 use Rattle.study_board.specs.Sets.{has}
+use Rattle.study_board.proofs.SquareLists.{first-of, none-of-empty}
 use Rattle.study_levels.specs.Numbered.{CellIsHeld, HasPosition}
 use Rattle.study_levels.proofs.FirstLemmas.{held-more}
-use Rattle.study_levels.proofs.SquaresLeft.{first-as, AreLeft, first-above, first-in, first-only, left-more, taken-all}
+use Rattle.study_levels.proofs.SquaresLeft.{still-among, taken-too}
 use Rattle.study_levels.proofs.initial.write_each_first.Goals as goal
-use Rattle.study_levels.proofs.initial.write_each_first.Goals.{then-write_first, else-write_first}
 
-pub loop-next-preserved : goal.loop-next-preserved
-loop-next-preserved g c =
-    let h = c.first-square.ensures in
-    let inv = c.loop-next.invariant in
+either : (a b : Bool) → b ≡ true → (a || b) ≡ true
+either true b e = refl
+either false b e = e
+
+pub loop-square-preserved : goal.loop-square-preserved
+loop-square-preserved g c =
+    let f = first-of _ _ _ c.in-Some.ensures.steps in
+    let inv = c.loop-square.invariant in
+    let set = c.loop-square.square-iterator in
     let z = c.from.result in
     let row = c.args.row in
-    let mid = c.loop-next.cells in
-    let new = c.write_first.new.cells in
-    let same : z ≡ c.first-square.result = c.from.ensures ∙ c.number.ensures.value in
-    let next : c.number-next.result ≡ c.first-square.result = c.number-next.ensures.value in
-    let f = first-as c.loop-next.rest c.first-square.result z h.inside h.there h.least same in
-    let low : c.loop-next.next ≤ z = first-above _ _ _ inv.left z f.inside f.there in
-    let in-set : has c.args.squares z ≡ true = first-in _ _ _ inv.left z f.inside f.there in
-    let kept : (i : ℕ) → i ≢ 64 * row + z → slice_index new i ≡ slice_index mid i = λ i out. c.write_first.ensures.other i out in
-    let more : (c.loop-next.far ≡ true → c.if-write_first.far ≡ true) × (c.write_first.result ≡ true → c.if-write_first.far ≡ true) =
-    elim c.if-write_first.branch [
-      | then-write_first w ↦ (λ x. w.far-is, λ x. w.far-is)
-      | else-write_first w ↦ (λ x. w.far-is ∙ x, λ x. absurd (false≢true (sym w.if-write_first.false ∙ x)))
-    ] in
-    let taken : (Q : ℕ → Type 0) → ((x : ℕ) → x < c.loop-next.next → has c.args.squares x ≡ true → Q x) → Q z
-    → (x : ℕ) → x < c.number-next.result + 1 → has c.args.squares x ≡ true → Q x =
-    λ Q before here x l e. elim (cases_lt x z) [
-      | inr high ↦ subst Q (let is : z ≡ x = omega (arith, high, l, next, same) in is) here
-      | inl under ↦ elim (cases_lt x c.loop-next.next) [
-        | inl l' ↦ before x l' e
-        | inr g' ↦ absurd (false≢true (sym (first-only _ _ _ inv.left z f.inside f.there f.least x g' under
-            (let on = f.inside in omega (arith, on, under))) ∙ e))
-      ]
-    ] in
+    let mid = c.loop-square.cells in
+    let new = c.write_first-far.new.cells in
+    let same : z ≡ c.in-Some.square = c.from.ensures ∙ c.number.ensures.value in
+    let in-set : has c.args.squares z ≡ true = inv.among z (omega (arith, same, f.inside)) (ap (λ (x : ℕ). has set x) same ∙ f.there) in
+    let kept : (i : ℕ) → i ≢ 64 * row + z → slice_index new i ≡ slice_index mid i = λ i out. c.write_first-far.ensures.other i out in
+    let apart : (y : ℕ) → has set y ≡ false → 64 * row + y ≢ 64 * row + z = λ y gone q.
+    let is : y ≡ c.in-Some.square = omega (arith, q, same) in
+    false≢true (sym gone ∙ ap (λ (x : ℕ). has set x) is ∙ f.there) in
+    let far = c.loop-square.far || c.write_first-far.result in
+    let more : (c.loop-square.far ≡ true → far ≡ true) × (c.write_first-far.result ≡ true → far ≡ true) =
+    (λ e. ap (λ (b : Bool). b || c.write_first-far.result) e, λ e. either c.loop-square.far c.write_first-far.result e) in
+    let taken : (Q : ℕ → Type 0) → ((x : ℕ) → x < 64 → has c.args.squares x ≡ true → has set x ≡ false → Q x) → Q z
+    → (x : ℕ) → x < 64 → has c.args.squares x ≡ true → has c.next.new.self x ≡ false → Q x =
+    λ Q before here. taken-too c.args.squares set c.in-Some.square c.next.new.self f Q before (subst Q same here) in
     record {
-      left = subst (λ (n : ℕ). AreLeft c.args.squares c.without-rest.result (n + 1)) (sym next)
-          (left-more _ _ _ inv.left c.first-square.result h.inside h.there h.least c.of.result c.without-rest.result c.of.ensures c.without-rest.ensures);
-      size = c.write_first.auto.cells ∙ inv.size;
+      among = still-among c.args.squares set c.in-Some.square c.next.new.self f inv.among;
+      size = c.write_first-far.auto.cells ∙ inv.size;
       other = λ i out.
-          kept i (λ e. (let on = f.inside in elim out [ inl l ↦ omega (arith, l, e) | inr l ↦ omega (arith, l, e, on) ])) ∙ inv.other i out;
+          kept i (λ e. (let on = f.inside in elim out [ inl l ↦ omega (arith, l, e) | inr l ↦ omega (arith, l, e, on, same) ])) ∙ inv.other i out;
       kept = λ y on e.
           kept (64 * row + y) (λ q. (let is : y ≡ z = omega (arith, q) in
           false≢true (sym e ∙ subst (λ (x : ℕ). has c.args.squares x ≡ true) (sym is) in-set))) ∙ inv.kept y on e;
       held = λ outer. taken (λ (y : ℕ). 64 * row + y < (g.G.Game.numbered c.args.game.now).size
-          → CellIsHeld (g.G.Game.numbered c.args.game.now) c.if-write_first.far 0 (64 * row + y) (slice_index new (64 * row + y)))
-          (λ y l e b. subst (λ (x : ℕ). CellIsHeld (g.G.Game.numbered c.args.game.now) c.if-write_first.far 0 (64 * row + y) x)
-          (sym (kept (64 * row + y) (λ q. omega (arith, q, l, low))))
-          (held-more _ _ _ more.0 _ 0 _ (inv.held outer y l e b)))
-          (λ b. held-more _ _ _ more.1 _ 0 _ (c.write_first.ensures.held b outer));
+          → CellIsHeld (g.G.Game.numbered c.args.game.now) far 0 (64 * row + y) (slice_index new (64 * row + y)))
+          (λ y on e gone b. subst (λ (x : ℕ). CellIsHeld (g.G.Game.numbered c.args.game.now) far 0 (64 * row + y) x)
+          (sym (kept (64 * row + y) (apart y gone)))
+          (held-more _ _ _ more.0 _ 0 _ (inv.held outer y on e gone b)))
+          (λ b. held-more _ _ _ more.1 _ 0 _ (c.write_first-far.ensures.held b outer));
       numbered = taken (λ (y : ℕ). 64 * row + y < (g.G.Game.numbered c.args.game.now).size
           → slice_index new (64 * row + y) ≢ 0 → HasPosition (g.G.Game.numbered c.args.game.now) (64 * row + y))
-          (λ y l e b x. inv.numbered y l e b (λ w. x (kept (64 * row + y) (λ q. omega (arith, q, l, low)) ∙ w)))
-          (λ b x. c.write_first.ensures.numbered b x);
+          (λ y on e gone b x. inv.numbered y on e gone b (λ w. x (kept (64 * row + y) (apart y gone) ∙ w)))
+          (λ b x. c.write_first-far.ensures.numbered b x);
     }
 
 pub returns-clause-held : goal.returns-clause-held
 returns-clause-held g c = λ outer y on e.
-    let inv = c.loop-next.invariant in
-    taken-all (λ (x : ℕ). 64 * c.args.row + x < (g.G.Game.numbered c.args.game.now).size
-    → CellIsHeld (g.G.Game.numbered c.args.game.now) c.loop-next.far 0 (64 * c.args.row + x) (slice_index c.loop-next.cells (64 * c.args.row + x)))
-    c.args.squares c.loop-next.rest c.loop-next.next inv.left (λ x l h. inv.held outer x l h) (c.is_empty.ensures.0 c.loop-next-test.false) y on e
+    c.loop-square.invariant.held outer y on e (none-of-empty _ c.in-None.ensures.steps.0 y on)
 
 pub returns-clause-numbered : goal.returns-clause-numbered
 returns-clause-numbered g c = λ y on e.
-    let inv = c.loop-next.invariant in
-    taken-all (λ (x : ℕ). 64 * c.args.row + x < (g.G.Game.numbered c.args.game.now).size
-    → slice_index c.loop-next.cells (64 * c.args.row + x) ≢ 0 → HasPosition (g.G.Game.numbered c.args.game.now) (64 * c.args.row + x))
-    c.args.squares c.loop-next.rest c.loop-next.next inv.left (λ x l h. inv.numbered x l h) (c.is_empty.ensures.0 c.loop-next-test.false) y on e
+    c.loop-square.invariant.numbered y on e (none-of-empty _ c.in-None.ensures.steps.0 y on)
