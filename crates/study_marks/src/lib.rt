@@ -31,7 +31,7 @@ pub use bench_edits::is_printable;
 pub use edit::{Edit, Stopped};
 pub use laws::{annotations_are_unique, duals_count_other_moves, edits_in_rows, faults_in_rows};
 pub use mark::{Mark, MoveMark};
-pub use mark_rules::{Aim, aim_of, hero_loses, hero_mates, hero_moves, holds, only_or_dual};
+pub use mark_rules::{Aim, aim_of, hero_loses, hero_mates, hero_moves, holds, mark_of};
 pub use marked_node::{MarkedChild, MarkedNode};
 pub use refusal::Refusal;
 pub use stipulation::{Goal, MateMoves, Stipulation};

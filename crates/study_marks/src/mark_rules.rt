@@ -1,9 +1,9 @@
 //! The mark of a move, from the evaluation of the node before it.
-ghost use Rattle.std.specs.Prelude.{◌≡◌, ◌+◌, ◌^◌, ◌≤◌, ◌<◌, length, nat_le};
+ghost use Rattle.std.specs.Prelude.{◌≡◌, ℕ, ◌+◌, ◌^◌, ◌≤◌, ◌<◌, length, nat_le, unwrap_or};
 ghost use Rattle.std.specs.List.{count_by};
 ghost use Rattle.study_board.specs.Men.{same_side};
 ghost use Rattle.study_marks.specs.Goals.{hero_moves, hero_mates, hero_loses, plies_of, holds};
-ghost use Rattle.study_marks.specs.Marks.{only_or_dual, is_fault};
+ghost use Rattle.study_marks.specs.Marks.{mark_of, only_or_dual, is_fault};
 ghost use Rattle.study_marks.specs.BenchState.{count_holding, mark_by_label, own_fault};
 
 use crate::mark::MoveMark;
@@ -130,7 +130,7 @@ fn count_holding(aim: &Aim, depth: usize, tally: &MoveOutcomes) -> usize
 }
 
 /// The mark of a move that holds, if so many of the legal moves hold.
-pub fn only_or_dual(count: usize) -> MoveMark
+fn only_or_dual(count: usize) -> MoveMark
     requires { count ≤ 256 }
     ensures { result ≡ only_or_dual count }
 {
@@ -141,25 +141,51 @@ pub fn only_or_dual(count: usize) -> MoveMark
     }
 }
 
+/// The mark of a move by the values before and after it, or `None` if the number of the legal moves that hold decides.
+fn mark_by_values(aim: &Aim, depth: usize, before: Value, after: Value) -> Option<MoveMark>
+    requires { depth + 1 < 2 ^ 64 }
+    ensures { (n : ℕ) → unwrap_or result (only_or_dual n)
+        ≡ mark_of (hero_moves aim.now depth)
+        (holds aim.now depth before) (holds aim.now (depth + 1) after) n }
+{
+    let held = holds(aim, depth, before);
+    let holds_after = holds(aim, depth + 1, after);
+    if hero_moves(aim, depth) {
+        if !held {
+            Some(MoveMark::Idle)
+        } else if holds_after {
+            None
+        } else {
+            Some(MoveMark::Mistake)
+        }
+    } else if !held && holds_after {
+        Some(MoveMark::Mistake)
+    } else {
+        Some(MoveMark::Reply)
+    }
+}
+
+/// The mark of a move at this depth from a position with the value `before` to one with the value `after`, if so many of the legal moves hold.
+pub fn mark_of(aim: &Aim, depth: usize, before: Value, after: Value, count: usize) -> MoveMark
+    requires deep { depth + 1 < 2 ^ 64 }
+    requires few { count ≤ MAX_MOVES }
+    ensures { result ≡ mark_of (hero_moves aim.now depth)
+        (holds aim.now depth before) (holds aim.now (depth + 1) after) count }
+{
+    match mark_by_values(aim, depth, before, after) {
+        Some(mark) => mark,
+        None => only_or_dual(count),
+    }
+}
+
 /// The mark of a move from a node at this depth to a position with this value.
 pub fn mark_of_move(aim: &Aim, depth: usize, before: &Evaluation, after: Value) -> MoveMark
     requires { depth + 1 < 2 ^ 64 }
     ensures { result ≡ mark_by_label aim.now depth before.now after }
 {
-    let held = holds(aim, depth, before.value);
-    let holds_after = holds(aim, depth + 1, after);
-    if hero_moves(aim, depth) {
-        if !held {
-            MoveMark::Idle
-        } else if holds_after {
-            only_or_dual(count_holding(aim, depth + 1, &before.tally))
-        } else {
-            MoveMark::Mistake
-        }
-    } else if !held && holds_after {
-        MoveMark::Mistake
-    } else {
-        MoveMark::Reply
+    match mark_by_values(aim, depth, before.value, after) {
+        Some(mark) => mark,
+        None => only_or_dual(count_holding(aim, depth + 1, &before.tally)),
     }
 }
 

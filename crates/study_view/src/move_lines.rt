@@ -2,14 +2,12 @@
 ghost use Rattle.std.specs.Prelude.{◌≡◌, ◌+◌, ◌≤◌, ◌<◌, ◌^◌, ◌++◌, true, length, Some, OnOk};
 ghost use Rattle.std.specs.List.{All, flat_map};
 ghost use Rattle.study_moves.specs.Rules.{is_legal};
-ghost use Rattle.study_marks.specs.Goals.{hero_moves, holds};
-ghost use Rattle.study_marks.specs.Marks.{mark_of};
 ghost use Rattle.study_view.specs.Marking.{holding_count, told_line};
 
 use crate::words::add_move;
 use std::alloc::{AllocError, Allocator};
 use study_facts::EvaluatedMove;
-use study_marks::{Aim, MoveMark, hero_moves, holds, only_or_dual};
+use study_marks::{Aim, holds, mark_of};
 use study_moves::MAX_MOVES;
 use study_notation::Start;
 use study_text::Text;
@@ -40,31 +38,6 @@ fn holding_count(aim: &Aim, depth: usize, list: &[EvaluatedMove]) -> usize
     }
 }
 
-/// The mark of a move to a position with this value, if so many of the legal moves hold.
-fn mark_of(here: &ViewNode<'_>, count: usize, after: Value) -> MoveMark
-    requires depth { here.now.depth + 1 < 2 ^ 64 }
-    requires few { count ≤ MAX_MOVES }
-    ensures { result ≡ mark_of (hero_moves here.now.aim.now here.now.depth)
-        (holds here.now.aim.now here.now.depth here.now.value)
-        (holds here.now.aim.now (here.now.depth + 1) after) count }
-{
-    let held = holds(here.aim, here.depth, here.value);
-    let holds_after = holds(here.aim, here.depth + 1, after);
-    if hero_moves(here.aim, here.depth) {
-        if !held {
-            MoveMark::Idle
-        } else if holds_after {
-            only_or_dual(count)
-        } else {
-            MoveMark::Mistake
-        }
-    } else if !held && holds_after {
-        MoveMark::Mistake
-    } else {
-        MoveMark::Reply
-    }
-}
-
 /// The line of a move.
 fn add_told<A: Allocator>(
     text: &mut Text<'_, A>,
@@ -79,7 +52,7 @@ fn add_told<A: Allocator>(
         ++ told_line here.now.aim.now here.now.depth here.now.start.now
         here.now.value count x.now) }
 {
-    let mark = mark_of(here, count, x.value);
+    let mark = mark_of(here.aim, here.depth, here.value, x.value, count);
     add_move(text, here.start, &x.played, x.value, Some(mark))
 }
 
