@@ -7,17 +7,11 @@ use Rattle.study_moves.specs.Rules.{after}
 use Rattle.study_moves.specs.LegalList.{legal_list}
 use Rattle.study_notation.specs.SanSpelling.{move_text}
 use Rattle.study_values.specs.declared.value.Value.{Value}
-use Rattle.study_values.specs.declared.value.Value.TheVariants.{Win, Loss, Draw}
 use Rattle.study_tree.specs.Paths.{path_text}
+use Rattle.study_marks.specs.Marks.{value_words}
 use Rattle.study_facts.specs.declared.continuation.EvaluatedMove.{EvaluatedMove}
 use Rattle.study_facts.specs.declared.time_loss.Alternative.{Alternative}
 use Rattle.study_facts.specs.declared.missing_defences.Defence.{Defence}
-
--- `loss 4`
-abbrev pub value_words : Value → List ℕ
-value_words (Win n) = codes "win " ++ decimal n
-value_words (Loss n) = codes "loss " ++ decimal n
-value_words Draw = codes "draw"
 
 -- a kind of line and a path, with a space after each
 unfoldable pub front_words : List ℕ → List ℕ → List ℕ

@@ -47,7 +47,5 @@ pub use time_loss::{
 };
 pub use walk::{Findings, WalkStep, walk_study};
 pub use walk_state::{MoveToNode, WalkState};
-pub use words::{
-    add_alone, add_counted, add_line_start, add_move, add_path, add_time_verdict, add_value,
-};
+pub use words::{add_alone, add_counted, add_line_start, add_move, add_time_verdict, add_value};
 pub use zugzwang::{Zugzwang, add_zugzwang_line, add_zugzwang_words, zugzwang_at};

@@ -1,9 +1,9 @@
 //! The words of a review's lines, added to a text.
 ghost use Rattle.std.specs.Prelude.{◌≡◌, ◌++◌, ◌+◌, ◌<◌, true, OnOk, decimal};
 ghost use Rattle.study_moves.specs.Rules.{is_legal};
-ghost use Rattle.study_tree.specs.Paths.{path_text, more_places};
 ghost use Rattle.study_notation.specs.SanSpelling.{move_text};
-ghost use Rattle.study_facts.specs.Words.{value_words, front_words};
+ghost use Rattle.study_marks.specs.Marks.{value_words};
+ghost use Rattle.study_facts.specs.Words.{front_words};
 ghost use Rattle.study_facts.specs.Words.{move_words, alone_words, time_verdict};
 
 use crate::continuation::{EvaluatedMove, NodeContext, is_draw};
@@ -11,10 +11,11 @@ use crate::missing_defences::Defence;
 use crate::time_loss::Alternative;
 use std::alloc::{AllocError, Allocator};
 use study_board::Position;
-use study_marks::holds;
+use study_marks::{holds, value_words};
 use study_moves::{Move, played};
 use study_notation::write_san;
 use study_text::Text;
+use study_tree::add_path;
 use study_values::Value;
 
 /// A word, and a number after it.
@@ -33,37 +34,7 @@ pub fn add_counted<A: Allocator>(
 pub fn add_value<A: Allocator>(text: &mut Text<'_, A>, value: Value) -> Result<(), AllocError>
     ensures { OnOk result (text.new ≡ text.old ++ value_words value) }
 {
-    match value {
-        Value::Win(n) => add_counted(text, b"win ", n),
-        Value::Loss(n) => add_counted(text, b"loss ", n),
-        Value::Draw => text.add(b"draw"),
-    }
-}
-
-fn add_places<A: Allocator>(text: &mut Text<'_, A>, steps: &[u16]) -> Result<(), AllocError>
-    ensures { OnOk result (text.new ≡ text.old ++ more_places steps.now) }
-{
-    match steps.split_first() {
-        None => Ok(()),
-        Some((place, rest)) => {
-            text.add(b".")?;
-            text.add_number(*place as u32)?;
-            add_places(text, rest)
-        }
-    }
-}
-
-/// A path as in a script: `root`, or places from the root joined by dots.
-pub fn add_path<A: Allocator>(text: &mut Text<'_, A>, steps: &[u16]) -> Result<(), AllocError>
-    ensures { OnOk result (text.new ≡ text.old ++ path_text steps.now) }
-{
-    match steps.split_first() {
-        None => text.add(b"root"),
-        Some((first, rest)) => {
-            text.add_number(*first as u32)?;
-            add_places(text, rest)
-        }
-    }
+    text.add(value_words(value).as_str().as_bytes())
 }
 
 /// A kind of line, and a path, with a space after it.

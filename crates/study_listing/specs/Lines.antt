@@ -9,7 +9,7 @@ use Rattle.study_values.specs.declared.value.Value.{Value}
 use Rattle.study_values.specs.declared.value.Value.TheVariants as value
 use Rattle.study_notation.specs.FenSpelling.{fen_text}
 use Rattle.study_notation.specs.SanSpelling.{move_text}
-use Rattle.study_reply.specs.Words.{value_words}
+use Rattle.study_marks.specs.Marks.{value_words}
 use Rattle.study_listing.specs.declared.facts.Facts.{Facts}
 
 -- the position alone, without move counters

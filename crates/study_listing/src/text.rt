@@ -1,20 +1,20 @@
 //! A position in a line of text, and its study as a script.
 #![tactic(auto, using(study_search::proofs::Faults::can_report, study_search::proofs::Faults::if_reported))]
 
-ghost use Rattle.std.specs.Prelude.{◌≡◌, ◌≤◌, ◌+◌, ◌++◌, true, decimal, IfOk, IfErr, IfSome};
+ghost use Rattle.std.specs.Prelude.{◌≡◌, ◌≤◌, ◌+◌, ◌++◌, true, IfOk, IfErr, IfSome};
 ghost use Rattle.arrayvec.specs.ArrayString.{array_string_len};
 ghost use Rattle.study_moves.specs.Rules.{is_legal};
 ghost use Rattle.study_search.specs.Faults.{CanReport, HasSameTables};
 ghost use Rattle.study_search.specs.declared.themes.Theme.{Theme as ATheme};
-ghost use Rattle.study_reply.specs.Words.{value_words};
+ghost use Rattle.study_marks.specs.Marks.{value_words};
 ghost use Rattle.study_listing.specs.Facts.{IsTextOf};
 ghost use Rattle.study_listing.specs.Lines.{fen_of, value_after, move_after, line_of};
 ghost use Rattle.study_listing.specs.Lines.{hero_of, side_named, goal_named, stipulation_line, insert_line, study_of};
 
 use crate::facts::{Facts, Wanted, facts_of, wanted_for};
 use arrayvec::ArrayString;
-use itoa::Buffer;
 use study_board::{Position, Side};
+use study_marks::value_words;
 use study_moves::Move;
 use study_notation::{Start, write_fen, write_san};
 use study_search::Theme;
@@ -46,32 +46,13 @@ fn push_fen(out: &mut Listed, p: &Position)
     out.push_str(fen.as_str());
 }
 
-fn push_plies(out: &mut Listed, plies: u8)
-    requires { array_string_len out.old + 3 ≤ 128 }
-    ensures bytes { out.new.bytes ≡ out.old.bytes ++ decimal plies }
-    ensures len { array_string_len out.new ≤ array_string_len out.old + 3 }
-{
-    let mut buffer = Buffer::new();
-    out.push_str(buffer.format(plies));
-}
-
 /// The words of a value: `win 15`, `loss 4` or `draw`, with the plies to the mate.
 fn push_value(out: &mut Listed, value: Value)
     requires { array_string_len out.old + 8 ≤ 128 }
     ensures bytes { out.new.bytes ≡ out.old.bytes ++ value_words value }
     ensures len { array_string_len out.new ≤ array_string_len out.old + 8 }
 {
-    match value {
-        Value::Win(plies) => {
-            out.push_str("win ");
-            push_plies(out, plies);
-        }
-        Value::Loss(plies) => {
-            out.push_str("loss ");
-            push_plies(out, plies);
-        }
-        Value::Draw => out.push_str("draw"),
-    }
+    out.push_str(value_words(value).as_str());
 }
 
 fn push_value_after(out: &mut Listed, value: Option<Value>)

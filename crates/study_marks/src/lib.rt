@@ -25,6 +25,7 @@ mod stipulation;
 mod tag;
 mod tree_edits;
 mod trial;
+mod words;
 
 pub use bench::{Bench, NodeView};
 pub use bench_edits::is_printable;
@@ -36,3 +37,4 @@ pub use marked_node::{MarkedChild, MarkedNode};
 pub use refusal::Refusal;
 pub use stipulation::{Goal, MateMoves, Stipulation};
 pub use tag::{TagName, tag_name};
+pub use words::{on_move_text, value_words};

@@ -6,8 +6,6 @@ use Rattle.study_moves.specs.declared.moves.Move.{Move}
 use Rattle.study_material.specs.declared.class.Class.{Class}
 use Rattle.study_material.specs.Class.{name_of}
 use Rattle.study_values.specs.Number.{cells_of}
-use Rattle.study_values.specs.declared.value.Value.{Value}
-use Rattle.study_values.specs.declared.value.Value.TheVariants as value
 use Rattle.study_moves.specs.LegalList.{legal_list}
 use Rattle.study_notation.specs.SanSpelling.{move_text}
 use Rattle.study_marks.specs.declared.stipulation.Goal.{Goal}
@@ -16,7 +14,7 @@ use Rattle.study_marks.specs.declared.stipulation.Stipulation.{Stipulation}
 use Rattle.study_marks.specs.declared.mark.Mark.{Mark}
 use Rattle.study_board.specs.declared.men.Side.{Side}
 use Rattle.study_board.specs.declared.men.Side.TheVariants.{White, Black}
-use Rattle.study_marks.specs.Marks.{on_move_text}
+use Rattle.study_marks.specs.Marks.{value_words, on_move_text}
 use Rattle.study_tree.specs.Paths.{path_text}
 
 -- words and a line feed
@@ -41,12 +39,6 @@ goal_words (MateIn k) = codes "mate in " ++ decimal k
 -- `stipulate White to win`
 abbrev pub stipulation_words : Stipulation → List ℕ
 stipulation_words s = codes "stipulate " ++ side_word s.hero ++ reply_line (codes " to ") (goal_words s.goal)
-
--- `win 1`
-abbrev pub value_words : Value → List ℕ
-value_words (value.Win n) = codes "win " ++ decimal n
-value_words (value.Loss n) = codes "loss " ++ decimal n
-value_words value.Draw = codes "draw"
 
 -- `mark 0 loss 0 dual 21 faults 1`
 abbrev pub mark_text : List ℕ → Mark → List ℕ

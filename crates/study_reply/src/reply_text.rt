@@ -10,8 +10,8 @@ ghost use Rattle.study_reply.specs.Names.{argument_text, words_of, edit_words, o
 ghost use Rattle.study_reply.specs.Words.{reply_line, moves_listed, list_text, moves_text};
 ghost use Rattle.study_reply.specs.Words.{side_word};
 ghost use Rattle.study_reply.specs.Words.{solve_text, stipulation_words, goal_words};
-ghost use Rattle.study_marks.specs.Marks.{on_move_text};
-ghost use Rattle.study_reply.specs.Words.{value_words, mark_text};
+ghost use Rattle.study_marks.specs.Marks.{value_words, on_move_text};
+ghost use Rattle.study_reply.specs.Words.{mark_text};
 
 use crate::path_text::put_path;
 use crate::refusal::{Argument, Refusal};
@@ -19,7 +19,9 @@ use itoa::Buffer;
 use std::alloc::Allocator;
 use std::io::Write;
 use study_board::{Position, Side};
-use study_marks::{Goal, Mark, MoveMark, Refusal as EditRefusal, Stipulation};
+use study_marks::{
+    Goal, Mark, MoveMark, Refusal as EditRefusal, Stipulation, on_move_text, value_words,
+};
 use study_moves::{Move, in_check, legal_moves};
 use study_notation::write_san;
 use study_text::{DeviceFailed, write_text};
@@ -279,11 +281,7 @@ fn put_value<W: Write>(out: &mut W, value: Value) -> Result<(), DeviceFailed>
     ensures err { OnErr result
         (TakesPrefix (W.contents out.old) (W.contents out.new) (value_words value)) }
 {
-    match value {
-        Value::Win(n) => put_counted(out, b"win ", n as usize),
-        Value::Loss(n) => put_counted(out, b"loss ", n as usize),
-        Value::Draw => write_text(out, b"draw"),
-    }
+    write_text(out, value_words(value).as_str().as_bytes())
 }
 
 fn put_on_move<W: Write>(out: &mut W, mark: Option<MoveMark>) -> Result<(), DeviceFailed>
@@ -292,14 +290,7 @@ fn put_on_move<W: Write>(out: &mut W, mark: Option<MoveMark>) -> Result<(), Devi
     ensures err { OnErr result
         (TakesPrefix (W.contents out.old) (W.contents out.new) (on_move_text mark)) }
 {
-    match mark {
-        None => write_text(out, b"-"),
-        Some(MoveMark::Only) => write_text(out, b"only"),
-        Some(MoveMark::Dual(k)) => put_counted(out, b"dual ", k as usize),
-        Some(MoveMark::Mistake) => write_text(out, b"mistake"),
-        Some(MoveMark::Idle) => write_text(out, b"idle"),
-        Some(MoveMark::Reply) => write_text(out, b"reply"),
-    }
+    write_text(out, on_move_text(mark).as_str().as_bytes())
 }
 
 /// A word, and a number after it.

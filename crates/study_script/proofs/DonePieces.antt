@@ -19,14 +19,14 @@ use Rattle.study_reply.specs.declared.reply.Reply.TheVariants as done
 use Rattle.study_reply.specs.declared.reply.LineRefusal.{LineRefusal}
 use Rattle.study_reply.specs.Replied.{reply_text, refused_words, answer_text}
 use Rattle.study_reply.specs.TableReply.{table_text}
-use Rattle.study_reply.specs.Words.{reply_line, ends_line, list_text, moves_listed, solve_text, win_text, side_word, goal_words, value_words, raised}
+use Rattle.study_reply.specs.Words.{reply_line, ends_line, list_text, moves_listed, solve_text, win_text, side_word, goal_words, raised}
 use Rattle.study_reply.proofs.LineEnds.{ends-behind}
 use Rattle.study_script.proofs.Behind.{behind2, behind4, behind6}
 use Rattle.study_values.specs.Number.{cells_of}
 use Rattle.study_values.specs.Size.{pages_of}
 use Rattle.study_tree.specs.Paths.{path_text}
 use Rattle.study_marks.specs.Study.{tag_name}
-use Rattle.study_marks.specs.Marks.{on_move_text}
+use Rattle.study_marks.specs.Marks.{value_words, on_move_text}
 use Rattle.study_script.specs.Written.{Piece, fronts, error_of, IsDone, IsPieceWhere, IsPiece, IsWritten, IsCutOff}
 
 -- ---- replies to successful commands

@@ -14,8 +14,8 @@ use Rattle.study_values.specs.Game.{IsValueOf}
 use Rattle.study_marks.specs.declared.mark_rules.Aim.{Aim}
 use Rattle.study_marks.specs.declared.stipulation.Stipulation.{Stipulation}
 use Rattle.study_marks.specs.Goals.{holds}
+use Rattle.study_marks.specs.Marks.{value_words}
 use Rattle.study_pgn.specs.Pgn.{stipulation_text}
-use Rattle.study_facts.specs.Words.{value_words}
 use Rattle.study_facts.specs.declared.continuation.EvaluatedMove.{EvaluatedMove}
 use Rattle.study_facts.specs.Continuations.{AreHoldingMoves}
 use Rattle.study_view.specs.declared.survey_squares.SquareResult.{SquareResult}

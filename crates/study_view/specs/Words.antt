@@ -13,11 +13,11 @@ use Rattle.study_values.specs.declared.value.Value.{Value}
 use Rattle.study_tree.specs.Tree.{Spot}
 use Rattle.study_marks.specs.declared.mark.Mark.{Mark}
 use Rattle.study_marks.specs.declared.mark.MoveMark.{MoveMark}
-use Rattle.study_marks.specs.Marks.{on_move_text}
+use Rattle.study_marks.specs.Marks.{value_words, on_move_text}
 use Rattle.study_head.specs.Counts.{counts_words}
 use Rattle.study_head.specs.Verdict.{verdict_words}
 use Rattle.study_head.specs.declared.verdict.Judgement.{Judgement}
-use Rattle.study_facts.specs.Words.{value_words, front_words}
+use Rattle.study_facts.specs.Words.{front_words}
 
 -- a small letter
 abbrev pub promoted_text : Option Kind → List ℕ

@@ -5,7 +5,7 @@ ghost use Rattle.std.specs.Io.KnownBytes.{Appends};
 ghost use Rattle.study_board.specs.Position.{man_at};
 ghost use Rattle.study_moves.specs.Rules.{is_legal};
 ghost use Rattle.study_values.specs.declared.values.ProbeFault.{ProbeFault as AProbeFault};
-ghost use Rattle.study_facts.specs.Words.{value_words};
+ghost use Rattle.study_marks.specs.Marks.{value_words};
 ghost use Rattle.study_text.specs.Taken.{TakesPrefix};
 ghost use Rattle.study_facts.specs.Asked.{within};
 ghost use Rattle.study_view.specs.Asked.{HasSurveyed};

@@ -10,9 +10,9 @@ ghost use Rattle.study_view.specs.Words.{sentence_line, shown_words, node_words,
 
 use std::alloc::{AllocError, Allocator};
 use study_board::{Kind, Position, Square};
-use study_facts::{add_counted, add_line_start, add_value};
+use study_facts::{add_line_start, add_value};
 use study_head::{Judgement, add_counts, add_verdict_words};
-use study_marks::{Mark, MoveMark, NodeView};
+use study_marks::{Mark, MoveMark, NodeView, on_move_text};
 use study_moves::{Move, in_check, legal_moves};
 use study_notation::{Start, write_fen};
 use study_pgn::add_san;
@@ -25,14 +25,7 @@ fn add_on_move<A: Allocator>(
 ) -> Result<(), AllocError>
     ensures { OnOk result (text.new ≡ text.old ++ on_move_text mark) }
 {
-    match mark {
-        None => text.add(b"-"),
-        Some(MoveMark::Only) => text.add(b"only"),
-        Some(MoveMark::Dual(k)) => add_counted(text, b"dual ", k),
-        Some(MoveMark::Mistake) => text.add(b"mistake"),
-        Some(MoveMark::Idle) => text.add(b"idle"),
-        Some(MoveMark::Reply) => text.add(b"reply"),
-    }
+    text.add(on_move_text(mark).as_str().as_bytes())
 }
 
 /// A value and a mark.

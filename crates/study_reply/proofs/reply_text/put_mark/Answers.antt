@@ -4,8 +4,7 @@ use Rattle.std.proofs.lemmas.Result.{on_ok_weaker, on_err_weaker}
 use Rattle.std.proofs.KnownBytes.{Appends-trans}
 use Rattle.study_text.proofs.TextTaken.{TakesPrefix-first, TakesPrefix-second, OnErr-known}
 use Rattle.study_tree.specs.Paths.{path_text}
-use Rattle.study_marks.specs.Marks.{on_move_text}
-use Rattle.study_reply.specs.Words.{value_words}
+use Rattle.study_marks.specs.Marks.{value_words, on_move_text}
 use Rattle.study_reply.proofs.reply_text.put_mark.Goals as goal
 
 pub returns-in_err-write_text-clause-err : goal.returns-in_err-write_text-clause-err

@@ -3,7 +3,7 @@ use Rattle.std.specs.Prelude.{codes, decimal}
 use Rattle.std.proofs.lemmas.List.{nil_from_length}
 use Rattle.std.proofs.lemmas.Result.{on_ok_weaker}
 use Rattle.study_tree.specs.Paths.{path_text, more_places}
-use Rattle.study_facts.proofs.words.add_path.Goals as goal
+use Rattle.study_tree.proofs.path_text.add_path.Goals as goal
 
 text_root : path_text [] ≡ codes "root"
 unfolding path_text
