@@ -34,9 +34,26 @@ def quoted(words):
     return "'" + words.replace("'", "\\'") + "'"
 
 
+def arms(path):
+    """The byte string of each arm of a match, by the innermost variant that the arm names: `FenFault::Clock`."""
+    found = {}
+    for patterns, words in re.findall(r'^ +(\w+::\w+[^=;]*?)\s=>\s+(?:\{\s*)?b"([^"\\]*)"', source(path), re.MULTILINE):
+        for pattern in patterns.split("|"):
+            found[re.findall(r"\w+::\w+", pattern)[-1]] = words
+    return found
+
+
 def reasons():
     """Why a line is refused, by the name of the refusal, as the printed page has it."""
-    pairs = re.findall(r'name == b"(\w+)"\.as_slice\(\) \{\s*b"([^"\\]*)"', source("study_print/src/reasons.rt"))
+    names, sentences = arms("study_reply/src/refusal.rt"), arms("study_reply/src/reason.rt")
+    text = source("study_reply/src/reason.rt")
+    pairs = []
+    for refusal in re.findall(r"^    (Refusal::.*),$", re.search(r"EXPLAINED:.*?^\];", text, re.MULTILINE | re.DOTALL)[0], re.MULTILINE):
+        outer, inner = re.findall(r"\w+::\w+", refusal)[0], re.findall(r"\w+::\w+", refusal)[-1]
+        name = names.get(inner) or names[outer]
+        pairs.append((name.split()[0], sentences.get(inner) or sentences[outer]))
+    after_tree = [name for name, _ in pairs].index("TreeFull") + 1
+    pairs.insert(after_tree, tuple(words_in(body(text, "reason_of"))))  # a broken shift, the one refusal that is no `Refusal`
     return "".join(f"  {name}: {quoted(words)},\n" for name, words in pairs)
 
 

@@ -10,7 +10,7 @@ use Rattle.study_report.specs.Outcome.{Outcome, Shape}
 use Rattle.study_report.specs.Parts.{Fits}
 use Rattle.study_report.specs.Remarks.{subject, statement, is_left_out}
 use Rattle.study_page.specs.Csv.{quoted, head_record, refused_record, IsRecordOf, IsSomeRecord}
-use Rattle.study_print.specs.Reasons.{refusal_name}
+use Rattle.study_print.specs.Refusals.{refusal_name}
 
 -- a refused line, by the script's reply to it
 abbrev pub refusal_record : ℕ → List ℕ → List ℕ → List ℕ

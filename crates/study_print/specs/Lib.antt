@@ -1,4 +1,4 @@
 pub mod Entries
 pub mod Pages
-pub mod Reasons
+pub mod Refusals
 pub mod Remarks

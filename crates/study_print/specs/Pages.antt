@@ -8,6 +8,7 @@ use Rattle.study_script.specs.declared.running.RunFault.TheVariants.{ReadDevice,
 use Rattle.study_script.specs.State.{State}
 use Rattle.study_report.specs.Outcome.{Outcome, AreListed, AreListedBefore, Shape}
 use Rattle.study_report.specs.Parts.{Fits}
+use Rattle.study_reply.specs.Reasons.{reason_of}
 use Rattle.study_html.specs.Frame.{opening, closing}
 use Rattle.study_html.specs.Markup.{Markup, text_of}
 use Rattle.study_page.specs.Page.{IsPageOf, IsEntry}
@@ -15,7 +16,7 @@ use Rattle.study_page.specs.Lists.{refusal_part, summary_part}
 use Rattle.study_print.specs.declared.pages.EntryCount.{EntryCount}
 use Rattle.study_print.specs.declared.pages.EntryCount.TheVariants.{Nothing, One, Several}
 use Rattle.study_print.specs.Entries.{AreEntries}
-use Rattle.study_print.specs.Reasons.{refusal_name, reason_of}
+use Rattle.study_print.specs.Refusals.{refusal_name}
 use Rattle.study_print.specs.Remarks.{original_part, remark_text}
 
 -- a refused line: its number, its text, and the script's reply to it, with the reason in words

@@ -2,7 +2,7 @@
 ghost use Rattle.std.specs.Prelude.{◌≡◌, []};
 
 use crate::entries::with_left_out;
-use crate::reasons::{reason_of, refusal_name};
+use crate::refusals::refusal_name;
 use crate::remarks::write_remark;
 use crate::watch::Watch;
 use std::alloc::Allocator;
@@ -10,6 +10,7 @@ use std::io::Write;
 use study_html::Html;
 use study_marks::Bench;
 use study_page::{Listed, write_page, write_refusal};
+use study_reply::reason_of;
 use study_report::{Report, ReviewFault, WriteFault, is_left_out};
 use study_values::Values;
 

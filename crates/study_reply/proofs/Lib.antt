@@ -1,3 +1,4 @@
 mod Examples
 pub mod PathText
 pub mod LineEnds
+pub mod ReasonsFound

@@ -1,4 +1,5 @@
 pub mod Names
+pub mod Reasons
 pub mod Words
 pub mod TableReply
 pub mod Replied

@@ -4,13 +4,17 @@
 #![tactic(auto)]
 
 mod game;
+mod laws;
 mod path_text;
+mod reason;
 mod refusal;
 mod reply;
 mod reply_text;
 mod table_reply;
 
 pub use game::Game;
+pub use laws::texts_have_reasons;
+pub use reason::reason_of;
 pub use refusal::{Argument, Refusal};
 pub use reply::{Answer, LineRefusal, Reply, write_reply};
 pub use reply_text::{of_probe, put_line, write_refusal};

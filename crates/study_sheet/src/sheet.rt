@@ -3,7 +3,8 @@ use std::alloc::Allocator;
 use std::io::Write;
 use study_marks::Bench;
 use study_page::{write_place, write_refusal};
-use study_print::{reason_of, refusal_name};
+use study_print::refusal_name;
+use study_reply::reason_of;
 use study_report::{Report, ReviewFault, WriteFault};
 use study_values::Values;
 
