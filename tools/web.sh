@@ -10,7 +10,7 @@
 # is missing, 1 where something is not proved or not built; the page is written whole or not at all.
 set -e
 top=$(cd "$(dirname "$0")/.." && pwd); work=$(realpath -m "${1:-${TMPDIR:-/tmp}/studyboard}"); missing=
-for it in "rt:the Rattle toolchain" "python3:Debian's python3" "esbuild:Debian's esbuild" "wasm-opt:Debian's binaryen"; do
+for it in "rt:the Rattle toolchain" "python3:Debian's python3" "esbuild:Debian's esbuild" "wasm-opt:Debian's binaryen" "zopfli:Debian's zopfli"; do
     command -v "${it%%:*}" > /dev/null || missing="$missing; ${it%%:*} is in ${it#*:}"
 done
 [ -z "$missing" ] || { echo "tools/web.sh: not everything is here$missing" >&2; exit 2; }

@@ -3,17 +3,17 @@
 
     tools/web_page.py PAGE_JS WORKER_JS MODULE64 MODULE32 OUT
 
-PAGE_JS and WORKER_JS are bundled scripts; the modules are packed by gzip, without names or times, so that the same parts give
+PAGE_JS and WORKER_JS are bundled scripts; the modules are packed by zopfli, without names or times, so that the same parts give
 the same bytes. The policy names the digests of the one script and the one style that the page has: no other runs.
 """
 import base64
-import gzip
 import hashlib
 import os
 import re
 import struct
 import subprocess
 import sys
+import tempfile
 
 WEB = os.path.join(os.path.dirname(os.path.abspath(__file__)), "..", "web")
 
@@ -45,7 +45,10 @@ def packed(path):
     """A module without names, which no browser runs, packed: the number of bytes, and five letters for four bytes (web/src/packed.js)."""
     with open(path, "rb") as file:
         module = file.read()
-    data = gzip.compress(module[:8] + b"".join(text for kind, text in sections(module) if kind != 0), 9, mtime=0)
+    with tempfile.NamedTemporaryFile() as bare:
+        bare.write(module[:8] + b"".join(text for kind, text in sections(module) if kind != 0))
+        bare.flush()
+        data = subprocess.run(["zopfli", "-c", bare.name], stdout=subprocess.PIPE, check=True).stdout
     words = struct.iter_unpack(">I", data + bytes(-len(data) % 4))
     letters = "".join("".join(LETTERS[word // 85 ** power % 85] for power in (4, 3, 2, 1, 0)) for (word,) in words)
     return "%d %s" % (len(data), letters)
