@@ -139,5 +139,7 @@ export async function reviewOf(text, fen, stamp) {
   } catch (fault) {
     if (stamp === app.stamp) app.noReview = /** @type {Error} */ (fault).message;
   }
-  if (stamp === app.stamp) services.showFacts();
+  if (stamp !== app.stamp) return;
+  services.showFacts();
+  services.keep();
 }

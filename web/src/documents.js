@@ -5,10 +5,11 @@ import {arrive, work} from './actions.js';
 import {app, doc, services, say} from './state.js';
 import {freshId, makeKeeper} from './keep.js';
 import {begin as firstOf} from './history.js';
+import {knownReviews} from './list_facts.js';
 import {fensOf} from './script.js';
 import {begin, draftKept} from './setup.js';
 import {blank} from './state.js';
-/** @typedef {import('./keep.js').Head} Head */
+/** @typedef {import('./keep.js').Head} Head @typedef {import('./types.js').Doc} Doc */
 
 /**
  * Storage, or one that refuses each text where the browser has none for this page.
@@ -31,7 +32,9 @@ function storage(of) {
 }
 const local = storage(() => localStorage), session = storage(() => sessionStorage), page = freshId(),
       SESSION = 'studyboard', LOCK = 'studyboard page ';
-const keeper = makeKeeper({local, page});
+/** @param {Doc} d */
+const reviewsOf = d => (d.studies.length === 1 && d === doc() ? [app.review] : knownReviews(d));
+const keeper = makeKeeper({local, page, reviewsOf});
 export const {list, headAt} = keeper;
 
 /** Each page holds a lock of its name for as long as it stands open. */

@@ -21,6 +21,14 @@ export function decode(bytes) {
     return new TextDecoder('utf-8', {fatal: true}).decode(bytes);
   } catch { return new TextDecoder('latin1').decode(bytes); }
 }
+/**
+ * The bytes of a file in UTF-8, where the mark at their front says that they are UTF-16.
+ * @param {Uint8Array} bytes
+ */
+export function fromUtf16(bytes) {
+  const mark = bytes[0] * 256 + bytes[1], code = mark === 0xfffe ? 'utf-16le' : mark === 0xfeff ? 'utf-16be' : '';
+  return code ? new TextEncoder().encode(new TextDecoder(code).decode(bytes)) : bytes;
+}
 const GAME = /^# game (\d+), line (\d+)(?:, column (\d+))?(?: \(([^:]*)\))?: (.*)$/,
       COUNTS = /^# games (\d+), studies (\d+)$/;
 /**

@@ -8,6 +8,7 @@ import {countsOf, stampOf, studyName} from './entries.js';
 import {control} from './fen.js';
 import {counted} from './words.js';
 /** @typedef {import('./types.js').Doc} Doc @typedef {import('./types.js').KeptDraft} KeptDraft */
+/** @typedef {import('./types.js').Review} Review */
 /** @typedef {import('./history.js').History<Doc>} History */
 /**
  * The next script: lines from a place on that replace others.
@@ -100,11 +101,12 @@ export function fromSteps(now, steps) {
 }
 
 /**
- * What a list says of a document: its first study, and the stamps of all.
+ * What a list says of a document: its first study, and the stamps of all, as far as their facts are known.
  * @param {Doc} doc
+ * @param {(Review | null)[]} reviews
  */
-export function summary(doc) {
-  const {studies} = doc, stamps = studies.map(s => stampOf(doc, s, null));
+export function summary(doc, reviews = []) {
+  const {studies} = doc, stamps = studies.map((s, i) => stampOf(doc, s, reviews[i] || null));
   const counts =
     countsOf(stamps).filter(([kind]) => kind !== 'not judged').map(([kind, n]) => `${n} ${kind}`).join(', ');
   return {
@@ -129,8 +131,11 @@ function draftOf(draft, id) {
   return {placed: draft.placed, past, future, anew: Boolean(draft.anew), more: Boolean(draft.more), id};
 }
 /** @typedef {Pick<Storage, 'getItem' | 'setItem' | 'removeItem' | 'key' | 'length'>} Local */
-/** @param {{local: Local, page: string, now?: () => number}} parts */
-export function makeKeeper({local, page, now = Date.now}) {
+/**
+ * @param {{local: Local, page: string, now?: () => number, reviewsOf?: (doc: Doc) => (Review | null)[]}} parts
+ *   `reviewsOf`: the facts of each study that are known
+ */
+export function makeKeeper({local, page, now = Date.now, reviewsOf = () => []}) {
   const own = /** @type {Map<string, string>} */ (new Map()), last = /** @type {Map<string, any[]>} */ (new Map());
   /**
    * @param {string} key
@@ -230,8 +235,8 @@ export function makeKeeper({local, page, now = Date.now}) {
       });
       const changed = !same && local.getItem(BODY + place) !== body,
             drawn = JSON.stringify(draft) !== JSON.stringify(old && old.draft);
-      const {title, verdict} =
-        doc.lines.length || !draft ? summary(doc) : {title: `Set-up: ${control(draft.placed)}`, verdict: ''};
+      const {title, verdict} = doc.lines.length || !draft ? summary(doc, reviewsOf(doc))
+                                                          : {title: `Set-up: ${control(draft.placed)}`, verdict: ''};
       const head = {
         page,
         time: changed || drawn || !old ? now() : old.time,

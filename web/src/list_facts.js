@@ -50,6 +50,7 @@ export async function reviewAll(d, wanted) {
     });
   }
   services.showFacts();
+  services.keep();
 }
 let timer = 0;
 /**

@@ -4,6 +4,7 @@ import assert from 'node:assert/strict';
 import {
   decode,
   documentOf,
+  fromUtf16,
   importNote,
   leftOut,
   looksLikePgn,
@@ -26,6 +27,14 @@ const LINES = [
   '# not taken over: comments 1', 'position 7K/8/8/8/8/8/8/k7 w - - 0 1', 'stipulate white draw', 'tag White ?', 'pgn',
   '', '# games 5, studies 2'
 ];
+test('a file in UTF-16 is read by its mark', () => {
+  const text = '[White "Réti"]', codes = [...text].map(letter => letter.charCodeAt(0));
+  const little = codes.flatMap(code => [code & 255, code >> 8]), big = codes.flatMap(code => [code >> 8, code & 255]);
+  for (const bytes of [[0xff, 0xfe, ...little], [0xfe, 0xff, ...big]])
+    assert.equal(decode(fromUtf16(Uint8Array.from(bytes))), text);
+  const plain = new TextEncoder().encode(text);
+  assert.equal(fromUtf16(plain), plain);
+});
 test('a PGN is told from a script', () => {
   for (const text of ['[Event "x"]', '\ufeff\n [White "x"]', '% a remark\n[FEN "x"]', 'by an editor\n\n[FEN "x"]'])
     assert.ok(looksLikePgn(text), text);

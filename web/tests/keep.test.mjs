@@ -125,8 +125,10 @@ test('what a list says of a document', () => {
     end: 2,
     aim: {hero: 'White', goal: 'win', k: 0}
   });
-  const said = (studies, shown = lines) => summary({studies, lines: shown, refused: []});
+  const said = (studies, shown = lines, reviews = []) => summary({studies, lines: shown, refused: []}, reviews);
   assert.deepEqual(said([study('unsound 3', 'A')]), {title: 'A, Réti', verdict: 'unsound 3'});
+  const waste = 'sound but for loss of time';
+  assert.deepEqual(said([study('unsound 1', 'A')], lines, [{waste}]), {title: 'A, Réti', verdict: waste});
   assert.deepEqual(said([study('unsound 3', '?'), study('sound', 'B'), study('sound', 'B')]),
     {title: 'Réti and 2 more studies', verdict: '2 sound, 1 unsound'});
   assert.deepEqual(said([study('sound', 'A')], [lines[0], '']), {title: 'A, Réti', verdict: 'holds'});

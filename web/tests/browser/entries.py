@@ -79,6 +79,9 @@ def test_ten_entries_are_ten_rows(user):
     assert (
         "10 games, 6 studies. Left out: 4 games" in note and "Not kept of this PGN: 1 null move." in note
     ), note
+    user.size(1366, 625)
+    top = user.js("return document.querySelector('#list tbody tr').getBoundingClientRect().top")
+    assert top < 300, top
     counts = user.js("return [...document.querySelectorAll('#list [data-kind]')].map(b => b.innerText)")
     assert counts == ["3 sound", "1 unsound", "1 wrong", "1 holds", "4 left out"], counts
     user.js("document.querySelector('#list [data-kind=wrong]').click()")
