@@ -232,7 +232,8 @@ def test_studybench_takes_what_is_saved(user):
     )
     user.open_tables(TABLES, SMALL)
     user.promise("studyboard.open(a[0])", text)
-    assert user.text("stamp") == "not read: Kz9" and user.text("refused") == "2 lines of the script were refused"
+    user.until("document.getElementById('stamp').innerText === 'not read: Kz9'", 20)
+    user.until("document.getElementById('refused').innerText === '2 lines of the script were refused'", 20)
     name, saved = user.download("saveScript")
     assert name == "A.script" and remark in saved and saved.startswith("build KK\n")
     told = replies(saved)[0] if os.access(NATIVE, os.X_OK) else user.promise("studyboard.run(a[0])", saved)
