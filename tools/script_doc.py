@@ -1,6 +1,7 @@
 #!/usr/bin/env python3
 """Compares docs/SCRIPT.md with the tests of the gate: the lines of its section 'Each refusal once' have to be those of
-crates/test_script/src/script_reference.rt, and each name in its table of refusals has to be the reply of some row of those tests.
+crates/test_script/src/script_reference.rt, and each name in its table of refusals has to be the reply of some row of the tests
+of test_script or test_large.
 With --write the rows of the test are replaced by those of the page."""
 import re
 import sys
@@ -30,7 +31,8 @@ def main():
         TEST.write_text(test[:start] + rows + test[end:])
     elif test[start:end] != rows:
         sys.exit("the rows of docs/SCRIPT.md are not those of " + str(TEST.relative_to(TOP)))
-    tests = "\n".join(path.read_text() for path in sorted(TEST.parent.glob("*.rt")))
+    files = [*TEST.parent.glob("*.rt"), *(TOP / "crates/test_large/src").glob("*.rt")]
+    tests = "\n".join(path.read_text() for path in sorted(files))
     untried = sorted(name for name in names_of_page(page) if not re.search(r"error " + name + r"\b", tests))
     if untried:
         sys.exit("in docs/SCRIPT.md, and the reply of no test: " + ", ".join(untried))
