@@ -7,6 +7,7 @@ pub mod StillChess
 pub mod RowLemmas
 pub mod RowChecks
 pub mod RowSets
+pub mod SquaresKept
 pub mod RowBackLemmas
 pub mod RowGeometry
 pub mod RowMoveLemmas

@@ -1,8 +1,8 @@
 -- The quiet moves from the numbers of a row.
 use Rattle.std.proofs.Common.{◌≡◌, ℕ, ◌+◌, ◌*◌, ◌<◌, ◌≤◌, ◌==◌, Bool, true, false, not, ◌&&◌, ◌||◌, ◌++◌, ◌∷◌}
-use Rattle.std.proofs.Common.{[], List, slice_index, Option, Contains, Some, ◌⊎◌, inl, inr, arith}
+use Rattle.std.proofs.Common.{[], List, slice_index, Option, Contains, Some, ◌⊎◌, inl, inr}
 use Rattle.std.proofs.Common.{refl, sym, ◌∙◌, ap, subst}
-use Rattle.std.proofs.lemmas.Bool.{and_parts, false≢true, cases_lt, cases_Bool, eq-eqb, ne_eqb, not-true}
+use Rattle.std.proofs.lemmas.Bool.{and_parts, false≢true, not-true}
 use Rattle.std.proofs.lemmas.List.Elements.{Contains-append_left, Contains-push, Contains-push_cases}
 use Rattle.study_board.specs.declared.men.Man.{Man}
 use Rattle.study_board.specs.declared.men.Side.{Side}
@@ -11,7 +11,6 @@ use Rattle.study_board.specs.Geometry.{on_bishop_line, rank_of, strictly_between
 use Rattle.study_board.specs.Men.{same_side}
 use Rattle.study_board.specs.Position.{Position, is_occupied}
 use Rattle.study_board.specs.Sets.{has}
-use Rattle.study_board.proofs.SetBits.{has-zero}
 use Rattle.study_moves.specs.Rules.{is_legal, last_rank, reaches_last_rank}
 use Rattle.study_moves.specs.Unmoves.{IsQuiet}
 use Rattle.study_moves.specs.AnyOrder.{is_safe_target}
@@ -34,82 +33,6 @@ use Rattle.study_retro.specs.Still.{HasMove, IsWonAfter, QuietMovesLose, QuietMo
 use Rattle.study_retro.proofs.BackLemmas.{lose_each, occupied_same, safe_below, safe_by, safe_escape, safe_plain, safe_won, some_legal}
 use Rattle.study_retro.proofs.RowBackLemmas.{row_apart}
 use Rattle.study_retro.proofs.RowMoveLemmas.{going_less}
-use Rattle.study_levels.proofs.SquaresLeft.{IsFirst, AreLeft, first-in, first-only, left-none}
-
--- ---- of the squares of a set, taken one by one, some are kept
-
-or_cases : (a b : Bool) → (a || b) ≡ true → b ≡ false → a ≡ true
-or_cases true b e f = refl
-or_cases false b e f = absurd (false≢true (sym f ∙ e))
-
-left_false : (a b : Bool) → (a || b) ≡ false → a ≡ false
-left_false true b e = e
-left_false false b e = refl
-
-right_true : (a b : Bool) → b ≡ true → (a || b) ≡ true
-right_true true b e = refl
-right_true false b e = e
-
-pub square-is : (t y : ℕ) → (t == y) ≡ true → t ≡ y
-square-is t y e = elim (cases_lt t y) [
-  | inl low ↦ absurd (false≢true (sym (ne_eqb t y (λ s. omega (arith, s, low))) ∙ e))
-  | inr high ↦ elim (cases_lt y t) [
-    | inl low ↦ absurd (false≢true (sym (ne_eqb t y (λ s. omega (arith, s, low))) ∙ e))
-    | inr top ↦ omega (arith, high, top)
-  ]
-]
-
-module _ (all : ℕ) (Yes Not : ℕ → Type 0) where
-  pub record AreKeptBelow (next kept : ℕ) : Type 0 where
-    pub among : (y : ℕ) → y < 64 → has kept y ≡ true → (has all y ≡ true) × Yes y
-    pub others : (y : ℕ) → y < next → y < 64 → has all y ≡ true → has kept y ≡ false → Not y
-
-  pub kept-none : (kept : ℕ) → kept ≡ 0 → AreKeptBelow 0 kept
-  kept-none kept e = record {
-    among = λ y on t. absurd (false≢true (sym (ap (λ (s : ℕ). has s y) e ∙ has-zero y) ∙ t));
-    others = λ y l. absurd (omega (arith, l));
-  }
-
-  module _ (rest next : ℕ) (left : AreLeft all rest next) (kept : ℕ) (h : AreKeptBelow next kept) where
-    module _ (t : ℕ) (f : IsFirst rest t) where
-      -- the first of the remaining squares is kept
-      pub kept-with : (one more : ℕ) → ((x : ℕ) → x < 64 → has one x ≡ (t == x)) → ((x : ℕ) → has more x ≡ (has kept x || has one x)) → Yes t
-          → AreKeptBelow (t + 1) more
-      kept-with one more single union here = record {
-        among = λ y on e. elim (cases_Bool (t == y)) [
-          | inl same ↦ (
-              subst (λ (x : ℕ). (has all x ≡ true) × Yes x) (square-is t y same) (first-in all rest next left t f.inside f.there, here)
-              )
-          | inr other ↦ h.among y on (or_cases (has kept y) (has one y) (sym (union y) ∙ e) (single y on ∙ other))
-        ];
-        others = λ y l on e n. elim (cases_lt y next) [
-          | inl low ↦ h.others y low on e (left_false (has kept y) (has one y) (sym (union y) ∙ n))
-          | inr high ↦ elim (cases_lt y t) [
-            | inl low ↦ absurd (false≢true (sym (first-only all rest next left t f.inside f.there f.least y high low on) ∙ e))
-            | inr top ↦
-                absurd (false≢true (sym n ∙ (union y ∙ right_true (has kept y) (has one y) (single y on ∙ eq-eqb t y (omega (arith, l, top))))))
-          ]
-        ];
-      }
-
-      -- or it is not
-      pub kept-without : Not t → AreKeptBelow (t + 1) kept
-      kept-without here = record {
-        among = h.among;
-        others = λ y l on e n. elim (cases_lt y next) [
-          | inl low ↦ h.others y low on e n
-          | inr high ↦ elim (cases_lt y t) [
-            | inl low ↦ absurd (false≢true (sym (first-only all rest next left t f.inside f.there f.least y high low on) ∙ e))
-            | inr top ↦ let same : t ≡ y = omega (arith, l, top) in subst Not same here
-          ]
-        ];
-      }
-
-    pub kept-all : rest ≡ 0 → (y : ℕ) → y < 64 → has all y ≡ true → has kept y ≡ false → Not y
-    kept-all none y on e n = elim (cases_lt y next) [
-      | inl low ↦ h.others y low on e n
-      | inr high ↦ absurd (false≢true (sym (left-none all rest next left none y high on) ∙ e))
-    ]
 
 -- ---- a quiet move of a man from a number, and the number that fits
 

@@ -167,17 +167,12 @@ pub fn quiet_moves_of<A: Allocator>(
     }
     let men = setup.men.as_slice();
     let free = safe_targets(men, setup.to_move, man).without(occupied(men));
-    let mut rest = free;
     let departure = IndexAfterMove::new(game.class, number, man.at, slot);
-    let mut next = 0u8;
-    while !rest.is_empty() {
-        let target = rest.first();
-        rest = rest.without(SquareSet::of(target));
+    for target in free {
         if !loses_after(game, cells, &departure, mover, target, level) {
             return QuietMoves { escape: true, some };
         }
         some = true;
-        next = target.number() + 1;
     }
     QuietMoves {
         escape: false,

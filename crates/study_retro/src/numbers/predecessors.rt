@@ -9,7 +9,7 @@ ghost use Rattle.study_levels.specs.Propagation.{AreSet, IsSetWhere};
 
 use crate::mover::Mover;
 use crate::numbers::en_passant::{has_en_passant, leads_to_number_from};
-use study_board::{Man, Square, SquareSet};
+use study_board::{Man, Square};
 use study_index::{IndexAfterMove, decode_men};
 use study_levels::{lower_cell, mark_cell};
 use study_material::Class;
@@ -98,13 +98,8 @@ pub fn write_before_man(
     }
     let all = unmove_origins(setup.men.as_slice(), setup.to_move, man);
     let departure = IndexAfterMove::new(class, number, man.at, slot);
-    let mut rest = all;
-    let mut next = 0u8;
-    while !rest.is_empty() {
-        let origin = rest.first();
-        rest = rest.without(SquareSet::of(origin));
+    for origin in all {
         write_from(class, cells, man, &departure, origin, change);
-        next = origin.number() + 1;
     }
     u64::from(all.len())
 }

@@ -39,14 +39,9 @@ pub fn lower_one_by_one<G: Game>(
 {
     let _size = game.cells();
     let mut count = 0u64;
-    let mut rest = decided;
-    let mut next = 0u8;
-    while !rest.is_empty() {
-        let square = rest.first();
-        rest = rest.without(SquareSet::of(square));
+    for square in decided {
         let number = 64 * row + u32::from(square.number());
         count = count.saturating_add(lower_by_moves(game, cells, number, level));
-        next = square.number() + 1;
     }
     count
 }
@@ -70,14 +65,9 @@ pub fn mark_one_by_one<G: Game>(
 {
     let _size = game.cells();
     let mut count = 0u64;
-    let mut rest = decided;
-    let mut next = 0u8;
-    while !rest.is_empty() {
-        let square = rest.first();
-        rest = rest.without(SquareSet::of(square));
+    for square in decided {
         let number = 64 * row + u32::from(square.number());
         count = count.saturating_add(mark_by_moves(game, cells, number, level));
-        next = square.number() + 1;
     }
     count
 }
@@ -102,16 +92,11 @@ pub fn lost_one_by_one<G: LabelledGame>(
 {
     let _size = game.cells();
     let mut lost = SquareSet::empty();
-    let mut rest = candidates;
-    let mut next = 0u8;
-    while !rest.is_empty() {
-        let square = rest.first();
-        rest = rest.without(SquareSet::of(square));
+    for square in candidates {
         let number = 64 * row + u32::from(square.number());
         if is_lost_by_moves(game, cells, number, level) {
             lost = lost.union(SquareSet::of(square));
         }
-        next = square.number() + 1;
     }
     lost
 }
@@ -135,14 +120,9 @@ pub fn write_before_each(
         → IsSetWhere change.cell change.over cells.new n }
 {
     let mut count = 0u64;
-    let mut rest = decided;
-    let mut next = 0u8;
-    while !rest.is_empty() {
-        let square = rest.first();
-        rest = rest.without(SquareSet::of(square));
+    for square in decided {
         let number = 64 * row + u32::from(square.number());
         count = count.saturating_add(write_before(class, cells, number, change));
-        next = square.number() + 1;
     }
     count
 }
@@ -190,16 +170,11 @@ pub fn lost_plainly_each<A: Allocator>(
         → NoLossBy (class_game game.now.class game.now.tables.now) cells.now level (64 * row + y) }
 {
     let mut lost = SquareSet::empty();
-    let mut rest = candidates;
-    let mut next = 0u8;
-    while !rest.is_empty() {
-        let square = rest.first();
-        rest = rest.without(SquareSet::of(square));
+    for square in candidates {
         let number = 64 * row + u32::from(square.number());
         if is_lost_plainly(game, cells, number, level) {
             lost = lost.union(SquareSet::of(square));
         }
-        next = square.number() + 1;
     }
     lost
 }

@@ -57,14 +57,9 @@ fn write_row(class: Class, cells: &mut [u8], row: u32, set: SquareSet, change: C
     ensures done { (n y : ℕ) → y < 64 → has set y ≡ true → IsItOrTwin class (64 * row + y) n
         → IsSetWhere change.cell change.over cells.new n }
 {
-    let mut rest = set;
-    let mut next = 0u8;
-    while !rest.is_empty() {
-        let square = rest.first();
-        rest = rest.without(SquareSet::of(square));
+    for square in set {
         let number = 64 * row + u32::from(square.number());
         write_with_twin(class, cells, number, change);
-        next = square.number() + 1;
     }
 }
 
@@ -92,15 +87,10 @@ fn write_predecessors_one_by_one(
         → IsSetWhere change.cell change.over cells.new n }
 {
     let class = departure.class;
-    let mut rest = led;
-    let mut next = 0u8;
-    while !rest.is_empty() {
-        let square = rest.first();
-        rest = rest.without(SquareSet::of(square));
+    for square in led {
         let number = 64 * departure.row + u32::from(square.number());
         let one = IndexAfterMove::new(class, number, man.at, slot);
         write_from(class, cells, man, &one, origin, change);
-        next = square.number() + 1;
     }
 }
 
@@ -128,14 +118,9 @@ fn write_moved_one_by_one(
         → IsSetWhere change.cell change.over cells.new n }
 {
     let _man = man.at;
-    let mut rest = led;
-    let mut next = 0u8;
-    while !rest.is_empty() {
-        let square = rest.first();
-        rest = rest.without(SquareSet::of(square));
+    for square in led {
         let before = departure.number_to(origin, square);
         write_with_twin(departure.class, cells, before, change);
-        next = square.number() + 1;
     }
 }
 
@@ -192,17 +177,12 @@ fn write_before_man_each(
         → IsSetWhere change.cell change.over cells.new n }
 {
     let mut count = 0u64;
-    let mut rest = decided;
-    let mut next = 0u8;
-    while !rest.is_empty() {
-        let square = rest.first();
-        rest = rest.without(SquareSet::of(square));
+    for square in decided {
         let number = 64 * row.number + u32::from(square.number());
         let setup = decode_men(row.class, number);
         let mover = Mover { setup: &setup, man };
         let more = write_before_man(row.class, cells, number, mover, slot, change);
         count = count.saturating_add(more);
-        next = square.number() + 1;
     }
     count
 }
@@ -235,15 +215,10 @@ fn write_before_man_from(
     let others = row.others.as_slice();
     let checks = CheckInfo::new(others, &row.last, man, row.to_move);
     let mut count = 0u64;
-    let mut rest = origins_among(others, man);
-    let mut next = 0u8;
-    while !rest.is_empty() {
-        let origin = rest.first();
-        rest = rest.without(SquareSet::of(origin));
+    for origin in origins_among(others, man) {
         let led = decided.intersection(squares_allowing_unmove(&checks, origin));
         write_predecessors(cells, departure, led, man, slot, origin, change);
         count = count.saturating_add(u64::from(led.len()));
-        next = origin.number() + 1;
     }
     count
 }
@@ -292,11 +267,7 @@ fn write_before_last_each(row: &Row, cells: &mut [u8], decided: SquareSet, chang
 {
     let slot = row.others.len() as u32;
     let mut count = 0u64;
-    let mut rest = decided;
-    let mut next = 0u8;
-    while !rest.is_empty() {
-        let square = rest.first();
-        rest = rest.without(SquareSet::of(square));
+    for square in decided {
         let number = 64 * row.number + u32::from(square.number());
         let last = Man {
             side: row.last.side,
@@ -310,7 +281,6 @@ fn write_before_last_each(row: &Row, cells: &mut [u8], decided: SquareSet, chang
         };
         let more = write_before_man(row.class, cells, number, mover, slot, change);
         count = count.saturating_add(more);
-        next = square.number() + 1;
     }
     count
 }
@@ -336,15 +306,10 @@ fn origins_in_row(row: &Row, decided: SquareSet) -> LastManOrigins
     let check = squares_of_check(others, &row.last, row.to_move);
     let mut squares = SquareSet::empty();
     let mut count = 0u64;
-    let mut rest = decided;
-    let mut next = 0u8;
-    while !rest.is_empty() {
-        let square = rest.first();
-        rest = rest.without(SquareSet::of(square));
+    for square in decided {
         let origins = origins_of_last(others, &row.last, square, check);
         squares = squares.union(origins);
         count = count.saturating_add(u64::from(origins.len()));
-        next = square.number() + 1;
     }
     LastManOrigins { squares, count }
 }

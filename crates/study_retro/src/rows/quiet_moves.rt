@@ -43,16 +43,11 @@ fn squares_won(cells: &[u8], row: u32, set: SquareSet, level: u8) -> SquareSet
         → value_of (slice_index cells.now (64 * row + y)) ≡ Win m → m ≤ level → ⊥ }
 {
     let mut won = SquareSet::empty();
-    let mut rest = set;
-    let mut next = 0u8;
-    while !rest.is_empty() {
-        let square = rest.first();
-        rest = rest.without(SquareSet::of(square));
+    for square in set {
         let number = 64 * row + u32::from(square.number());
         if tells_win(cells[number as usize], level) {
             won = won.union(SquareSet::of(square));
         }
-        next = square.number() + 1;
     }
     won
 }
@@ -82,11 +77,7 @@ fn losing_each<A: Allocator>(
         departure.now.row going result }
 {
     let mut losing = SquareSet::empty();
-    let mut rest = going;
-    let mut next = 0u8;
-    while !rest.is_empty() {
-        let square = rest.first();
-        rest = rest.without(SquareSet::of(square));
+    for square in going {
         let number = 64 * departure.row + u32::from(square.number());
         let setup = decode_men(game.class, number);
         let one = IndexAfterMove::new(game.class, number, man.at, slot);
@@ -94,7 +85,6 @@ fn losing_each<A: Allocator>(
         if loses_after(game, cells, &one, mover, target, level) {
             losing = losing.union(SquareSet::of(square));
         }
-        next = square.number() + 1;
     }
     losing
 }
@@ -129,16 +119,11 @@ fn losing_each_moved<A: Allocator>(
 {
     let _read = (game.class, man.at);
     let mut losing = SquareSet::empty();
-    let mut rest = going;
-    let mut next = 0u8;
-    while !rest.is_empty() {
-        let square = rest.first();
-        rest = rest.without(SquareSet::of(square));
+    for square in going {
         let after = departure.number_to(target, square);
         if tells_win(cells[after as usize], level) {
             losing = losing.union(SquareSet::of(square));
         }
-        next = square.number() + 1;
     }
     losing
 }
@@ -216,11 +201,7 @@ fn quiet_moves_of_man_each<A: Allocator>(
 {
     let mut losing = SquareSet::empty();
     let mut some = so_far.some;
-    let mut rest = so_far.losing;
-    let mut next = 0u8;
-    while !rest.is_empty() {
-        let square = rest.first();
-        rest = rest.without(SquareSet::of(square));
+    for square in so_far.losing {
         let number = 64 * row.number + u32::from(square.number());
         let setup = decode_men(game.class, number);
         let mover = Mover { setup: &setup, man };
@@ -231,7 +212,6 @@ fn quiet_moves_of_man_each<A: Allocator>(
         if moves.some {
             some = some.union(SquareSet::of(square));
         }
-        next = square.number() + 1;
     }
     RowMoves { losing, some }
 }
@@ -269,19 +249,14 @@ fn quiet_moves_of_man_from<A: Allocator>(
     let checks = CheckInfo::new(others, &row.last, man, row.to_move);
     let mut losing = so_far.losing;
     let mut some = so_far.some;
-    let mut rest = targets_among(others, man);
-    let mut next = 0u8;
-    while !rest.is_empty() {
+    for target in targets_among(others, man) {
         if losing.is_empty() {
             return RowMoves { losing, some };
         }
-        let target = rest.first();
-        rest = rest.without(SquareSet::of(target));
         let going = losing.intersection(squares_allowing_move(&checks, target));
         let lost = losing_after(game, cells, departure, going, man, slot, target, level);
         losing = losing.without(going).union(lost);
         some = some.union(going);
-        next = target.number() + 1;
     }
     RowMoves { losing, some }
 }
@@ -347,11 +322,7 @@ fn quiet_moves_of_last_each<A: Allocator>(
     let slot = row.others.len() as u32;
     let mut losing = SquareSet::empty();
     let mut some = so_far.some;
-    let mut rest = so_far.losing;
-    let mut next = 0u8;
-    while !rest.is_empty() {
-        let square = rest.first();
-        rest = rest.without(SquareSet::of(square));
+    for square in so_far.losing {
         let number = 64 * row.number + u32::from(square.number());
         let last = Man {
             side: row.last.side,
@@ -370,7 +341,6 @@ fn quiet_moves_of_last_each<A: Allocator>(
         if moves.some {
             some = some.union(SquareSet::of(square));
         }
-        next = square.number() + 1;
     }
     RowMoves { losing, some }
 }
@@ -438,14 +408,9 @@ fn targets_in_row(row: &Row, set: SquareSet, check: SquareSet) -> SquareSet
 {
     let others = row.others.as_slice();
     let mut squares = SquareSet::empty();
-    let mut rest = set;
-    let mut next = 0u8;
-    while !rest.is_empty() {
-        let square = rest.first();
-        rest = rest.without(SquareSet::of(square));
+    for square in set {
         let targets = targets_of_last(others, &row.last, square, check);
         squares = squares.union(targets);
-        next = square.number() + 1;
     }
     squares
 }
@@ -470,11 +435,7 @@ fn moves_of_last(row: &Row, so_far: RowMoves, check: SquareSet, lost: SquareSet)
     let others = row.others.as_slice();
     let mut losing = SquareSet::empty();
     let mut some = so_far.some;
-    let mut rest = so_far.losing;
-    let mut next = 0u8;
-    while !rest.is_empty() {
-        let square = rest.first();
-        rest = rest.without(SquareSet::of(square));
+    for square in so_far.losing {
         let targets = targets_of_last(others, &row.last, square, check);
         let escapes = has_any(targets.without(lost));
         if !escapes {
@@ -484,7 +445,6 @@ fn moves_of_last(row: &Row, so_far: RowMoves, check: SquareSet, lost: SquareSet)
         if goes {
             some = some.union(SquareSet::of(square));
         }
-        next = square.number() + 1;
     }
     RowMoves { losing, some }
 }
@@ -608,16 +568,11 @@ fn lost_after_quiet<A: Allocator>(
         cells.now level row losing result }
 {
     let mut lost = SquareSet::empty();
-    let mut rest = losing;
-    let mut next = 0u8;
-    while !rest.is_empty() {
-        let square = rest.first();
-        rest = rest.without(SquareSet::of(square));
+    for square in losing {
         let number = 64 * row + u32::from(square.number());
         if is_lost_after_quiet(game, cells, number, some.contains(square), level) {
             lost = lost.union(SquareSet::of(square));
         }
-        next = square.number() + 1;
     }
     lost
 }

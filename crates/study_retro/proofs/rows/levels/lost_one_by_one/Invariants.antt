@@ -1,16 +1,10 @@
-use Rattle.std.proofs.Common.{◌≡◌, ℕ, ◌+◌, ◌*◌, ◌<◌, ◌-◌, true, false, Some}
-use Rattle.study_board.specs.Sets.{has}
+use Rattle.std.proofs.Common.{◌≡◌, ◌+◌, ◌*◌, Some}
 use Rattle.study_levels.specs.Numbered.{LosesBy, NoLossBy}
-use Rattle.study_levels.proofs.SquaresLeft.{AreLeft}
+use Rattle.study_retro.proofs.SquaresKept.{AreKeptExcept}
 use Rattle.study_retro.proofs.rows.levels.lost_one_by_one.Given as goal
 
-abbrev pub invariant-loop-next : goal.invariant-loop-next
-invariant-loop-next g l = record {
-  left : AreLeft l.fn.candidates l.rest l.next;
-  yes : (y : ℕ) → y < 64 → has l.lost y ≡ true → (y < l.next) × (has l.fn.candidates y ≡ true) × ((p : g.row.G-Position.Denot)
-      × ((g.G.Game.numbered l.game).position (64 * l.row + y) ≡ Some p) × LosesBy (g.G.Game.numbered l.game) l.cells l.level p);
-  refuted : (y : ℕ) → y < l.next → has l.fn.candidates y ≡ true → has l.lost y ≡ false → NoLossBy (g.G.Game.numbered l.game) l.cells l.level (64 * l.row + y);
-}
-
-abbrev pub decreases-loop-next : goal.decreases-loop-next
-decreases-loop-next g l = 64 - l.next
+abbrev pub invariant-loop-square : goal.invariant-loop-square
+invariant-loop-square g l = AreKeptExcept l.fn.candidates
+    (λ y. (p : g.row.G-Position.Denot) × ((g.G.Game.numbered l.game).position (64 * l.row + y) ≡ Some p)
+    × LosesBy (g.G.Game.numbered l.game) l.cells l.level p)
+    (λ y. NoLossBy (g.G.Game.numbered l.game) l.cells l.level (64 * l.row + y)) l.square-iterator l.lost

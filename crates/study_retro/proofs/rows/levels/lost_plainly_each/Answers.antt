@@ -1,22 +1,34 @@
-use Rattle.std.proofs.Common.{◌≡◌, ℕ, ◌+◌, ◌*◌, false, arith, sym, ◌∙◌, ap}
-use Rattle.std.proofs.lemmas.Bool.{false≢true}
-use Rattle.study_board.specs.Sets.{has}
-use Rattle.study_board.proofs.SetBits.{has-zero}
-use Rattle.study_retro.specs.ClassGame.{class_game}
-use Rattle.study_levels.specs.Numbered.{NoLossBy}
-use Rattle.study_levels.proofs.SquaresLeft.{left-all, taken-all}
+use Rattle.std.proofs.Common.{◌≡◌, ◌∙◌}
+use Rattle.study_board.proofs.SquareLists.{first-of, none-of-empty}
+use Rattle.study_retro.proofs.SquaresKept.{first-as, kept-none, kept-with, kept-without}
 use Rattle.study_retro.proofs.rows.levels.lost_plainly_each.Goals as goal
 
-pub loop-next-init : goal.loop-next-init
-loop-next-init g c = record {
-  left = left-all c.args.candidates;
-  yes = λ y on e. absurd (false≢true (sym (ap (λ (s : ℕ). has s y) c.empty-lost.ensures ∙ has-zero y) ∙ e));
-  refuted = λ y l. absurd (omega (arith, l));
-}
+pub loop-square-init : goal.loop-square-init
+loop-square-init g c = kept-none _ _ _ _ _ c.into_iter-square-iterator.ensures.into_iter_gives c.empty-lost.ensures
+
+pub is_lost_plainly-requires-clause-numbered : goal.is_lost_plainly-requires-clause-numbered
+is_lost_plainly-requires-clause-numbered g c =
+    let f = first-as _ _ _ c.from.result c.in-Some.ensures.steps (c.from.ensures ∙ c.number.ensures.value) in
+    c.requires.numbered c.from.result f.inside (c.loop-square.invariant.among c.from.result f.inside f.there)
+
+pub loop-square-preserved-then-is_lost_plainly : goal.loop-square-preserved-then-is_lost_plainly
+loop-square-preserved-then-is_lost_plainly g c =
+    let f = first-of _ _ _ c.in-Some.ensures.steps in
+    let same : c.from.result ≡ c.in-Some.square = c.from.ensures ∙ c.number.ensures.value in
+    kept-with _ _ _ _ _ c.loop-square.invariant _ _ f c.from.result same _ _ c.of.ensures c.union-lost.ensures
+    (c.is_lost_plainly.ensures.yes c.if-is_lost_plainly.true)
+
+pub loop-square-preserved : goal.loop-square-preserved
+loop-square-preserved g c =
+    let f = first-of _ _ _ c.in-Some.ensures.steps in
+    let same : c.from.result ≡ c.in-Some.square = c.from.ensures ∙ c.number.ensures.value in
+    kept-without _ _ _ _ _ c.loop-square.invariant _ _ f c.from.result same (c.is_lost_plainly.ensures.no c.if-is_lost_plainly.false)
+
+pub returns-clause-only : goal.returns-clause-only
+returns-clause-only g c = λ y on e. (c.loop-square.invariant.keeps y on e).0
+
+pub returns-clause-yes : goal.returns-clause-yes
+returns-clause-yes g c = λ y on e. (c.loop-square.invariant.keeps y on e).1
 
 pub returns-clause-no : goal.returns-clause-no
-returns-clause-no g c = λ y on e f.
-    let inv = c.loop-next.invariant in
-    taken-all (λ (x : ℕ). has c.loop-next.lost x ≡ false
-    → NoLossBy (class_game c.args.game.now.class c.args.game.now.tables.now) c.args.cells.now c.args.level (64 * c.args.row + x))
-    c.args.candidates c.loop-next.rest c.loop-next.next inv.left (λ x l h. inv.refuted x l h) (c.is_empty.ensures.0 c.loop-next-test.false) y on e f
+returns-clause-no g c = λ y on e n. c.loop-square.invariant.others y on e (none-of-empty _ c.in-None.ensures.steps.0 y on) n

@@ -1,17 +1,11 @@
-use Rattle.std.proofs.Common.{◌≡◌, ℕ, ◌+◌, ◌*◌, ◌<◌, ◌-◌, true, length}
-use Rattle.study_board.specs.Sets.{has}
-use Rattle.study_levels.specs.Propagation.{AreLowered, IsSetBy}
-use Rattle.study_levels.specs.Numbered.{LeadsIntoRow, StepLeads}
-use Rattle.study_levels.proofs.SquaresLeft.{AreLeft}
+use Rattle.std.proofs.Common.{◌≡◌, ◌+◌, ◌*◌, true, length}
+use Rattle.study_levels.specs.Numbered.{StepLeads}
+use Rattle.study_retro.proofs.RowSets.{AreSetExcept}
 use Rattle.study_retro.proofs.rows.levels.lower_one_by_one.Given as goal
 
-abbrev pub invariant-loop-next : goal.invariant-loop-next
-invariant-loop-next g l = record {
-  left : AreLeft l.fn.decided l.rest l.next;
+abbrev pub invariant-loop-square : goal.invariant-loop-square
+invariant-loop-square g l = record {
   size : length l.cells ≡ (g.G.Game.numbered l.game).size;
-  rise : AreLowered (LeadsIntoRow (g.G.Game.numbered l.game) l.row l.fn.decided) l.level l.initial.cells l.cells;
-  done : (i y : ℕ) → y < l.next → has l.fn.decided y ≡ true → StepLeads (g.G.Game.numbered l.game) i (64 * l.row + y) → IsSetBy (l.level + 2) l.cells i;
+  set : AreSetExcept l.fn.decided (λ y n. StepLeads (g.G.Game.numbered l.game) n (64 * l.row + y)) (l.level + 2) true
+      l.square-iterator l.initial.cells l.cells;
 }
-
-abbrev pub decreases-loop-next : goal.decreases-loop-next
-decreases-loop-next g l = 64 - l.next

@@ -1,63 +1,34 @@
-use Rattle.std.proofs.Common.{◌≡◌, ◌+◌, ◌*◌, ◌<◌, ◌∷◌, ◌++◌, ◌||◌, [], ℕ, Bool, true, false, List, inl, inr, refl, sym, ◌∙◌, ap, subst, arith}
-use Rattle.std.proofs.lemmas.Bool.{false≢true, cases_lt, or_cases}
+use Rattle.std.proofs.Common.{◌≡◌, ◌+◌, ◌*◌, ◌<◌, ◌∷◌, ◌++◌, [], ℕ, List, subst}
 use Rattle.study_board.specs.declared.men.Man.{Man}
 use Rattle.study_board.specs.Sets.{has}
-use Rattle.study_board.proofs.SetBits.{has-zero}
+use Rattle.study_board.proofs.SquareLists.{first-of, none-of-empty}
 use Rattle.study_moves.specs.Unmoves.{is_unmove_origin}
 use Rattle.study_retro.specs.RowMoves.{AreOnDistinctSquares}
 use Rattle.study_retro.specs.Still.{on_square}
 use Rattle.study_retro.proofs.RowBackLemmas.{row_apart}
-use Rattle.study_levels.proofs.SquaresLeft.{AreLeft, left-all, first-in, first-only, left-more, left-none}
+use Rattle.study_retro.proofs.SquaresKept.{gathered-more, gathered-none}
 use Rattle.study_retro.proofs.rows.predecessors.origins_in_row.Goals as goal
 
-pub loop-next-init : goal.loop-next-init
-loop-next-init c = record {
-  left = left-all c.args.decided;
-  only = λ a on e. absurd (false≢true (sym (has-zero a) ∙ ap (λ (s : ℕ). has s a) (sym c.empty-squares.ensures) ∙ e));
-  all = λ a y on l. absurd (omega (arith, l));
-}
+pub loop-square-init : goal.loop-square-init
+loop-square-init c = gathered-none _ _ _ _ c.into_iter-square-iterator.ensures.into_iter_gives c.empty-squares.ensures
 
-pub loop-next-preserved : goal.loop-next-preserved
-loop-next-preserved c =
+pub loop-square-preserved : goal.loop-square-preserved
+loop-square-preserved c =
     let row = c.args.row.now in
-    let f = c.first-square.ensures in
-    let t = c.first-square.result in
-    let inv = c.loop-next.invariant in
+    let f = first-of _ _ _ c.in-Some.ensures.steps in
+    let t = c.in-Some.square in
+    let inv = c.loop-square.invariant in
     let from = c.origins_of_last-origins.result in
-    let next : c.number-next.result ≡ t = c.number-next.ensures.value in
-    let into = first-in _ _ _ inv.left t f.inside f.there in
-    let q = c.requires.numbered t f.inside into in
+    let q = c.requires.numbered t f.inside (inv.among t f.inside f.there) in
     let word : (a : ℕ) → a < 64 → has from a ≡ is_unmove_origin (row.others.items ++ on_square row.last t ∷ []) row.to_move (on_square row.last t) a =
     subst (λ (xs : List Man). AreOnDistinctSquares (xs ++ on_square row.last t ∷ []) → (a : ℕ) → a < 64
     → has from a ≡ is_unmove_origin (xs ++ on_square row.last t ∷ []) row.to_move (on_square row.last t) a) c.as_slice-others.ensures.value
     (c.origins_of_last-origins.ensures row.to_move c.requires.side c.squares_of_check-check.ensures)
     (row_apart row.class (64 * row.number + t) t q.0 q.1 row.others.items row.last row.to_move (row.encoded t f.inside)) in
-    record {
-      left = subst (λ (n : ℕ). AreLeft c.args.decided c.without-rest.result (n + 1)) (sym next)
-          (left-more _ _ _ inv.left t f.inside f.there f.least c.of.result c.without-rest.result c.of.ensures c.without-rest.ensures);
-      only = λ a on e. elim (or_cases (has c.loop-next.squares a) (has from a) (sym (c.union-squares.ensures a) ∙ e)) [
-        | inl h ↦ inv.only a on h
-        | inr h ↦ (t, f.inside, into, sym (word a on) ∙ h)
-      ];
-      all = λ a y on l in64 e came. elim (cases_lt y c.loop-next.next) [
-        | inl low ↦ c.union-squares.ensures a ∙ ap (λ b. b || has from a) (inv.all a y on low in64 e came)
-        | inr high ↦ elim (cases_lt y t) [
-          | inl low ↦ absurd (false≢true (sym (first-only _ _ _ inv.left t f.inside f.there f.least y high low in64) ∙ e))
-          | inr top ↦
-              let same : y ≡ t = omega (arith, l, top, next) in
-              c.union-squares.ensures a ∙ ap (λ b. has c.loop-next.squares a || b)
-              (word a on ∙ subst (λ (x : ℕ). is_unmove_origin (row.others.items ++ on_square row.last x ∷ []) row.to_move (on_square row.last x) a ≡ true) same came)
-              ∙ or_true (has c.loop-next.squares a)
-        ]
-      ];
-    }
-  where
-    or_true : (b : Bool) → (b || true) ≡ true
-    or_true true = refl
-    or_true false = refl
+    gathered-more _ _ _ _ inv _ _ f from _ word c.union-squares.ensures
+
+pub returns-clause-only : goal.returns-clause-only
+returns-clause-only c = λ a on e. c.loop-square.invariant.only a on e
 
 pub returns-clause-all : goal.returns-clause-all
-returns-clause-all c = λ a on w. elim (cases_lt w.0 c.loop-next.next) [
-  | inl low ↦ c.loop-next.invariant.all a w.0 on low w.1 w.2 w.3
-  | inr high ↦ absurd (false≢true (sym (left-none _ _ _ c.loop-next.invariant.left (c.is_empty.ensures.0 c.loop-next-test.false) w.0 high w.1) ∙ w.2))
-]
+returns-clause-all c = λ a on w. c.loop-square.invariant.each a w.0 on w.1 w.2 (none-of-empty _ c.in-None.ensures.steps.0 w.0 w.1) w.3

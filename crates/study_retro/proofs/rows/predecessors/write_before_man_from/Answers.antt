@@ -1,7 +1,8 @@
-use Rattle.std.proofs.Common.{◌≡◌, ◌+◌, ◌*◌, ◌<◌, ℕ, true, List, [], ◌∷◌, ◌++◌, Some, inl, inr, refl, sym, ◌∙◌, ap, subst, arith}
-use Rattle.std.proofs.lemmas.Bool.{false≢true, and_parts, cases_lt}
+use Rattle.std.proofs.Common.{◌≡◌, ◌+◌, ◌*◌, ◌<◌, ℕ, true, List, [], ◌∷◌, ◌++◌, Some, refl, sym, ◌∙◌, ap, subst}
+use Rattle.std.proofs.lemmas.Bool.{and_parts}
 use Rattle.study_board.specs.declared.men.Man.{Man}
 use Rattle.study_board.specs.Sets.{has}
+use Rattle.study_board.proofs.SquareLists.{first-of, none-of-empty}
 use Rattle.study_moves.specs.Unmoves.{is_unmove_origin, comes}
 use Rattle.study_material.specs.declared.class.Class.{Class}
 use Rattle.study_index.specs.Computed.{position_numbered}
@@ -10,19 +11,24 @@ use Rattle.study_levels.specs.Propagation.{AreSet, IsSetWhere}
 use Rattle.study_retro.specs.RowBack.{IsBeforeRowBy, IsBeforeRowFrom}
 use Rattle.study_retro.specs.RowMoves.{AreOnDistinctSquares}
 use Rattle.study_retro.specs.Still.{on_square}
-use Rattle.study_retro.proofs.BackLemmas.{set-then, set-kept, set-why}
+use Rattle.study_retro.proofs.BackLemmas.{set-why}
 use Rattle.study_retro.proofs.CheckLemmas.{made-for}
 use Rattle.study_retro.proofs.RowBackLemmas.{row_apart, row_led, row_came}
-use Rattle.study_levels.proofs.SquaresLeft.{AreLeft, left-all, first-only, left-more, left-none}
+use Rattle.study_retro.proofs.RowSets.{ForSome, set-none, set-more}
 use Rattle.study_retro.proofs.rows.predecessors.write_before_man_from.Goals as goal
 
-pub loop-next-init : goal.loop-next-init
-loop-next-init c = record {
-  left = left-all c.origins_among-rest.result;
-  size = c.requires.cells;
-  rise = λ i. inl refl;
-  done = λ a n y l. absurd (omega (arith, l));
-}
+pub loop-origin-init : goal.loop-origin-init
+loop-origin-init c = record { size = c.requires.cells; set = set-none _ _ _ _ _ _ refl }
+
+pub squares_allowing_unmove-requires-clause-comes : goal.squares_allowing_unmove-requires-clause-comes
+squares_allowing_unmove-requires-clause-comes c =
+    let f = first-of _ _ _ c.in-Some.ensures.steps in
+    let a = c.in-Some.origin in
+    let there : has c.into_iter-origin-iterator.result a ≡ true = c.loop-origin.invariant.set.among a f.inside f.there in
+    ap (λ (xs : List Man). comes xs c.new-checks.result.man.now a) c.new-checks.ensures.others
+    ∙ ap (λ (m : Man). comes c.as_slice-others.result.now m a) c.new-checks.ensures.man
+    ∙ sym (ap (λ (set : ℕ). has set a) c.into_iter-origin-iterator.ensures.into_iter_gives ∙ c.origins_among-origin-items.ensures a f.inside)
+    ∙ there
 
 pub write_predecessors-requires-clause-numbered : goal.write_predecessors-requires-clause-numbered
 write_predecessors-requires-clause-numbered c = λ y on e.
@@ -38,8 +44,8 @@ pub write_predecessors-requires-clause-led : goal.write_predecessors-requires-cl
 write_predecessors-requires-clause-led c = λ y q on e at.
     let row = c.args.row.now in
     let man = c.args.man.now in
-    let f = c.first-origin.ensures in
-    let a = c.first-origin.result in
+    let f = first-of _ _ _ c.in-Some.ensures.steps in
+    let a = c.in-Some.origin in
     let both = and_parts _ _ (sym (c.intersection-led.ensures y) ∙ e) in
     let here : position_numbered row.class (64 * row.number + y) ≡ Some q =
     subst (λ (d : Class). position_numbered d (64 * row.number + y) ≡ Some q) c.requires.class
@@ -51,21 +57,20 @@ write_predecessors-requires-clause-led c = λ y q on e at.
     (c.new-checks.ensures.others ∙ c.as_slice-others.ensures.value) c.new-checks.ensures.last c.new-checks.ensures.side c.new-checks.ensures.man
     (c.squares_allowing_unmove.ensures y on)) both.1
 
-pub loop-next-preserved : goal.loop-next-preserved
-loop-next-preserved c =
+pub loop-origin-preserved : goal.loop-origin-preserved
+loop-origin-preserved c =
     let row = c.args.row.now in
     let man = c.args.man.now in
-    let f = c.first-origin.ensures in
-    let a = c.first-origin.result in
-    let inv = c.loop-next.invariant in
+    let f = first-of _ _ _ c.in-Some.ensures.steps in
+    let a = c.in-Some.origin in
+    let inv = c.loop-origin.invariant in
     let cell = c.args.change.cell in
     let over = c.args.change.over in
-    let mid = c.loop-next.cells in
+    let mid = c.loop-origin.cells in
     let new = c.write_predecessors.new.cells in
     let number = row.number in
     let is_class : c.args.departure.now.class ≡ row.class = c.requires.class in
     let is_row : c.args.departure.now.row ≡ number = c.requires.row in
-    let Why : ℕ → Type 0 = IsBeforeRowBy row.class number c.args.decided man in
     let From : ℕ → ℕ → Type 0 = λ y n. IsBeforeFrom row.class (64 * number + y) man a n in
     let to_row : (y n : ℕ) → IsBeforeFrom c.args.departure.now.class (64 * c.args.departure.now.row + y) man a n → From y n =
     λ y n b. subst (λ (d : ℕ). IsBeforeFrom row.class (64 * d + y) man a n) is_row
@@ -73,11 +78,10 @@ loop-next-preserved c =
     let of_row : (y n : ℕ) → From y n → IsBeforeFrom c.args.departure.now.class (64 * c.args.departure.now.row + y) man a n =
     λ y n b. subst (λ (d : Class). IsBeforeFrom d (64 * c.args.departure.now.row + y) man a n) (sym is_class)
     (subst (λ (d : ℕ). IsBeforeFrom row.class (64 * d + y) man a n) (sym is_row) b) in
-    let more : AreSet Why cell over mid new =
-    set-why cell over (IsBeforeRowFrom c.args.departure.now.class c.args.departure.now.row c.intersection-led.result man a) Why mid new
-    (λ n w. (w.0, w.1, (and_parts _ _ (sym (c.intersection-led.ensures w.0) ∙ w.2)).0, (a, f.inside, to_row w.0 n w.3))) c.write_predecessors.ensures.rise in
-    let next : c.number-next.result ≡ a = c.number-next.ensures.value in
-    let left = left-more _ _ _ inv.left a f.inside f.there f.least c.of.result c.without-rest.result c.of.ensures c.without-rest.ensures in
+    let more : AreSet (IsBeforeRowFrom row.class number c.args.decided man a) cell over mid new =
+    set-why cell over (IsBeforeRowFrom c.args.departure.now.class c.args.departure.now.row c.intersection-led.result man a)
+    (IsBeforeRowFrom row.class number c.args.decided man a) mid new
+    (λ n w. (w.0, w.1, (and_parts _ _ (sym (c.intersection-led.ensures w.0) ∙ w.2)).0, to_row w.0 n w.3)) c.write_predecessors.ensures.rise in
     let led : (n y : ℕ) → y < 64 → has c.args.decided y ≡ true → From y n → IsSetWhere cell over new n =
     λ n y on e b.
     let q = c.requires.numbered y on e in
@@ -89,28 +93,23 @@ loop-next-preserved c =
     let apart = row_apart row.class (64 * number + y) y q.0 q.1 row.others.items row.last row.to_move (row.encoded y on) in
     c.write_predecessors.ensures.done n y on (c.intersection-led.ensures y ∙ rw (e, word apart ∙ came.1) refl) (of_row y n b) in
     record {
-      left = subst (λ (n : ℕ). AreLeft c.origins_among-rest.result c.without-rest.result (n + 1)) (sym next) left;
       size = c.write_predecessors.auto.cells ∙ inv.size;
-      rise = set-then cell over Why c.args.cells.now mid new inv.rise more;
-      done = λ b n y l e on d h. elim (cases_lt b c.loop-next.next) [
-        | inl low ↦ set-kept cell over Why mid new more c.requires.cell n (inv.done b n y low e on d h)
-        | inr high ↦ elim (cases_lt b a) [
-          | inl low ↦ absurd (false≢true (sym (first-only _ _ _ inv.left a f.inside f.there f.least b high low (let s = f.inside in omega (arith, low, s))) ∙ e))
-          | inr top ↦
-              let same : b ≡ a = omega (arith, l, top, next) in
-              led n y on d (subst (λ (x : ℕ). IsBeforeFrom row.class (64 * number + y) man x n) same h)
-        ]
-      ];
+      set = set-more _ _ _ _ _ _ _ f c.requires.cell _ _ _ inv.set more (λ n w. led n w.0 w.1 w.2 w.3);
     }
+
+pub returns-clause-rise : goal.returns-clause-rise
+returns-clause-rise c =
+    let row = c.args.row.now in
+    let From : ℕ → ℕ → Type 0 = λ a n. IsBeforeRowFrom row.class row.number c.args.decided c.args.man.now a n in
+    set-why c.args.change.cell c.args.change.over (ForSome c.into_iter-origin-iterator.result From c.args.change.cell c.args.change.over)
+    (IsBeforeRowBy row.class row.number c.args.decided c.args.man.now) c.args.cells.now c.loop-origin.cells
+    (λ n w. (w.3.0, w.3.1, w.3.2, (w.0, w.1, w.3.3))) c.loop-origin.invariant.set.rise
 
 pub returns-clause-done : goal.returns-clause-done
 returns-clause-done c = λ n y on e b.
     let row = c.args.row.now in
     let q = c.requires.numbered y on e in
     let came = row_came row.class (64 * row.number + y) y q.0 q.1 row.others.items row.last row.to_move (row.encoded y on) c.args.man.now c.requires.man b.0 n b.1 b.2 in
-    let there = c.origins_among-rest.ensures b.0 b.1
+    let there = ap (λ (set : ℕ). has set b.0) c.into_iter-origin-iterator.ensures.into_iter_gives ∙ c.origins_among-origin-items.ensures b.0 b.1
     ∙ ap (λ (xs : List Man). comes xs c.args.man.now b.0) c.as_slice-others.ensures.value ∙ came.2 in
-    elim (cases_lt b.0 c.loop-next.next) [
-      | inl l ↦ c.loop-next.invariant.done b.0 n y l there on e b.2
-      | inr g ↦ absurd (false≢true (sym (left-none _ _ _ c.loop-next.invariant.left (c.is_empty.ensures.0 c.loop-next-test.false) b.0 g b.1) ∙ there))
-    ]
+    c.loop-origin.invariant.set.done n b.0 b.1 there (none-of-empty _ c.in-None.ensures.steps.0 b.0 b.1) (y, on, e, b.2)

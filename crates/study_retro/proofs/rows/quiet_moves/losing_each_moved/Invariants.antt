@@ -1,20 +1,14 @@
-use Rattle.std.proofs.Common.{◌≡◌, ◌+◌, ◌*◌, ◌-◌, Some}
+use Rattle.std.proofs.Common.{◌≡◌, ◌+◌, ◌*◌, Some}
 use Rattle.study_board.specs.Position.{Position}
 use Rattle.study_index.specs.Computed.{position_numbered}
 use Rattle.study_retro.specs.ClassGame.{class_game}
 use Rattle.study_levels.specs.Numbered.{NoLossBy}
 use Rattle.study_retro.specs.Still.{IsWonAfter, move_to}
-use Rattle.study_retro.proofs.RowEscapeLemmas.{AreKeptBelow}
-use Rattle.study_levels.proofs.SquaresLeft.{AreLeft}
+use Rattle.study_retro.proofs.SquaresKept.{AreKeptExcept}
 use Rattle.study_retro.proofs.rows.quiet_moves.losing_each_moved.Given as goal
 
-abbrev pub invariant-loop-next : goal.invariant-loop-next
-invariant-loop-next g l = record {
-  left : AreLeft l.fn.going l.rest l.next;
-  kept : AreKeptBelow l.fn.going (λ y. (q : Position) → position_numbered l.game.class (64 * l.departure.row + y) ≡ Some q
-      → IsWonAfter (class_game l.game.class l.game.tables.now) l.cells l.level q (move_to l.man l.target))
-      (λ y. NoLossBy (class_game l.game.class l.game.tables.now) l.cells l.level (64 * l.departure.row + y)) l.next l.losing;
-}
-
-abbrev pub decreases-loop-next : goal.decreases-loop-next
-decreases-loop-next g l = 64 - l.next
+abbrev pub invariant-loop-square : goal.invariant-loop-square
+invariant-loop-square g l = AreKeptExcept l.fn.going
+    (λ y. (q : Position) → position_numbered l.game.class (64 * l.departure.row + y) ≡ Some q
+    → IsWonAfter (class_game l.game.class l.game.tables.now) l.cells l.level q (move_to l.man l.target))
+    (λ y. NoLossBy (class_game l.game.class l.game.tables.now) l.cells l.level (64 * l.departure.row + y)) l.square-iterator l.losing

@@ -1,90 +1,77 @@
-use Rattle.std.proofs.Common.{◌≡◌, ℕ, ◌+◌, ◌*◌, ◌==◌, ◌||◌, Bool, true, Some, inl, inr, refl, sym, ◌∙◌, ap, subst}
-use Rattle.std.proofs.lemmas.Bool.{cases_Bool, not-false, not-true}
-use Rattle.study_board.specs.Position.{Position}
-use Rattle.study_board.specs.Sets.{has}
+use Rattle.std.proofs.Common.{◌≡◌, ℕ, ◌+◌, ◌*◌, Some, refl, ◌∙◌, ap}
+use Rattle.std.proofs.lemmas.Bool.{not-false, not-true}
+use Rattle.study_board.proofs.SquareLists.{first-of, none-of-empty}
 use Rattle.study_index.specs.Computed.{position_numbered}
-use Rattle.study_retro.specs.ClassGame.{class_game}
-use Rattle.study_levels.specs.Numbered.{NoLossBy}
-use Rattle.study_retro.specs.RowEscapes.{HaveMoves}
-use Rattle.study_retro.specs.Still.{QuietMovesLoseBy, on_square}
-use Rattle.study_retro.proofs.RowEscapeLemmas.{AreKeptBelow, kept-all, kept-none, kept-with, kept-without, square-is}
-use Rattle.study_levels.proofs.SquaresLeft.{IsFirst, first-as, AreLeft, left-all, left-more}
+use Rattle.study_retro.specs.Still.{HasMove}
+use Rattle.study_retro.proofs.SquaresKept.{first-as, has-one_more, kept-none, kept-with, kept-without}
 use Rattle.study_retro.proofs.rows.quiet_moves.quiet_moves_of_last_each.Goals as goal
-use Rattle.study_retro.proofs.rows.quiet_moves.quiet_moves_of_last_each.Goals.{then-not-moves, else-not-moves, then-moves, else-moves}
+use Rattle.study_retro.proofs.rows.quiet_moves.quiet_moves_of_last_each.Goals.{then-not-moves, else-not-moves}
 
-pub loop-next-init : goal.loop-next-init
-loop-next-init g c =
-    let Yes : ℕ → Type 0 = λ y. (q : Position) → position_numbered c.args.game.now.class (64 * c.args.row.now.number + y) ≡ Some q
-    → QuietMovesLoseBy (class_game c.args.game.now.class c.args.game.now.tables.now) c.args.cells.now c.args.level q (on_square c.args.row.now.last y) in
-    let Not : ℕ → Type 0 = λ y. NoLossBy (class_game c.args.game.now.class c.args.game.now.tables.now) c.args.cells.now c.args.level
-    (64 * c.args.row.now.number + y) in
-    record {
-      left = left-all c.args.so_far.losing;
-      kept = kept-none c.args.so_far.losing Yes Not c.empty-losing.result c.empty-losing.ensures;
-      some = c.requires.some;
-    }
+pub loop-square-init : goal.loop-square-init
+loop-square-init g c = record {
+  kept = kept-none _ _ _ _ _ c.into_iter-square-iterator.ensures.into_iter_gives c.empty-losing.ensures;
+  some = c.requires.some;
+}
 
-pub loop-next-preserved : goal.loop-next-preserved
-loop-next-preserved g c =
-    let h = c.first-square.ensures in
-    let inv = c.loop-next.invariant in
-    let t = c.first-square.result in
-    let next : c.number-next.result ≡ t = c.number-next.ensures.value in
+pub quiet_moves_of-moves-requires-clause-numbered : goal.quiet_moves_of-moves-requires-clause-numbered
+quiet_moves_of-moves-requires-clause-numbered g c =
+    let y = c.from.result in
+    let f = first-as _ _ _ y c.in-Some.ensures.steps (c.from.ensures ∙ c.number.ensures.value) in
+    c.requires.numbered y f.inside (c.loop-square.invariant.kept.among y f.inside f.there)
+
+pub loop-square-preserved-then-moves : goal.loop-square-preserved-then-moves
+loop-square-preserved-then-moves g c =
+    let f = first-of _ _ _ c.in-Some.ensures.steps in
+    let t = c.in-Some.square in
     let same : c.from.result ≡ t = c.from.ensures ∙ c.number.ensures.value in
-    let set = c.args.so_far.losing in
+    let inv = c.loop-square.invariant in
     let class = c.args.game.now.class in
     let row = c.args.row.now in
-    let Yes : ℕ → Type 0 = λ y. (q : Position) → position_numbered c.args.game.now.class (64 * c.args.row.now.number + y) ≡ Some q
-    → QuietMovesLoseBy (class_game c.args.game.now.class c.args.game.now.tables.now) c.args.cells.now c.args.level q (on_square c.args.row.now.last y) in
-    let Not : ℕ → Type 0 = λ y. NoLossBy (class_game c.args.game.now.class c.args.game.now.tables.now) c.args.cells.now c.args.level
-    (64 * c.args.row.now.number + y) in
-    let f : IsFirst c.loop-next.rest t = first-as c.loop-next.rest t t h.inside h.there h.least refl in
     let number : 64 * row.number + c.from.result ≡ 64 * row.number + t = ap (λ (n : ℕ). 64 * row.number + n) same in
     record {
-      left = subst (λ (n : ℕ). AreLeft set c.without-rest.result (n + 1)) (sym next)
-          (left-more _ _ _ inv.left t h.inside h.there h.least c.of.result c.without-rest.result c.of.ensures c.without-rest.ensures);
-      kept = subst (λ (n : ℕ). AreKeptBelow set Yes Not (n + 1) c.if-not-moves.losing) (sym next)
-          (elim c.if-not-moves.branch [
-            | then-not-moves w ↦
-                let here : Yes t = λ q at. c.quiet_moves_of-moves.ensures.no (not-true _ w.if-not-moves.true) q
-                (ap (λ (n : ℕ). position_numbered class n) number ∙ at) in
-                subst (λ (s : ℕ). AreKeptBelow set Yes Not (t + 1) s) (sym w.losing-is)
-                (kept-with set Yes Not c.loop-next.rest c.loop-next.next inv.left c.loop-next.losing inv.kept t f w.of-then-not-moves.result
-                w.union-losing.result w.of-then-not-moves.ensures w.union-losing.ensures here)
-            | else-not-moves w ↦
-                subst (λ (s : ℕ). AreKeptBelow set Yes Not (t + 1) s) (sym w.losing-is)
-                (kept-without set Yes Not c.loop-next.rest c.loop-next.next inv.left c.loop-next.losing inv.kept t f
-                (subst Not same (c.quiet_moves_of-moves.ensures.yes (not-false _ w.if-not-moves.false))))
-          ]);
-      some = elim c.if-moves.branch [
-        | then-moves w ↦
-            λ y q on e at.
-            elim (cases_Bool (has c.loop-next.some y)) [
-              | inl there ↦ inv.some y q on there at
-              | inr out ↦
-                  let e' : has w.union-some.result y ≡ true = sym (ap (λ (s : ℕ). has s y) w.some-is) ∙ e in
-                  let one : (t == y) ≡ true = sym (w.of-then-moves.ensures y on)
-                  ∙ (sym (ap (λ (b : Bool). b || has w.of-then-moves.result y) out) ∙ (sym (w.union-some.ensures y) ∙ e')) in
-                  let is : t ≡ y = square-is t y one in
-                  c.quiet_moves_of-moves.ensures.some w.if-moves.true q
-                  (ap (λ (n : ℕ). position_numbered class n) (number ∙ ap (λ (n : ℕ). 64 * row.number + n) is) ∙ at)
-            ]
-        | else-moves w ↦ subst (λ (s : ℕ). HaveMoves class row.number s) (sym w.some-is) inv.some
+      kept = elim c.if-not-moves.branch [
+        | then-not-moves w ↦
+            rw w.losing-is
+            (kept-with _ _ _ _ _ inv.kept _ _ f t refl _ _ w.of.ensures w.union-losing.ensures
+            (λ q at. c.quiet_moves_of-moves.ensures.no (not-true _ w.if-not-moves.true) q
+            (ap (λ (n : ℕ). position_numbered class n) number ∙ at)))
+        | else-not-moves w ↦
+            rw w.losing-is
+            (kept-without _ _ _ _ _ inv.kept _ _ f c.from.result same (c.quiet_moves_of-moves.ensures.yes (not-false _ w.if-not-moves.false)))
       ];
+      some = λ y q on e at. has-one_more c.loop-square.some t _ _ c.of-then-moves.ensures c.union-some.ensures
+          (λ (x : ℕ). position_numbered class (64 * row.number + x) ≡ Some q → HasMove q) (λ x in64 there. inv.some x q in64 there)
+          (λ here. c.quiet_moves_of-moves.ensures.some c.if-moves.true q (ap (λ (n : ℕ). position_numbered class n) number ∙ here)) y on e at;
+    }
+
+pub loop-square-preserved : goal.loop-square-preserved
+loop-square-preserved g c =
+    let f = first-of _ _ _ c.in-Some.ensures.steps in
+    let t = c.in-Some.square in
+    let same : c.from.result ≡ t = c.from.ensures ∙ c.number.ensures.value in
+    let inv = c.loop-square.invariant in
+    let class = c.args.game.now.class in
+    let row = c.args.row.now in
+    let number : 64 * row.number + c.from.result ≡ 64 * row.number + t = ap (λ (n : ℕ). 64 * row.number + n) same in
+    record {
+      kept = elim c.if-not-moves.branch [
+        | then-not-moves w ↦
+            rw w.losing-is
+            (kept-with _ _ _ _ _ inv.kept _ _ f t refl _ _ w.of.ensures w.union-losing.ensures
+            (λ q at. c.quiet_moves_of-moves.ensures.no (not-true _ w.if-not-moves.true) q
+            (ap (λ (n : ℕ). position_numbered class n) number ∙ at)))
+        | else-not-moves w ↦
+            rw w.losing-is
+            (kept-without _ _ _ _ _ inv.kept _ _ f c.from.result same (c.quiet_moves_of-moves.ensures.yes (not-false _ w.if-not-moves.false)))
+      ];
+      some = inv.some;
     }
 
 pub returns-clause-only : goal.returns-clause-only
-returns-clause-only g c = λ y on e. (c.loop-next.invariant.kept.among y on e).0
+returns-clause-only g c = λ y on e. (c.loop-square.invariant.kept.keeps y on e).0
 
 pub returns-clause-yes : goal.returns-clause-yes
-returns-clause-yes g c = λ y q on e at. (c.loop-next.invariant.kept.among y on e).1 q at
+returns-clause-yes g c = λ y q on e at. (c.loop-square.invariant.kept.keeps y on e).1 q at
 
 pub returns-clause-no : goal.returns-clause-no
-returns-clause-no g c = λ y on e f.
-    let inv = c.loop-next.invariant in
-    let Yes : ℕ → Type 0 = λ y. (q : Position) → position_numbered c.args.game.now.class (64 * c.args.row.now.number + y) ≡ Some q
-    → QuietMovesLoseBy (class_game c.args.game.now.class c.args.game.now.tables.now) c.args.cells.now c.args.level q (on_square c.args.row.now.last y) in
-    let Not : ℕ → Type 0 = λ y. NoLossBy (class_game c.args.game.now.class c.args.game.now.tables.now) c.args.cells.now c.args.level
-    (64 * c.args.row.now.number + y) in
-    kept-all c.args.so_far.losing Yes Not c.loop-next.rest c.loop-next.next inv.left c.loop-next.losing inv.kept
-    (c.is_empty.ensures.0 c.loop-next-test.false) y on e f
+returns-clause-no g c = λ y on e n. c.loop-square.invariant.kept.others y on e (none-of-empty _ c.in-None.ensures.steps.0 y on) n

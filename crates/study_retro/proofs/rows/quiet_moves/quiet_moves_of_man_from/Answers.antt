@@ -1,54 +1,65 @@
 use Rattle.std.proofs.Common.{◌≡◌, ◌+◌, ◌*◌, ◌<◌, ◌&&◌, ◌||◌, ℕ, not, true, Bool, List, [], ◌∷◌, ◌++◌, inl, inr, refl, sym, ◌∙◌, ap, subst, arith}
-use Rattle.std.proofs.lemmas.Bool.{false≢true, and_parts, cases_Bool, cases_lt}
+use Rattle.std.proofs.lemmas.Bool.{false≢true, and_parts, cases_Bool}
 use Rattle.study_board.specs.declared.men.Man.{Man}
 use Rattle.study_board.specs.Men.{same_side}
 use Rattle.study_board.specs.Position.{is_occupied}
 use Rattle.study_board.specs.Sets.{has}
 use Rattle.study_board.proofs.SetBits.{has-zero}
+use Rattle.study_board.proofs.SquareLists.{first-of, none-of-empty}
 use Rattle.study_moves.specs.Rules.{is_legal}
 use Rattle.study_moves.specs.Unmoves.{IsQuiet}
 use Rattle.study_moves.specs.AnyOrder.{is_safe_target}
 use Rattle.study_material.specs.declared.class.Class.{Class}
 use Rattle.study_index.specs.Computed.{position_numbered}
-use Rattle.study_retro.specs.ClassGame.{class_game}
 use Rattle.study_levels.specs.Numbered.{NoLossBy}
+use Rattle.study_levels.proofs.SquaresLeft.{still-among, taken-too}
+use Rattle.study_retro.specs.ClassGame.{class_game}
 use Rattle.study_retro.specs.Predecessors.{AreTold}
 use Rattle.study_retro.specs.RowEscapes.{CanGo}
 use Rattle.study_retro.specs.RowMoves.{AreOnDistinctSquares, goes_quietly}
 use Rattle.study_retro.specs.Still.{IsWonAfter, move_to, on_square}
 use Rattle.study_retro.proofs.CheckLemmas.{made-for}
 use Rattle.study_retro.proofs.RowEscapeLemmas.{go_some, row_can, row_goes, row_stays, thin-cases, thin-gone}
-use Rattle.study_levels.proofs.SquaresLeft.{AreLeft, left-all, first-only, left-more, left-none}
 use Rattle.study_retro.proofs.rows.quiet_moves.quiet_moves_of_man_from.Goals as goal
 
-pub loop-checks-init : goal.loop-checks-init
-loop-checks-init g c = record {
-  left = left-all c.targets_among-rest.result;
+pub loop-target-init : goal.loop-target-init
+loop-target-init g c = record {
+  left = λ x on e. e;
   among = λ y on e. e;
   hold = λ y on e f. absurd (false≢true (sym f ∙ e));
-  lose = λ x y q l. absurd (omega (arith, l));
+  lose = λ y x q on e at in64 there gone. absurd (false≢true (sym gone ∙ there));
   some = c.requires.some;
 }
 
 -- if no number may lose the other moves need not be examined
 pub returns-then-is_empty-clause-yes : goal.returns-then-is_empty-clause-yes
 returns-then-is_empty-clause-yes g c = λ y q on e.
-    absurd (false≢true (sym (ap (λ (s : ℕ). has s y) (c.is_empty-in-loop-checks.ensures.0 c.if-is_empty.true) ∙ has-zero y) ∙ e))
+    absurd (false≢true (sym (ap (λ (s : ℕ). has s y) (c.is_empty.ensures.0 c.if-is_empty.true) ∙ has-zero y) ∙ e))
+
+pub squares_allowing_move-requires-clause-goes : goal.squares_allowing_move-requires-clause-goes
+squares_allowing_move-requires-clause-goes g c =
+    let f = first-of _ _ _ c.in-Some.ensures.steps in
+    let a = c.in-Some.target in
+    let there : has c.into_iter-target-iterator.result a ≡ true = c.loop-target.invariant.left a f.inside f.there in
+    ap (λ (xs : List Man). goes_quietly xs c.new-checks.result.man.now a) c.new-checks.ensures.others
+    ∙ ap (λ (m : Man). goes_quietly c.as_slice-others.result.now m a) c.new-checks.ensures.man
+    ∙ sym (ap (λ (set : ℕ). has set a) c.into_iter-target-iterator.ensures.into_iter_gives ∙ c.targets_among-target-items.ensures a f.inside)
+    ∙ there
 
 pub losing_after-lost-requires-clause-numbered : goal.losing_after-lost-requires-clause-numbered
 losing_after-lost-requires-clause-numbered g c = λ y on e.
     let both = and_parts _ _ (sym (c.intersection-going.ensures y) ∙ e) in
-    let q = c.requires.numbered y on (c.loop-checks.invariant.among y on both.0) in
+    let q = c.requires.numbered y on (c.loop-target.invariant.among y on both.0) in
     (q.0, ap (λ (d : ℕ). position_numbered c.args.game.now.class (64 * d + y)) c.requires.row ∙ q.1)
 
 pub losing_after-lost-requires-clause-going : goal.losing_after-lost-requires-clause-going
 losing_after-lost-requires-clause-going g c = λ y on e.
     let row = c.args.row.now in
     let man = c.args.man.now in
-    let a = c.first-target.result in
+    let a = c.in-Some.target in
     let small = row.plain in
     let both = and_parts _ _ (sym (c.intersection-going.ensures y) ∙ e) in
-    let q = c.requires.numbered y on (c.loop-checks.invariant.among y on both.0) in
+    let q = c.requires.numbered y on (c.loop-target.invariant.among y on both.0) in
     let told = subst (λ (d : Class). AreTold d (64 * row.number + y) (row.others.items ++ on_square row.last y ∷ []) row.to_move) c.requires.class
     (row.encoded y on) in
     let his = c.requires.side in
@@ -61,23 +72,21 @@ losing_after-lost-requires-clause-going g c = λ y on e.
     (row_can c.args.game.now.class (64 * row.number + y) y q.0 q.1 (omega (arith, small, on)) row.others.items row.last row.to_move told man c.requires.man
     his a c.squares_allowing_move.result word both.1)
 
-pub loop-checks-preserved : goal.loop-checks-preserved
-loop-checks-preserved g c =
+pub loop-target-preserved : goal.loop-target-preserved
+loop-target-preserved g c =
     let row = c.args.row.now in
     let man = c.args.man.now in
-    let f = c.first-target.ensures in
-    let a = c.first-target.result in
-    let inv = c.loop-checks.invariant in
+    let f = first-of _ _ _ c.in-Some.ensures.steps in
+    let a = c.in-Some.target in
+    let inv = c.loop-target.invariant in
     let class = c.args.game.now.class in
     let is_row : c.args.departure.now.row ≡ row.number = c.requires.row in
-    let next : c.number-next.result ≡ a = c.number-next.ensures.value in
     let small = row.plain in
-    let losing = c.loop-checks.losing in
+    let losing = c.loop-target.losing in
     let going = c.intersection-going.result in
     let lost = c.losing_after-lost.result in
     let new = c.union-losing.result in
     let his : same_side man.side row.to_move ≡ true = c.requires.side in
-    let left = left-more _ _ _ inv.left a f.inside f.there f.least c.of.result c.without-rest.result c.of.ensures c.without-rest.ensures in
     let cases = thin-cases losing going lost c.without.result new c.without.ensures c.union-losing.ensures in
     let gone = thin-gone losing going lost c.without.result new c.without.ensures c.union-losing.ensures in
     let mine : (y : ℕ) → y < 64 → has going y ≡ true → has losing y ≡ true = λ y on e. (and_parts _ _ (sym (c.intersection-going.ensures y) ∙ e)).0 in
@@ -89,7 +98,7 @@ loop-checks-preserved g c =
     (c.new-checks.ensures.others ∙ c.as_slice-others.ensures.value) c.new-checks.ensures.last c.new-checks.ensures.side c.new-checks.ensures.man
     (c.squares_allowing_move.ensures y on) in
     record {
-      left = subst (λ (n : ℕ). AreLeft c.targets_among-rest.result c.without-rest.result (n + 1)) (sym next) left;
+      left = still-among c.into_iter-target-iterator.result c.loop-target.target-iterator a c.next.new.self f inv.left;
       among = λ y on e. inv.among y on (before y on e);
       hold = λ y on e n. elim (cases_Bool (has losing y)) [
         | inl there ↦
@@ -98,32 +107,24 @@ loop-checks-preserved g c =
             (c.losing_after-lost.ensures.no y on k.0 k.1)
         | inr out ↦ inv.hold y on e out
       ];
-      lose = λ x y q l e on there at legal quiet. elim (cases_lt x c.loop-checks.next) [
-        | inl low ↦ inv.lose x y q low e on (before y on there) at legal quiet
-        | inr high ↦ elim (cases_lt x a) [
-          | inl low ↦ absurd (false≢true (sym (first-only _ _ _ inv.left a f.inside f.there f.least x high low
-              (let s = f.inside in omega (arith, low, s))) ∙ e))
-          | inr top ↦
-              let same : x ≡ a = omega (arith, l, top, next) in
-              let told = subst (λ (d : Class). AreTold d (64 * row.number + y) (row.others.items ++ on_square row.last y ∷ []) row.to_move)
-              c.requires.class (row.encoded y on) in
-              let legal_a = subst (λ (z : ℕ). is_legal q (move_to man z) ≡ true) same legal in
-              let quiet_a = subst (λ (z : ℕ). IsQuiet q (move_to man z)) same quiet in
-              let plain : 64 * row.number + y < 16777216 = omega (arith, small, on) in
-              subst (λ (z : ℕ). IsWonAfter (class_game class c.args.game.now.tables.now) c.args.cells.now c.args.level q (move_to man z)) (sym same)
-              (elim (cases y on there) [
-                | inl is_lost ↦
-                    c.losing_after-lost.ensures.yes
-                    (row_stays class (64 * row.number + y) y q at plain row.others.items row.last row.to_move told man c.requires.man a legal_a quiet_a)
-                    y q on is_lost (ap (λ (d : ℕ). position_numbered class (64 * d + y)) is_row ∙ at)
-                | inr k ↦
-                    let go = row_goes class (64 * row.number + y) y q at plain row.others.items row.last row.to_move told man
-                    c.requires.man a legal_a quiet_a in
-                    absurd (false≢true (sym k.1 ∙ (c.intersection-going.ensures y ∙ rw (k.0, go.3 c.squares_allowing_move.result (word y on)) refl)))
-              ])
-        ]
-      ];
-      some = λ y q on e at. elim (cases_Bool (has c.loop-checks.some y)) [
+      lose = λ y x q on there at in64.
+          let Loses : ℕ → Type 0 = λ z. is_legal q (move_to man z) ≡ true → IsQuiet q (move_to man z)
+          → IsWonAfter (class_game class c.args.game.now.tables.now) c.args.cells.now c.args.level q (move_to man z) in
+          let told = subst (λ (d : Class). AreTold d (64 * row.number + y) (row.others.items ++ on_square row.last y ∷ []) row.to_move)
+          c.requires.class (row.encoded y on) in
+          let plain : 64 * row.number + y < 16777216 = omega (arith, small, on) in
+          let here : Loses a = λ legal quiet. elim (cases y on there) [
+            | inl is_lost ↦
+                c.losing_after-lost.ensures.yes
+                (row_stays class (64 * row.number + y) y q at plain row.others.items row.last row.to_move told man c.requires.man a legal quiet)
+                y q on is_lost (ap (λ (d : ℕ). position_numbered class (64 * d + y)) is_row ∙ at)
+            | inr k ↦
+                let go = row_goes class (64 * row.number + y) y q at plain row.others.items row.last row.to_move told man c.requires.man a legal quiet in
+                absurd (false≢true (sym k.1 ∙ (c.intersection-going.ensures y ∙ rw (k.0, go.3 c.squares_allowing_move.result (word y on)) refl)))
+          ] in
+          taken-too c.into_iter-target-iterator.result c.loop-target.target-iterator a c.next.new.self f Loses
+          (λ z in64 e gone legal quiet. inv.lose y z q on (before y on there) at in64 e gone legal quiet) here x in64;
+      some = λ y q on e at. elim (cases_Bool (has c.loop-target.some y)) [
         | inl there ↦ inv.some y q on there at
         | inr out ↦
             let goes : has going y ≡ true = sym (ap (λ (b : Bool). b || has going y) out) ∙ (sym (c.union-some.ensures y) ∙ e) in
@@ -145,9 +146,7 @@ returns-clause-yes g c = λ y q on e at x legal quiet.
     (row.encoded y on) in
     let go = row_goes c.args.game.now.class (64 * row.number + y) y q at (omega (arith, small, on)) row.others.items row.last row.to_move told
     c.args.man.now c.requires.man x legal quiet in
-    let there = c.targets_among-rest.ensures x go.0
-    ∙ (ap (λ (xs : List Man). goes_quietly xs c.args.man.now x) c.as_slice-others.ensures.value ∙ go.2) in
-    elim (cases_lt x c.loop-checks.next) [
-      | inl l ↦ c.loop-checks.invariant.lose x y q l there on e at legal quiet
-      | inr h ↦ absurd (false≢true (sym (left-none _ _ _ c.loop-checks.invariant.left (c.is_empty.ensures.0 c.loop-checks-test.false) x h go.0) ∙ there))
-    ]
+    let there = ap (λ (set : ℕ). has set x) c.into_iter-target-iterator.ensures.into_iter_gives
+    ∙ (c.targets_among-target-items.ensures x go.0
+    ∙ (ap (λ (xs : List Man). goes_quietly xs c.args.man.now x) c.as_slice-others.ensures.value ∙ go.2)) in
+    c.loop-target.invariant.lose y x q on e at go.0 there (none-of-empty _ c.in-None.ensures.steps.0 x go.0) legal quiet
