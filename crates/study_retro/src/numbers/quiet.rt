@@ -1,6 +1,6 @@
 //! Numbers at which nothing can be known before the levels: those without a position, and those in which the side to move is not
 //! mated and can neither capture nor promote.
-ghost use Rattle.std.specs.Prelude.{◌≡◌, ◌<◌, ◌&&◌, ◌==◌, ℕ, false, IsTrue, Some};
+ghost use Rattle.std.specs.Prelude.{◌≡◌, ◌<◌, ◌&&◌, ◌==◌, ℕ, IsTrue, Some};
 ghost use Rattle.std.specs.List.{list_any};
 ghost use Rattle.study_board.specs.declared.men.Kind.TheVariants.{King, Pawn};
 ghost use Rattle.study_board.specs.Geometry.{rank_of};

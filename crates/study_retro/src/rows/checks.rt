@@ -1,5 +1,5 @@
 //! The squares of the man of the last slot with which a king is attacked: only that man's square varies in a row of numbers.
-ghost use Rattle.std.specs.Prelude.{◌≡◌, ◌<◌, ◌≤◌, ◌&&◌, ◌||◌, ℕ, not, true, false, length, map, [], ◌∷◌, ◌++◌, Some, IfSome};
+ghost use Rattle.std.specs.Prelude.{◌≡◌, ◌<◌, ◌≤◌, ◌&&◌, ℕ, not, true, false, length, map, [], ◌∷◌, ◌++◌, Some, IfSome};
 ghost use Rattle.std.specs.List.{list_any, Contains};
 ghost use Rattle.std.specs.Option.{ForSome};
 ghost use Rattle.study_board.specs.declared.men.Kind.TheVariants.{King};

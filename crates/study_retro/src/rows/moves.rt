@@ -1,9 +1,8 @@
 //! Unmoves and moves of the men of a row of numbers, as sets of squares of the man of the last slot with which they are possible.
-ghost use Rattle.std.specs.Prelude.{◌≡◌, ◌<◌, ◌≤◌, ◌&&◌, ◌==◌, ℕ, not, true, false, length, [], ◌∷◌, ◌++◌};
+ghost use Rattle.std.specs.Prelude.{◌≡◌, ◌<◌, ◌&&◌, ℕ, not, true, [], ◌∷◌, ◌++◌};
 ghost use Rattle.std.specs.List.{Contains};
-ghost use Rattle.study_board.specs.declared.men.Kind.TheVariants.{King};
 ghost use Rattle.study_board.specs.declared.men.Side.{Side};
-ghost use Rattle.study_board.specs.Men.{other_side, same_kind, same_side};
+ghost use Rattle.study_board.specs.Men.{other_side, same_side};
 ghost use Rattle.study_board.specs.Position.{in_check, is_occupied};
 ghost use Rattle.study_board.specs.Sets.{has};
 ghost use Rattle.study_moves.specs.AnyOrder.{is_safe_target};

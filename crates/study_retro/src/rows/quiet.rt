@@ -16,7 +16,7 @@ use crate::numbers::quiet::{
 };
 use crate::rows::checks::squares_of_check;
 use study_board::{Kind, Man, Side, Square, SquareSet, attacks, between};
-use study_index::{DecodedMen, decode_men};
+use study_index::decode_men;
 use study_material::Class;
 
 /// Whether the men are not still if the man of the last slot bears on the other one.
