@@ -1,6 +1,6 @@
 -- A mate has 1 to 127 moves, whatever part of a game states it.
 use Rattle.std.proofs.Common.{◌≡◌, ℕ, ◌≤◌, Bool, true, false, List, [], ◌∷◌, Option, Some, None, refl, subst}
-use Rattle.std.specs.Prelude.{◌==◌, ◌&&◌, not, nat_le, codes, if◌then◌else◌}
+use Rattle.std.specs.Prelude.{◌==◌, ◌&&◌, ◌||◌, not, nat_le, codes, if◌then◌else◌}
 use Rattle.std.specs.Str.{bytes_eq}
 use Rattle.std.proofs.lemmas.Bool.{and_parts, leb-true}
 use Rattle.study_board.specs.declared.men.Side.{Side}
@@ -21,7 +21,7 @@ use Rattle.study_import.specs.declared.aims.Aim.{Aim}
 use Rattle.study_import.specs.declared.aims.AimSource.{AimSource}
 use Rattle.study_import.specs.declared.aims.AimSource.TheVariants.{Comment, StipulationTag, ResultTag, Result as EndResult, Given}
 use Rattle.study_import.specs.declared.notes.Notes.{Notes}
-use Rattle.study_import.specs.Aims.{Found, last_of_phrase, hero_of, goal_named, moves_named, moves_in, moves_behind_in, mate_goal, goal_or_mate, goal_in, goal_behind_to, aimed, aim_by, aim_in, mate_by, mate_tag, or_words, says_win, says_draw, aim_of_text, aim_of_tag, aim_of_outcome, from_source, or_aim, aim_of_result}
+use Rattle.study_import.specs.Aims.{Found, last_of_phrase, hero_of, goal_named, moves_named, moves_in, moves_behind_in, mate_goal, goal_or_mate, goal_in, goal_behind_and, goal_behind_play, or_goal, goal_behind_to, aimed, aim_by, aim_in, mate_by, mate_tag, or_words, says_win, says_draw, aim_of_text, aim_of_tag, aim_of_outcome, from_source, or_aim, aim_of_result}
 use Rattle.study_import.specs.Notes.{with_said, with_sign, noted}
 use Rattle.study_import.specs.Blocks.{tag_aim, result_of, aim_of_game}
 use Rattle.study_import.specs.Laws.{IsCounted, IsGiven}
@@ -89,9 +89,24 @@ counted_in : (x : Found) → Counted (goal_in x)
 counted_in None = tt
 counted_in (Some x) = counted_or (goal_named (last_of_phrase x.0 x.1)) x.0 x.1 (counted_named (last_of_phrase x.0 x.1))
 
+counted_and : (x : Found) → Counted (goal_behind_and x)
+counted_and None = tt
+counted_and (Some x) = counted_if (bytes_eq x.0 (codes "and")) (goal_in (first_word x.1)) None (counted_in (first_word x.1)) tt
+
+counted_play : (x : Found) → Counted (goal_behind_play x)
+counted_play None = tt
+counted_play (Some x) =
+    counted_if (bytes_eq x.0 (codes "play") || bytes_eq x.0 (codes "move")) (goal_behind_and (first_word x.1)) None (counted_and (first_word x.1)) tt
+
+counted_either : (o p : Option Goal) → Counted o → Counted p → Counted (or_goal o p)
+counted_either (Some goal) p h k = h
+counted_either None p h k = k
+
 counted_to : (x : Found) → Counted (goal_behind_to x)
 counted_to None = tt
-counted_to (Some x) = counted_if (bytes_eq x.0 (codes "to")) (goal_in (first_word x.1)) None (counted_in (first_word x.1)) tt
+counted_to (Some x) =
+    counted_if (bytes_eq x.0 (codes "to")) (or_goal (goal_in (first_word x.1)) (goal_behind_play (first_word x.1))) None
+    (counted_either (goal_in (first_word x.1)) (goal_behind_play (first_word x.1)) (counted_in (first_word x.1)) (counted_play (first_word x.1))) tt
 
 -- ---- stipulations
 

@@ -19,15 +19,16 @@ use Rattle.study_import.specs.declared.aims.Aim.{Aim}
 abbrev pub Found : Type 0
 Found = Option (List ℕ × List ℕ)
 
--- ---- words: `White to win`, `Black to draw`, `White to mate in 3`, alone or up to a colon
+-- ---- words: `White to win`, `Black to play and draw`, `White to mate in 3`, alone or up to a colon or a full stop
 
-abbrev pub ends_with_colon : List ℕ → Bool
-ends_with_colon word = nat_le 1 (length word) && slice_index word (length word - 1) == 58
+abbrev pub ends_phrase : List ℕ → Bool
+ends_phrase word =
+    nat_le 1 (length word) && (slice_index word (length word - 1) == 58 || slice_index word (length word - 1) == 46)
 
--- the last word of a phrase: it ends with a colon, which is not part of it, or it ends the text
+-- the last word of a phrase: it ends with a colon or a full stop, which is not part of it, or it ends the text
 unfoldable pub last_of_phrase : List ℕ → List ℕ → Option (List ℕ)
 last_of_phrase word behind =
-    if ends_with_colon word then Some (take (length word - 1) word)
+    if ends_phrase word then Some (take (length word - 1) word)
     else (if is_some (first_word behind) then None else Some word)
 
 abbrev pub hero_of : List ℕ → Option Side
@@ -59,15 +60,31 @@ abbrev pub goal_or_mate : Option Goal → List ℕ → List ℕ → Option Goal
 goal_or_mate (Some goal) word behind = Some goal
 goal_or_mate None word behind = if bytes_eq word (codes "mate") then mate_goal (moves_behind_in (first_word behind)) else None
 
--- after `to`
+-- after `to`, or `and`
 abbrev pub goal_in : Found → Option Goal
 goal_in None = None
 goal_in (Some x) = goal_or_mate (goal_named (last_of_phrase x.0 x.1)) x.0 x.1
 
+-- after `play` or `move`
+abbrev pub goal_behind_and : Found → Option Goal
+goal_behind_and None = None
+goal_behind_and (Some x) = if bytes_eq x.0 (codes "and") then goal_in (first_word x.1) else None
+
+-- `to play and win`, `to move and draw`
+abbrev pub goal_behind_play : Found → Option Goal
+goal_behind_play None = None
+goal_behind_play (Some x) =
+    if bytes_eq x.0 (codes "play") || bytes_eq x.0 (codes "move") then goal_behind_and (first_word x.1) else None
+
+abbrev pub or_goal : Option Goal → Option Goal → Option Goal
+or_goal (Some goal) later = Some goal
+or_goal None later = later
+
 -- after the hero
 abbrev pub goal_behind_to : Found → Option Goal
 goal_behind_to None = None
-goal_behind_to (Some x) = if bytes_eq x.0 (codes "to") then goal_in (first_word x.1) else None
+goal_behind_to (Some x) =
+    if bytes_eq x.0 (codes "to") then or_goal (goal_in (first_word x.1)) (goal_behind_play (first_word x.1)) else None
 
 abbrev pub aimed : Option Side → Option Goal → Option Stipulation
 aimed (Some hero) (Some goal) = Some (record { hero = hero; goal = goal })

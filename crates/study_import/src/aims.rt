@@ -3,8 +3,8 @@ ghost use Rattle.std.specs.Prelude.{◌≡◌};
 ghost use Rattle.std.specs.Option.{option_map};
 ghost use Rattle.study_games.specs.Words.{first_word};
 ghost use Rattle.study_command.specs.Parser.{mate_moves_of};
-ghost use Rattle.study_import.specs.Aims.{ends_with_colon, last_of_phrase, hero_of, goal_named, moves_in, moves_behind_in, mate_goal, goal_in};
-ghost use Rattle.study_import.specs.Aims.{goal_behind_to, aim_in};
+ghost use Rattle.study_import.specs.Aims.{ends_phrase, last_of_phrase, hero_of, goal_named, moves_in, moves_behind_in, mate_goal, goal_in};
+ghost use Rattle.study_import.specs.Aims.{goal_behind_and, goal_behind_play, goal_behind_to, aim_in};
 ghost use Rattle.study_import.specs.Aims.{mate_tag, says_win, says_draw, aim_of_text, aim_of_tag, aim_of_outcome, outcome_of_text, outcome_of_tag};
 ghost use Rattle.study_import.specs.Aims.{source_words};
 
@@ -33,19 +33,19 @@ pub struct Aim {
     pub source: AimSource,
 }
 
-fn ends_with_colon(word: &[u8]) -> bool
-    ensures { result ≡ ends_with_colon word.now }
+fn ends_phrase(word: &[u8]) -> bool
+    ensures { result ≡ ends_phrase word.now }
 {
     let n = word.len();
-    n >= 1 && word[n - 1] == b':'
+    n >= 1 && (word[n - 1] == b':' || word[n - 1] == b'.')
 }
 
-/// The last word of a phrase: it ends with a colon, which is not part of it, or it ends the text.
+/// The last word of a phrase: it ends with a colon or a full stop, which is not part of it, or it ends the text.
 #[tactic(auto, unfolding(crate::specs::Aims::last_of_phrase))]
 fn last_of_phrase<'t>(word: &'t [u8], behind: &[u8]) -> Option<&'t [u8]>
     ensures { option_map (λ w. w.now) result ≡ last_of_phrase word.now behind.now }
 {
-    if ends_with_colon(word) {
+    if ends_phrase(word) {
         let (front, _) = word.split_at(word.len() - 1);
         return Some(front);
     }
@@ -125,7 +125,7 @@ fn mate_goal(moves: Option<MateMoves>) -> Option<Goal>
     }
 }
 
-/// After `to`.
+/// After `to`, or `and`.
 fn goal_in(text: &[u8]) -> Option<Goal>
     ensures { result ≡ goal_in (first_word text.now) }
 {
@@ -140,19 +140,45 @@ fn goal_in(text: &[u8]) -> Option<Goal>
     }
 }
 
-/// After the hero.
-fn goal_behind_to(text: &[u8]) -> Option<Goal>
-    ensures { result ≡ goal_behind_to (first_word text.now) }
+/// After `play` or `move`.
+fn goal_behind_and(text: &[u8]) -> Option<Goal>
+    ensures { result ≡ goal_behind_and (first_word text.now) }
 {
     let (word, behind) = next_word(text)?;
-    if word == b"to".as_slice() {
+    if word == b"and".as_slice() {
         goal_in(behind)
     } else {
         None
     }
 }
 
-/// `White to win`, `Black to draw`, `White to mate in 3`: the whole text, or up to a colon.
+/// `play and win`, `move and draw`.
+fn goal_behind_play(text: &[u8]) -> Option<Goal>
+    ensures { result ≡ goal_behind_play (first_word text.now) }
+{
+    let (word, behind) = next_word(text)?;
+    if word == b"play".as_slice() || word == b"move".as_slice() {
+        goal_behind_and(behind)
+    } else {
+        None
+    }
+}
+
+/// After the hero.
+fn goal_behind_to(text: &[u8]) -> Option<Goal>
+    ensures { result ≡ goal_behind_to (first_word text.now) }
+{
+    let (word, behind) = next_word(text)?;
+    if word != b"to".as_slice() {
+        return None;
+    }
+    match goal_in(behind) {
+        Some(goal) => Some(goal),
+        None => goal_behind_play(behind),
+    }
+}
+
+/// `White to win`, `Black to play and draw`, `White to mate in 3`: the whole text, or up to a colon or a full stop.
 #[tactic(auto, unfolding(crate::specs::Aims::aim_in))]
 pub fn aim_in(text: &[u8]) -> Option<Stipulation>
     ensures { result ≡ aim_in text.now }

@@ -157,6 +157,95 @@ pgn
     Ok(())
 }
 
+/// Six games whose comments state what is to be done, in the words of collections; the last two state nothing.
+const PHRASES: &[u8] = b"[FEN \"8/8/8/4k3/8/4K3/4P3/8 w - - 0 1\"]
+
+{White to play and draw} *
+
+[FEN \"8/8/8/4k3/8/4K3/4P3/8 w - - 0 1\"]
+
+{Black to move and win. By an unknown composer} *
+
+[FEN \"8/8/8/4k3/8/4K3/4P3/8 w - - 0 1\"]
+
+{White to win.} *
+
+[FEN \"8/8/8/4k3/8/4K3/4P3/8 w - - 0 1\"]
+
+{White to play and mate in 3: three variations} *
+
+[FEN \"8/8/8/4k3/8/4K3/4P3/8 w - - 0 1\"]
+
+{White to play draw} *
+
+[FEN \"8/8/8/4k3/8/4K3/4P3/8 w - - 0 1\"]
+
+{White to move and play} *
+";
+
+const PHRASES_TOLD: &[u8] = b"# game 1, line 1: stipulated by its comment
+# not taken over: comments 1
+position 8/8/8/4k3/8/4K3/4P3/8 w - - 0 1
+stipulate white draw
+tag Event ?
+tag Site ?
+tag Date ????.??.??
+tag Round ?
+tag White ?
+tag Black ?
+pgn
+
+# game 2, line 5: stipulated by its comment
+# not taken over: comments 1
+position 8/8/8/4k3/8/4K3/4P3/8 w - - 0 1
+stipulate black win
+tag Event ?
+tag Site ?
+tag Date ????.??.??
+tag Round ?
+tag White ?
+tag Black ?
+pgn
+
+# game 3, line 9: stipulated by its comment
+# not taken over: comments 1
+position 8/8/8/4k3/8/4K3/4P3/8 w - - 0 1
+stipulate white win
+tag Event ?
+tag Site ?
+tag Date ????.??.??
+tag Round ?
+tag White ?
+tag Black ?
+pgn
+
+# game 4, line 13: stipulated by its comment
+# not taken over: comments 1
+position 8/8/8/4k3/8/4K3/4P3/8 w - - 0 1
+stipulate white mate 3
+tag Event ?
+tag Site ?
+tag Date ????.??.??
+tag Round ?
+tag White ?
+tag Black ?
+pgn
+
+# game 5, line 17: NoStipulation
+
+# game 6, line 21: NoStipulation
+
+# games 6, studies 4
+";
+
+/// `White to play and draw` states a draw, up to a colon or a full stop.
+#[test]
+fn a_comment_states_what_is_to_be_done(rt: HostRuntime) -> Result<(), Fail> {
+    let alloc = rt.alloc();
+    assert!(rt; check(&alloc, PHRASES, None, PHRASES_TOLD)?);
+    Ok(())
+}
+
 /// Four games with null moves: in variations, as a move of the main line, behind a variation, and as an en dash.
 const NULL_MOVES: &[u8] = b"[FEN \"8/8/8/4k3/8/4K3/4P3/8 w - - 0 1\"]
 [Result \"1-0\"]
