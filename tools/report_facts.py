@@ -149,6 +149,7 @@ class Study:
 
     def __init__(self, pgn, facts):
         self.tags = dict(re.findall(r'^\[(\w+) "(.*)"\]$', pgn, re.M))
+        self.unread = None  # the first line of it that was refused
         self.fen = self.tags["FEN"]
         fields = self.fen.split()
         self.number = int(fields[5])
@@ -421,6 +422,8 @@ def faults(study):
 
 def stamp_of(study):
     """The words of the stamp."""
+    if study.unread:
+        return f"not read: line {study.unread}"
     waste = study.of("waste")
     if study.verdict == "sound" and ["empty"] in study.facts:
         return "holds"
@@ -443,8 +446,10 @@ def sentence(verdict, empty, time):
 
 def verdict(study):
     stamp = study.verdict.split()[0]
-    frame = "sound" if stamp_of(study).startswith("sound") else stamp
+    frame = "unsound" if study.unread else "sound" if stamp_of(study).startswith("sound") else stamp
     words = sentence(study.verdict, ["empty"] in study.facts, time_faults([" ".join(fact) for fact in study.facts]))
+    if study.unread:
+        words = "A line of this study was refused, so it is not stamped."
     return inside("section", inside("h2", inside("span", say(stamp_of(study)), f'class="stamp {frame}"')) + inside("p", say(words))
                   + inside("p", say(f"At the start: {study.start_value}.")) + faults(study), 'class="verdict"')
 
@@ -712,11 +717,23 @@ def told_in(name):
     return told_by(read(EXAMPLES, name + ".lines"), read(EXAMPLES, name + ".expected"))
 
 
+QUESTIONS = "mark moves fen solve pgn build load save verify".split()
+
+
+def unread_after(unread, number, line, refused):
+    """The first line of a study that was refused, after this line; questions and lines of tables are none of it."""
+    word = (line.split() or [""])[0]
+    if refused:
+        return unread or (None if word in QUESTIONS else number)
+    return None if word == "position" else unread
+
+
 def part(studies, number, script, refused, tags):
     """What the lines of a script add to the pages: studies come from the list, refused lines by their numbers, and remarks. With each study come the
     comments on games without a block since the one before."""
     out, games = "", []
     for n, line in enumerate(script, 1):
+        tags["unread"] = unread_after(tags.get("unread"), n + number, line, n in refused)
         if n in refused:
             out += refusal(n + number, line, refused[n])
         elif line.startswith("#"):
@@ -728,6 +745,7 @@ def part(studies, number, script, refused, tags):
         elif line == "pgn":
             study = studies.pop(0)
             study.tags.update(tags)
+            study.unread = tags["unread"]
             yield study, out, games
             out, games = "", []
     yield None, out, games
@@ -742,7 +760,7 @@ def expected_file(names, more=()):
 def file_of(texts, more=()):
     """The file of pages of scripts one after the other, each with the lines and the replies to it.
 
-    Tags go on from script to script, as they do in one run."""
+    Tags, and the line of a study that was refused, go on from script to script, as they do in one run."""
     count, number, tags, studies, entries, body = 0, 0, {}, [], [], ""
     for script, lines, replies in texts:
         refused = {int(l.split(" ", 2)[1]): l.split(" ", 2)[2] for l in lines.splitlines() if l.startswith("refused ")}
@@ -756,11 +774,14 @@ def file_of(texts, more=()):
                 studies.append(study)
                 entries.append(study)
         number += len(script)
+    unread = tags.get("unread")
     for line, name in more:
         number += 1
+        unread = unread_after(unread, number, line, name not in (None, "again"))
         if name == "again":  # the last study once more, with the tags that were set since
             count += 1
             again = copy.copy(studies[-1])
+            again.unread = unread
             again.tags = {**again.tags, **dict(line.split(" ", 2)[1:] for line, fault in more if fault is None and line.startswith("tag "))}
             studies.append(again)
             entries.append(again)

@@ -3,6 +3,7 @@ use std::alloc::{Allocator, Global};
 use std::io;
 use std::io::{ErrorKind, Write};
 use study_board::Side;
+use study_facts::EntryInfo;
 use study_html::{Html, write_closing, write_opening};
 use study_marks::{Bench, Goal, MateMoves, Stipulation, TagName};
 use study_material::Class;
@@ -95,7 +96,11 @@ fn write_all<'a, A: Allocator, W: Write>(alloc: &'a A, out: &mut W) -> Option<()
             alloc,
             rows: &entries,
         };
-        let more = write_page(alloc, &bench, &mut values, number, list, out).ok()?;
+        let info = EntryInfo {
+            number,
+            unread: None,
+        };
+        let more = write_page(alloc, &bench, &mut values, info, list, out).ok()?;
         entries = more;
     }
     let reason = b"a letter outside plain ASCII & 'so'";

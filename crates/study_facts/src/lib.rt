@@ -12,6 +12,7 @@ mod best;
 mod children;
 mod continuation;
 mod empty;
+mod entry;
 mod fault;
 mod line;
 mod mark_tests;
@@ -31,6 +32,7 @@ pub use best::{best_move, best_play, better_of, play_on};
 pub use children::{child_count, children_in};
 pub use continuation::{EvaluatedMove, NodeContext, is_draw};
 pub use empty::is_empty;
+pub use entry::EntryInfo;
 pub use fault::{ReviewFault, TextFault, WriteFault};
 pub use line::{
     MoveContext, NodePosition, PositionHistory, fill_place, move_context_at, move_to,

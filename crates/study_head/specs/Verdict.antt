@@ -1,5 +1,5 @@
 -- The words of a verdict.
-use Rattle.std.specs.Prelude.{ℕ, ◌==◌, Bool, List, [], ◌++◌, if◌then◌else◌, codes, decimal}
+use Rattle.std.specs.Prelude.{ℕ, ◌==◌, Bool, false, List, [], ◌++◌, Option, Some, None, if◌then◌else◌, codes, decimal}
 use Rattle.study_board.specs.declared.men.Side.{Side}
 use Rattle.study_values.specs.declared.value.Value.{Value}
 use Rattle.study_marks.specs.declared.mark.Mark.{Mark}
@@ -10,7 +10,7 @@ use Rattle.study_pgn.specs.Values.{value_text}
 use Rattle.study_facts.specs.Order.{is_empty}
 use Rattle.study_facts.specs.Words.{alone_words, time_verdict}
 use Rattle.study_head.specs.declared.verdict.Stamp.{Stamp}
-use Rattle.study_head.specs.declared.verdict.Stamp.TheVariants.{Wrong, Sound, Holds, Unsound}
+use Rattle.study_head.specs.declared.verdict.Stamp.TheVariants.{Wrong, Sound, Holds, Unsound, NotRead}
 use Rattle.study_head.specs.declared.verdict.Judgement.{Judgement}
 
 -- by whether the solution has no move of the hero, and how many of its faults lose time alone
@@ -19,18 +19,26 @@ stamp_of wrong e time = Wrong
 stamp_of sound e time = if e then Holds else Sound
 stamp_of (unsound faults) e time = Unsound faults time
 
--- `sound`, `holds`, `unsound 3`, `unsound 5, 4 lose time alone`, `sound but for loss of time`, `wrong`
+unfoldable pub not_read : List ℕ
+not_read = codes "not read: line "
+
+abbrev pub unread_words : ℕ → List ℕ
+unread_words line = not_read ++ decimal line
+
+-- `sound`, `holds`, `unsound 3`, `unsound 5, 4 lose time alone`, `sound but for loss of time`, `wrong`, `not read: line 17`
 abbrev pub stamp_words : Stamp → List ℕ
 stamp_words Wrong = codes "wrong"
 stamp_words Sound = codes "sound"
 stamp_words Holds = codes "holds"
 stamp_words (Unsound faults time) = if time == 0 then codes "unsound " ++ decimal faults else time_verdict faults time
+stamp_words (NotRead line) = unread_words line
 
 abbrev pub holds_words : Stamp → List ℕ
 holds_words Wrong = codes "The stipulation does not hold."
 holds_words Sound = codes "The stipulation holds, and each move of the solution is the only one."
 holds_words Holds = codes "The stipulation holds."
 holds_words (Unsound faults time) = codes "The stipulation holds; the solution has "
+holds_words (NotRead line) = codes "A line of this study was refused, so it is not stamped."
 
 abbrev pub number_words : ℕ → List ℕ
 number_words n = if n == 1 then codes "one fault" else (decimal n ++ codes " faults")
@@ -50,6 +58,7 @@ count_words Wrong = []
 count_words Sound = []
 count_words Holds = []
 count_words (Unsound faults time) = faults_words faults time
+count_words (NotRead line) = []
 
 -- where the solution has no move of the hero
 abbrev pub no_solution_words : Bool → List ℕ
@@ -76,3 +85,12 @@ judgement_of s time = record {
   first = s.start.position.to_move;
   value = s.tree.label.value;
 }
+
+-- no verdict is given on a study of which a line was refused, and it is not said of it that it has no solution
+abbrev pub stamped : Judgement → Option ℕ → Judgement
+stamped j None = j
+stamped j (Some line) = record { stamp = NotRead line; empty = false; first = j.first; value = j.value }
+
+-- the same of an entry, of which this line was refused, if one was
+abbrev pub entry_judgement : Study Mark → ℕ → Option ℕ → Judgement
+entry_judgement s time unread = stamped (judgement_of s time) unread

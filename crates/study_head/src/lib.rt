@@ -14,6 +14,6 @@ pub use head::{moves_first, put_figure, put_head, title_words};
 pub use known::known_tag;
 pub use verdict::{
     Judgement, Stamp, add_sentence, add_stamp_words, add_start_value, add_verdict_words,
-    judgement_of,
+    entry_judgement, judgement_of,
 };
 pub use words::{Ply, add_label, add_line_start, add_mate_distance};

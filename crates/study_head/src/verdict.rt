@@ -5,8 +5,8 @@ ghost use Rattle.study_marks.specs.Verdict.{verdict};
 ghost use Rattle.study_marks.specs.Study.{Study};
 ghost use Rattle.study_marks.specs.declared.mark.Mark.{Mark as AMark};
 ghost use Rattle.study_facts.specs.Order.{is_empty};
-ghost use Rattle.study_head.specs.Verdict.{stamp_of, stamp_words, no_solution_words, number_words, which_words, lost_words, faults_words};
-ghost use Rattle.study_head.specs.Verdict.{holds_words, count_words, sentence, at_start, start_words, verdict_words, judgement_of};
+ghost use Rattle.study_head.specs.Verdict.{stamp_of, not_read, unread_words, stamp_words, no_solution_words, number_words, which_words, lost_words, faults_words};
+ghost use Rattle.study_head.specs.Verdict.{holds_words, count_words, sentence, at_start, start_words, verdict_words, judgement_of, entry_judgement};
 
 use std::alloc::{AllocError, Allocator};
 use study_board::Side;
@@ -17,13 +17,14 @@ use study_text::Text;
 use study_values::Value;
 
 /// The verdict on a study: wrong, sound, that it holds, where no move of the hero was given, or unsound with so many faults, of
-/// which so many lose time alone.
+/// which so many lose time alone; or, in place of a verdict, that this line of its script was refused.
 #[derive(Clone, Copy)]
 pub enum Stamp {
     Wrong,
     Sound,
     Holds,
     Unsound(u32, u32),
+    NotRead(u32),
 }
 
 /// The verdict on a study in which this side moves first, by whether no move of the hero was given, and how many faults lose time alone.
@@ -43,7 +44,22 @@ fn stamp_of(stipulation: &Stipulation, first: Side, root: &Mark, empty: bool, ti
     }
 }
 
-/// Adds `sound`, `holds`, `unsound 3`, `unsound 5, 4 lose time alone`, `sound but for loss of time`, `wrong`.
+#[tactic(auto, unfolding(crate::specs::Verdict::not_read))]
+fn not_read() -> &'static [u8]
+    ensures { result.now ≡ not_read }
+{
+    b"not read: line "
+}
+
+/// Adds `not read: line 17`.
+fn add_unread<A: Allocator>(text: &mut Text<'_, A>, line: u32) -> Result<(), AllocError>
+    ensures { OnOk result (text.new ≡ text.old ++ unread_words line) }
+{
+    text.add(not_read())?;
+    text.add_number(line)
+}
+
+/// Adds `sound`, `holds`, `unsound 3`, `unsound 5, 4 lose time alone`, `sound but for loss of time`, `wrong`, `not read: line 17`.
 pub fn add_stamp_words<A: Allocator>(text: &mut Text<'_, A>, stamp: Stamp) -> Result<(), AllocError>
     ensures { OnOk result (text.new ≡ text.old ++ stamp_words stamp) }
 {
@@ -58,6 +74,7 @@ pub fn add_stamp_words<A: Allocator>(text: &mut Text<'_, A>, stamp: Stamp) -> Re
             text.add(b"unsound ")?;
             text.add_number(faults)
         }
+        Stamp::NotRead(line) => add_unread(text, line),
     }
 }
 
@@ -123,6 +140,7 @@ fn holds_words(stamp: Stamp) -> &'static [u8]
         Stamp::Sound => b"The stipulation holds, and each move of the solution is the only one.",
         Stamp::Holds => b"The stipulation holds.",
         Stamp::Unsound(_, _) => b"The stipulation holds; the solution has ",
+        Stamp::NotRead(_) => b"A line of this study was refused, so it is not stamped.",
     }
 }
 
@@ -224,4 +242,25 @@ pub fn judgement_of<'b, B: Allocator>(bench: &Bench<'b, B>, time: u32) -> Judgem
     ensures { result ≡ judgement_of (marked bench.now) time }
 {
     judgement_at(bench, &root_mark(bench), time)
+}
+
+/// What a judge reads of an entry, of which this line was refused, if one was. No verdict is given on an entry that was not read to its end, and it is not
+/// said of it that it has no solution.
+pub fn entry_judgement<'b, B: Allocator>(
+    bench: &Bench<'b, B>,
+    time: u32,
+    unread: Option<u32>,
+) -> Judgement
+    ensures { result ≡ entry_judgement (marked bench.now) time unread }
+{
+    let judgement = judgement_of(bench, time);
+    match unread {
+        None => judgement,
+        Some(line) => Judgement {
+            stamp: Stamp::NotRead(line),
+            empty: false,
+            first: judgement.first,
+            value: judgement.value,
+        },
+    }
 }

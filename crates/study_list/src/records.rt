@@ -2,6 +2,7 @@
 use crate::remarks::write_remark;
 use std::alloc::Allocator;
 use std::io::Write;
+use study_facts::EntryInfo;
 use study_marks::Bench;
 use study_page::{write_record, write_refused_record};
 use study_print::refusal_name;
@@ -16,7 +17,7 @@ impl Report for Records {
     ghost use Rattle.study_page.specs.Csv.{IsRecordOf, IsSomeRecord};
     ghost use Rattle.study_list.specs.List.{refusal_record, remark_record};
 
-    ghost tells = { λ plain number text. IsRecordOf plain number text };
+    ghost tells = { λ plain info text. IsRecordOf plain info text };
 
     ghost form = { λ number text. IsSomeRecord number text };
 
@@ -32,10 +33,10 @@ impl Report for Records {
         alloc: &'a A,
         bench: &Bench<'b, B>,
         values: &mut V,
-        number: u32,
+        info: EntryInfo,
         out: &mut W,
     ) -> Result<(), ReviewFault> {
-        write_record(alloc, bench, values, number, out)
+        write_record(alloc, bench, values, info, out)
     }
 
     fn add_refusal<'a, A: Allocator, W: Write>(

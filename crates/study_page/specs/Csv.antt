@@ -1,5 +1,5 @@
 -- A study as a record of comma-separated values (RFC 4180).
-use Rattle.std.specs.Prelude.{◌≡◌, ℕ, ◌==◌, Bool, ◌||◌, List, [], ◌∷◌, ◌++◌, if◌then◌else◌, codes, decimal}
+use Rattle.std.specs.Prelude.{◌≡◌, ℕ, ◌==◌, Bool, ◌||◌, List, [], ◌∷◌, ◌++◌, Option, if◌then◌else◌, codes, decimal}
 use Rattle.std.specs.List.{flat_map, list_any}
 use Rattle.study_notation.specs.FenSpelling.{fen_text}
 use Rattle.study_marks.specs.declared.mark.Mark.{Mark}
@@ -9,7 +9,8 @@ use Rattle.study_marks.specs.Annotated.{IsAnnotated}
 use Rattle.study_pgn.specs.Pgn.{stipulation_text}
 use Rattle.study_facts.specs.Order.{AreTimeFaults}
 use Rattle.study_head.specs.Known.{known}
-use Rattle.study_head.specs.Verdict.{stamp_words, judgement_of}
+use Rattle.study_facts.specs.declared.entry.EntryInfo.{EntryInfo}
+use Rattle.study_head.specs.Verdict.{stamp_words, entry_judgement}
 
 -- a comma, a quotation mark or an end of line: a field with one of them stands in quotation marks
 abbrev pub is_special : ℕ → Bool
@@ -36,11 +37,12 @@ head_record = codes "Number,Title,Author,FEN,Stipulation,Verdict\r\n"
 unfoldable pub names : Study Mark → List ℕ
 names s = column (known (tag_of s.tags Event)) ++ column (known (tag_of s.tags White))
 
--- its number, title and author, its start as FEN, the stipulation, and the verdict on a study of whose faults so many lose time alone
-unfoldable pub record_text : Study Mark → ℕ → ℕ → List ℕ
-record_text s time number =
-    column (decimal number) ++ (names s ++ (column (fen_text s.start) ++ (column (stipulation_text s.stipulation)
-    ++ (field (stamp_words (judgement_of s time).stamp) ++ codes "\r\n"))))
+-- its number, title and author, its start as FEN, the stipulation, and the verdict on a study of whose faults so many lose time alone, if it was read
+-- to its end
+unfoldable pub record_text : Study Mark → ℕ → EntryInfo → List ℕ
+record_text s time entry =
+    column (decimal entry.number) ++ (names s ++ (column (fen_text s.start) ++ (column (stipulation_text s.stipulation)
+    ++ (field (stamp_words (entry_judgement s time entry.unread).stamp) ++ codes "\r\n"))))
 
 -- a refused line: its number and its text in place of a title, and the name of the refusal in place of a verdict
 unfoldable pub refused_record : ℕ → List ℕ → List ℕ → List ℕ
@@ -48,13 +50,14 @@ refused_record number line name =
     codes "," ++ (column (codes "line " ++ (decimal number ++ (codes ": " ++ line))) ++ (codes ",,," ++ (field (codes "refused: " ++ name) ++ codes "\r\n")))
 
 -- the record of an annotated study
-abbrev pub IsRecord : Study Mark → ℕ → List ℕ → Type 0
-IsRecord s number text = (time : ℕ) × AreTimeFaults s time × (text ≡ record_text s time number)
+abbrev pub IsRecord : Study Mark → EntryInfo → List ℕ → Type 0
+IsRecord s entry text = (time : ℕ) × AreTimeFaults s time × (text ≡ record_text s time entry)
 
--- the record of some study, whatever its values are
+-- the record of some study, whatever its values are and whether or not it was read to its end
 abbrev pub IsSomeRecord : ℕ → List ℕ → Type 0
-IsSomeRecord number text = (s : Study Mark) × (time : ℕ) × (text ≡ record_text s time number)
+IsSomeRecord number text =
+    (s : Study Mark) × (time : ℕ) × (unread : Option ℕ) × (text ≡ record_text s time (record { number = number; unread = unread }))
 
 -- the record of a plain study is that of its annotation
-abbrev pub IsRecordOf : Study (Unit {0}) → ℕ → List ℕ → Type 0
-IsRecordOf plain number text = (s : Study Mark) × (plain_study s ≡ plain) × IsAnnotated s × IsRecord s number text
+abbrev pub IsRecordOf : Study (Unit {0}) → EntryInfo → List ℕ → Type 0
+IsRecordOf plain entry text = (s : Study Mark) × (plain_study s ≡ plain) × IsAnnotated s × IsRecord s entry text

@@ -9,7 +9,8 @@ use Rattle.study_html.specs.Escape.{said}
 use Rattle.study_html.specs.Elements.{inside}
 use Rattle.study_head.specs.Known.{known}
 use Rattle.study_head.specs.Head.{title_words}
-use Rattle.study_head.specs.Verdict.{stamp_words, judgement_of}
+use Rattle.study_facts.specs.declared.entry.EntryInfo.{EntryInfo}
+use Rattle.study_head.specs.Verdict.{stamp_words, entry_judgement}
 
 -- a refused line: its number, its text, the name of the refusal, and the reason in words
 unfoldable pub refusal_part : ℕ → List ℕ → List ℕ → List ℕ → List ℕ
@@ -18,12 +19,12 @@ refusal_part line text name reason =
     ++ (inside Strong (said name) ++ (said (codes ": ") ++ said reason)))))
 
 -- an entry: its number, its title, which leads to its page, its author, what is asked for, and the verdict on a study of whose faults so many
--- lose time alone
-unfoldable pub summary_row : Study Mark → ℕ → ℕ → List ℕ
-summary_row s time number =
-    inside Row (inside Cell (said (decimal number)) ++ (inside Cell (inside (Link number) (said (title_words (known (tag_of s.tags Event)))))
+-- lose time alone, if it was read to its end
+unfoldable pub summary_row : Study Mark → ℕ → EntryInfo → List ℕ
+summary_row s time entry =
+    inside Row (inside Cell (said (decimal entry.number)) ++ (inside Cell (inside (Link entry.number) (said (title_words (known (tag_of s.tags Event)))))
     ++ (inside Cell (said (known (tag_of s.tags White)))
-    ++ (inside Cell (said (stipulation_text s.stipulation)) ++ inside Cell (said (stamp_words (judgement_of s time).stamp))))))
+    ++ (inside Cell (said (stipulation_text s.stipulation)) ++ inside Cell (said (stamp_words (entry_judgement s time entry.unread).stamp))))))
 
 unfoldable pub two_heads : List ℕ → List ℕ → List ℕ
 two_heads a b = inside Head (said a) ++ inside Head (said b)

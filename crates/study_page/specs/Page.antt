@@ -1,5 +1,5 @@
 -- The page of a study.
-use Rattle.std.specs.Prelude.{◌≡◌, ◌==◌, ℕ, List, [], ◌++◌, length, if◌then◌else◌, codes}
+use Rattle.std.specs.Prelude.{◌≡◌, ◌==◌, ℕ, List, [], ◌++◌, length, Option, if◌then◌else◌, codes}
 use Rattle.study_marks.specs.declared.mark.Mark.{Mark}
 use Rattle.study_marks.specs.Study.{Study, plain_study}
 use Rattle.study_marks.specs.Annotated.{IsAnnotated}
@@ -9,7 +9,8 @@ use Rattle.study_html.specs.Escape.{said}
 use Rattle.study_html.specs.Elements.{inside}
 use Rattle.study_html.specs.Markup.{IsWellNested}
 use Rattle.study_head.specs.Head.{head, figure}
-use Rattle.study_head.specs.Verdict.{judgement_of}
+use Rattle.study_facts.specs.declared.entry.EntryInfo.{EntryInfo}
+use Rattle.study_head.specs.Verdict.{entry_judgement}
 use Rattle.study_page.specs.Verdict.{verdict_part}
 use Rattle.study_page.specs.Tree.{solution_words}
 use Rattle.study_page.specs.Lists.{summary_row}
@@ -81,24 +82,24 @@ tables tries zugzwangs defences ends =
     ++ last_tables defences ends)
 
 -- the diagram and the verdict, side by side
-unfoldable pub top : Study Mark → ℕ → List ℕ → List ℕ
-top s time faults = inside element.Top (figure s.stipulation s.start ++ verdict_part (judgement_of s time) faults)
+unfoldable pub top : Study Mark → Option ℕ → ℕ → List ℕ → List ℕ
+top s unread time faults = inside element.Top (figure s.stipulation s.start ++ verdict_part (entry_judgement s time unread) faults)
 
-unfoldable pub content : Study Mark → ℕ → List ℕ → List ℕ → List ℕ → List ℕ → List ℕ → List ℕ → List ℕ
-content s time faults duals tries zugzwangs defences ends =
-    head s.tags ++ (top s time faults ++ (solution_part (solution_words s) ++ (cards_part duals
+unfoldable pub content : Study Mark → Option ℕ → ℕ → List ℕ → List ℕ → List ℕ → List ℕ → List ℕ → List ℕ → List ℕ
+content s unread time faults duals tries zugzwangs defences ends =
+    head s.tags ++ (top s unread time faults ++ (solution_part (solution_words s) ++ (cards_part duals
     ++ (tables tries zugzwangs defences ends ++ inside element.Foot (said foot_words)))))
 
-abbrev pub page_text : Study Mark → ℕ → ℕ → List ℕ → List ℕ → List ℕ → List ℕ → List ℕ → List ℕ → List ℕ
-page_text s number time faults duals tries zugzwangs defences ends =
-    inside (element.Entry number) (content s time faults duals tries zugzwangs defences ends)
+abbrev pub page_text : Study Mark → EntryInfo → ℕ → List ℕ → List ℕ → List ℕ → List ℕ → List ℕ → List ℕ → List ℕ
+page_text s entry time faults duals tries zugzwangs defences ends =
+    inside (element.Entry entry.number) (content s entry.unread time faults duals tries zugzwangs defences ends)
 
 -- ---- what it says
 
--- The page of an annotated study, its entry of this number: head, diagram and verdict, of whose faults so many lose time alone, the tree of
+-- The page of an annotated study, as this entry: head, diagram and verdict, of whose faults so many lose time alone, the tree of
 -- the solution, and then part by part what each has of the nodes.
-abbrev pub IsPage : Study Mark → ℕ → List ℕ → Type 0
-IsPage s number text =
+abbrev pub IsPage : Study Mark → EntryInfo → List ℕ → Type 0
+IsPage s entry text =
     (faults duals tries zugzwangs defences ends : List ℕ) × (time : ℕ)
     × AreRows FaultItems s faults
     × AreTimeFaults s time
@@ -107,24 +108,24 @@ IsPage s number text =
     × AreRows ZugzwangRows s zugzwangs
     × AreRows DefenceRows s defences
     × AreRows EndRows s ends
-    × (text ≡ page_text s number time faults duals tries zugzwangs defences ends)
+    × (text ≡ page_text s entry time faults duals tries zugzwangs defences ends)
 
 -- the row of an annotated study in the list of all
-abbrev pub IsRow : Study Mark → ℕ → List ℕ → Type 0
-IsRow s number row = (time : ℕ) × AreTimeFaults s time × (row ≡ summary_row s time number)
+abbrev pub IsRow : Study Mark → EntryInfo → List ℕ → Type 0
+IsRow s entry row = (time : ℕ) × AreTimeFaults s time × (row ≡ summary_row s time entry)
 
 -- each page is one element, the entry of its number, with markup inside it that is well nested, whatever the values are
 abbrev pub IsEntry : ℕ → List ℕ → Type 0
 IsEntry number text = (content : List ℕ) × IsWellNested content × (text ≡ inside (element.Entry number) content)
 
 -- the page of a plain study is that of its annotation
-abbrev pub IsPageOf : Study (Unit {0}) → ℕ → List ℕ → Type 0
-IsPageOf plain number text = (s : Study Mark) × (plain_study s ≡ plain) × IsAnnotated s × IsPage s number text
+abbrev pub IsPageOf : Study (Unit {0}) → EntryInfo → List ℕ → Type 0
+IsPageOf plain entry text = (s : Study Mark) × (plain_study s ≡ plain) × IsAnnotated s × IsPage s entry text
 
--- an annotated study has one page of a number
+-- an annotated study has one page as an entry
 abbrev pub PagesAreUnique : Type 0
-PagesAreUnique = (s : Study Mark) (number : ℕ) (t u : List ℕ) → IsPage s number t → IsPage s number u → t ≡ u
+PagesAreUnique = (s : Study Mark) (entry : EntryInfo) (t u : List ℕ) → IsPage s entry t → IsPage s entry u → t ≡ u
 
 -- so has a plain study
 abbrev pub PlainStudiesHaveOnePage : Type 0
-PlainStudiesHaveOnePage = (plain : Study (Unit {0})) (number : ℕ) (t u : List ℕ) → IsPageOf plain number t → IsPageOf plain number u → t ≡ u
+PlainStudiesHaveOnePage = (plain : Study (Unit {0})) (entry : EntryInfo) (t u : List ℕ) → IsPageOf plain entry t → IsPageOf plain entry u → t ≡ u

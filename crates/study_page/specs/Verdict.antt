@@ -1,7 +1,7 @@
 -- The part of a page with the verdict.
 use Rattle.std.specs.Prelude.{ℕ, ◌==◌, List, [], ◌++◌, length, if◌then◌else◌}
 use Rattle.study_head.specs.declared.verdict.Stamp.{Stamp}
-use Rattle.study_head.specs.declared.verdict.Stamp.TheVariants.{Wrong, Sound, Holds, Unsound}
+use Rattle.study_head.specs.declared.verdict.Stamp.TheVariants.{Wrong, Sound, Holds, Unsound, NotRead}
 use Rattle.study_head.specs.declared.verdict.Judgement.{Judgement}
 use Rattle.study_head.specs.Verdict.{stamp_words, sentence, start_words}
 use Rattle.study_html.specs.declared.element.Element.{Element}
@@ -15,6 +15,7 @@ stamp_element Wrong = element.Wrong
 stamp_element Sound = element.Sound
 stamp_element Holds = element.Sound
 stamp_element (Unsound faults time) = if time == faults then element.Sound else element.Unsound
+stamp_element (NotRead line) = element.Unsound
 
 unfoldable pub stamp_part : Stamp → List ℕ
 stamp_part v = inside element.Heading (inside (stamp_element v) (said (stamp_words v)))

@@ -11,15 +11,15 @@ ghost use Rattle.study_pgn.specs.Pgn.{stipulation_text};
 ghost use Rattle.study_facts.specs.Asked.{within};
 ghost use Rattle.study_facts.specs.Order.{HasReviewed};
 ghost use Rattle.study_facts.specs.Made.{HasAsked};
-ghost use Rattle.study_head.specs.Verdict.{stamp_words, judgement_of};
+ghost use Rattle.study_head.specs.Verdict.{stamp_words, entry_judgement};
 ghost use Rattle.study_page.specs.Csv.{is_special, doubled, quoted, field, column, head_record, names, record_text, refused_record};
 ghost use Rattle.study_page.specs.Csv.{IsRecord, IsSomeRecord, IsRecordOf};
 
 use crate::page::parts_of;
 use std::alloc::{AllocError, Allocator};
 use std::io::Write;
-use study_facts::{ReviewFault, TextFault, WriteFault};
-use study_head::{add_stamp_words, judgement_of, known_tag};
+use study_facts::{EntryInfo, ReviewFault, TextFault, WriteFault};
+use study_head::{add_stamp_words, entry_judgement, known_tag};
 use study_marks::{Bench, TagName};
 use study_notation::write_fen;
 use study_pgn::add_stipulation;
@@ -139,31 +139,32 @@ fn add_verdict<'a, 'b, A: Allocator, B: Allocator>(
     text: &mut Text<'_, A>,
     bench: &Bench<'b, B>,
     time: u32,
+    unread: Option<u32>,
 ) -> Result<(), AllocError>
     ensures { OnOk result (text.new ≡ text.old
-        ++ field (stamp_words (judgement_of (marked bench.now) time).stamp)) }
+        ++ field (stamp_words (entry_judgement (marked bench.now) time unread).stamp)) }
 {
     let mut words = Text::new(alloc);
-    add_stamp_words(&mut words, judgement_of(bench, time).stamp)?;
+    add_stamp_words(&mut words, entry_judgement(bench, time, unread).stamp)?;
     add_field(text, words.as_slice())
 }
 
-/// The record of the study, of whose faults so many lose time alone.
+/// The record of an entry, of whose faults so many lose time alone.
 #[tactic(auto, unfolding(crate::specs::Csv::record_text))]
 fn add_record<'a, 'b, A: Allocator, B: Allocator>(
     alloc: &'a A,
     text: &mut Text<'_, A>,
     bench: &Bench<'b, B>,
     time: u32,
-    number: u32,
+    info: EntryInfo,
 ) -> Result<(), AllocError>
-    ensures { OnOk result (text.new ≡ text.old ++ record_text (marked bench.now) time number) }
+    ensures { OnOk result (text.new ≡ text.old ++ record_text (marked bench.now) time info) }
 {
-    add_number(alloc, text, number)?;
+    add_number(alloc, text, info.number)?;
     add_names(text, bench)?;
     add_fen(text, bench)?;
     add_wanted(alloc, text, bench)?;
-    add_verdict(alloc, text, bench, time)?;
+    add_verdict(alloc, text, bench, time, info.unread)?;
     text.add(b"\r\n")
 }
 
@@ -172,17 +173,17 @@ fn record_of<'a, 'b, A: Allocator, B: Allocator, V: Values>(
     alloc: &'a A,
     bench: &Bench<'b, B>,
     values: &mut V,
-    number: u32,
+    info: EntryInfo,
 ) -> Result<Text<'a, A>, TextFault>
     ensures text { V.source.is_honest values.old
-        → IfOk result (λ text. IsRecord (marked bench.now) number text) }
-    ensures form { IfOk result (λ text. IsSomeRecord number text) }
+        → IfOk result (λ text. IsRecord (marked bench.now) info text) }
+    ensures form { IfOk result (λ text. IsSomeRecord info.number text) }
     ensures asked { HasAsked (within (marked bench.now).start.position V.source)
         values.old result values.new }
 {
     let mut text = Text::new(alloc);
     let parts = parts_of(alloc, bench, values)?;
-    add_record(alloc, &mut text, bench, parts.time_faults, number)?;
+    add_record(alloc, &mut text, bench, parts.time_faults, info)?;
     Ok(text)
 }
 
@@ -202,18 +203,18 @@ pub fn write_record<'a, 'b, A: Allocator, B: Allocator, V: Values, W: Write>(
     alloc: &'a A,
     bench: &Bench<'b, B>,
     values: &mut V,
-    number: u32,
+    info: EntryInfo,
     out: &mut W,
 ) -> Result<(), ReviewFault>
     ensures plain { V.source.is_honest values.old → IsKeptRight bench.now
         → OnOk result ((text : List ℕ)
-        × IsRecordOf (plain_study (marked bench.now)) number text
+        × IsRecordOf (plain_study (marked bench.now)) info text
         × Appends (W.contents out.old) (W.contents out.new) text) }
-    ensures form { OnOk result ((text : List ℕ) × IsSomeRecord number text
+    ensures form { OnOk result ((text : List ℕ) × IsSomeRecord info.number text
         × Appends (W.contents out.old) (W.contents out.new) text) }
     ensures device { V.source.is_honest values.old → IsKeptRight bench.now
         → result ≡ Err ReviewFault.Device → (text : List ℕ)
-        × IsRecordOf (plain_study (marked bench.now)) number text
+        × IsRecordOf (plain_study (marked bench.now)) info text
         × TakesPrefix (W.contents out.old) (W.contents out.new) text }
     ensures memory { result ≡ Err ReviewFault.OutOfMemory → out.new ≡ out.old }
     ensures untold { (fault : AProbeFault)
@@ -221,7 +222,7 @@ pub fn write_record<'a, 'b, A: Allocator, B: Allocator, V: Values, W: Write>(
     ensures asked { HasReviewed (within (marked bench.now).start.position V.source)
         values.old result values.new }
 {
-    let text = record_of(alloc, bench, values, number)?;
+    let text = record_of(alloc, bench, values, info)?;
     write_text(out, text.as_slice())?;
     Ok(())
 }

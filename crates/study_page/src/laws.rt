@@ -4,7 +4,7 @@ ghost use Rattle.study_page.specs.Page.{PagesAreUnique, PlainStudiesHaveOnePage}
 use study_marks::annotations_are_unique;
 use study_moves::values_are_unique;
 
-/// An annotated study has one page of a number, to the byte.
+/// An annotated study has one page as an entry, to the byte.
 pub fn pages_are_unique()
     ensures { PagesAreUnique }
 {

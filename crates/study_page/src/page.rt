@@ -23,8 +23,8 @@ use crate::tree::put_following;
 use crate::verdict::put_verdict;
 use std::alloc::{AllocError, Allocator};
 use std::io::Write;
-use study_facts::{ReviewFault, TextFault, walk_study};
-use study_head::{judgement_of, put_figure, put_head};
+use study_facts::{EntryInfo, ReviewFault, TextFault, walk_study};
+use study_head::{entry_judgement, put_figure, put_head};
 use study_html::{Element, Html, put_words};
 use study_marks::Bench;
 use study_text::write_text;
@@ -267,17 +267,18 @@ fn put_top<'a, 'b, A: Allocator, B: Allocator>(
     alloc: &'a A,
     html: &mut Html<'_, A>,
     bench: &Bench<'b, B>,
+    unread: Option<u32>,
     parts: &Sections<'_, A>,
 ) -> Result<(), AllocError>
     ensures { OnOk result (html.new ≡ html.old
-        ++ top (marked bench.now) parts.now.time_faults parts.now.faults) }
+        ++ top (marked bench.now) unread parts.now.time_faults parts.now.faults) }
 {
     let mut within = Html::new(alloc);
     put_figure(alloc, &mut within, bench)?;
     put_verdict(
         alloc,
         &mut within,
-        &judgement_of(bench, parts.time_faults),
+        &entry_judgement(bench, parts.time_faults, unread),
         &parts.faults,
     )?;
     html.put(Element::Top, &within)
@@ -289,14 +290,15 @@ fn put_content<'a, 'b, A: Allocator, B: Allocator>(
     alloc: &'a A,
     html: &mut Html<'_, A>,
     bench: &Bench<'b, B>,
+    unread: Option<u32>,
     parts: &Sections<'_, A>,
 ) -> Result<(), AllocError>
-    ensures { OnOk result (html.new ≡ html.old ++ content (marked bench.now) parts.now.time_faults
-        parts.now.faults parts.now.duals parts.now.tries parts.now.zugzwangs
+    ensures { OnOk result (html.new ≡ html.old
+        ++ content (marked bench.now) unread parts.now.time_faults parts.now.faults parts.now.duals parts.now.tries parts.now.zugzwangs
         parts.now.defences parts.now.ends) }
 {
     put_head(alloc, html, bench)?;
-    put_top(alloc, html, bench, parts)?;
+    put_top(alloc, html, bench, unread, parts)?;
     put_solution(alloc, html, bench)?;
     put_cards(alloc, html, &parts.duals)?;
     put_tables(alloc, html, parts)?;
@@ -315,14 +317,14 @@ fn with_row<'s, 'b, S: Allocator, B: Allocator>(
     list: &Listed<'_, 's, S>,
     bench: &Bench<'b, B>,
     time: u32,
-    number: u32,
+    info: EntryInfo,
 ) -> Result<Html<'s, S>, AllocError>
     ensures { IfOk result (λ more.
-        more ≡ list.now.rows.now ++ summary_row (marked bench.now) time number) }
+        more ≡ list.now.rows.now ++ summary_row (marked bench.now) time info) }
 {
     let mut more = Html::new(list.alloc);
     more.append(list.rows)?;
-    add_entry(list.alloc, &mut more, bench, time, number)?;
+    add_entry(list.alloc, &mut more, bench, time, info)?;
     Ok(more)
 }
 
@@ -338,58 +340,58 @@ fn entry_of<'a, 's, 'b, A: Allocator, S: Allocator, B: Allocator, V: Values>(
     alloc: &'a A,
     bench: &Bench<'b, B>,
     values: &mut V,
-    number: u32,
+    info: EntryInfo,
     list: &Listed<'_, 's, S>,
 ) -> Result<Entry<'a, 's, A, S>, TextFault>
     ensures text { V.source.is_honest values.old
-        → IfOk result (λ entry. IsPage (marked bench.now) number entry.page) }
+        → IfOk result (λ entry. IsPage (marked bench.now) info entry.page) }
     ensures rows { V.source.is_honest values.old
-        → IfOk result (λ entry. (row : List ℕ) × IsRow (marked bench.now) number row
+        → IfOk result (λ entry. (row : List ℕ) × IsRow (marked bench.now) info row
         × (entry.rows ≡ list.now.rows.now ++ row)) }
-    ensures entry { IfOk result (λ entry. IsEntry number entry.page) }
+    ensures entry { IfOk result (λ entry. IsEntry info.number entry.page) }
     ensures asked { HasAsked (within (marked bench.now).start.position V.source)
         values.old result values.new }
 {
     let mut page = Html::new(alloc);
     let mut content = Html::new(alloc);
     let parts = parts_of(alloc, bench, values)?;
-    put_content(alloc, &mut content, bench, &parts)?;
-    page.put(Element::Entry(number), &content)?;
+    put_content(alloc, &mut content, bench, info.unread, &parts)?;
+    page.put(Element::Entry(info.number), &content)?;
     // (the content is well nested, as the clause of its bytes says)
     let _content = content.as_slice();
-    let rows = with_row(list, bench, parts.time_faults, number)?;
+    let rows = with_row(list, bench, parts.time_faults, info)?;
     Ok(Entry { page, rows })
 }
 
-/// Writes the page of a study, the entry of this number, and hands back the rows of the list of all entries with its own behind them.
+/// Writes the page of a study, as this entry, and hands back the rows of the list of all entries with its own behind them.
 ///
 /// The page is made whole first, so want of memory, and a value that cannot be read, are reported before the first byte. A writer
-/// that fails or takes nothing ends the call; it has taken a prefix of the page then. A study has one page of a number, to the byte
+/// that fails or takes nothing ends the call; it has taken a prefix of the page then. A study has one page as an entry, to the byte
 /// (`pages_are_unique`).
 pub fn write_page<'a, 's, 'b, A: Allocator, S: Allocator, B: Allocator, V: Values, W: Write>(
     alloc: &'a A,
     bench: &Bench<'b, B>,
     values: &mut V,
-    number: u32,
+    info: EntryInfo,
     list: Listed<'_, 's, S>,
     out: &mut W,
 ) -> Result<Html<'s, S>, ReviewFault>
     ensures ok { V.source.is_honest values.old
-        → OnOk result ((text : List ℕ) × IsPage (marked bench.now) number text
+        → OnOk result ((text : List ℕ) × IsPage (marked bench.now) info text
         × Appends (W.contents out.old) (W.contents out.new) text) }
     ensures plain { V.source.is_honest values.old → IsKeptRight bench.now
         → OnOk result ((text : List ℕ)
-        × IsPageOf (plain_study (marked bench.now)) number text
+        × IsPageOf (plain_study (marked bench.now)) info text
         × Appends (W.contents out.old) (W.contents out.new) text) }
     ensures rows { V.source.is_honest values.old
-        → IfOk result (λ rows. (row : List ℕ) × IsRow (marked bench.now) number row
+        → IfOk result (λ rows. (row : List ℕ) × IsRow (marked bench.now) info row
         × (rows ≡ list.entry.rows.now ++ row)) }
-    ensures entry { OnOk result ((text : List ℕ) × IsEntry number text
+    ensures entry { OnOk result ((text : List ℕ) × IsEntry info.number text
         × Appends (W.contents out.old) (W.contents out.new) text) }
     ensures nested { OnOk result ((text : List ℕ) × IsWellNested text
         × Appends (W.contents out.old) (W.contents out.new) text) }
     ensures device { V.source.is_honest values.old → result ≡ Err ReviewFault.Device
-        → (text : List ℕ) × IsPage (marked bench.now) number text
+        → (text : List ℕ) × IsPage (marked bench.now) info text
         × TakesPrefix (W.contents out.old) (W.contents out.new) text }
     ensures memory { result ≡ Err ReviewFault.OutOfMemory → out.new ≡ out.old }
     ensures untold { (fault : AProbeFault)
@@ -397,7 +399,7 @@ pub fn write_page<'a, 's, 'b, A: Allocator, S: Allocator, B: Allocator, V: Value
     ensures asked { HasReviewed (within (marked bench.now).start.position V.source)
         values.old result values.new }
 {
-    let entry = entry_of(alloc, bench, values, number, &list)?;
+    let entry = entry_of(alloc, bench, values, info, &list)?;
     write_text(out, entry.page.as_slice())?;
     Ok(entry.rows)
 }

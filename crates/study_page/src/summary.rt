@@ -10,13 +10,13 @@ ghost use Rattle.study_html.specs.Elements.{inside};
 ghost use Rattle.study_html.specs.Escape.{said};
 ghost use Rattle.study_head.specs.Known.{known};
 ghost use Rattle.study_head.specs.Head.{title_words};
-ghost use Rattle.study_head.specs.Verdict.{stamp_words, judgement_of};
+ghost use Rattle.study_head.specs.Verdict.{stamp_words, entry_judgement};
 ghost use Rattle.study_page.specs.Lists.{refusal_part, summary_row, two_heads, three_heads, summary_heads, summary_part};
 
 use std::alloc::{AllocError, Allocator};
 use std::io::Write;
-use study_facts::WriteFault;
-use study_head::{add_stamp_words, judgement_of, known_tag, title_words};
+use study_facts::{EntryInfo, WriteFault};
+use study_head::{add_stamp_words, entry_judgement, known_tag, title_words};
 use study_html::{Element, Html, put_words};
 use study_marks::{Bench, TagName};
 use study_pgn::add_stipulation;
@@ -120,41 +120,43 @@ fn put_judged<'a, 'b, A: Allocator, B: Allocator>(
     html: &mut Html<'_, A>,
     bench: &Bench<'b, B>,
     time: u32,
+    unread: Option<u32>,
 ) -> Result<(), AllocError>
     ensures { OnOk result (html.new ≡ html.old
         ++ (inside Element.Cell (said (stipulation_text (marked bench.now).stipulation))
-        ++ inside Element.Cell (said (stamp_words (judgement_of (marked bench.now) time).stamp)))) }
+        ++ inside Element.Cell
+        (said (stamp_words (entry_judgement (marked bench.now) time unread).stamp)))) }
 {
     let mut stipulation = Text::new(alloc);
     let mut verdict = Text::new(alloc);
     add_stipulation(&mut stipulation, bench.stipulation())?;
     put_words(alloc, html, Element::Cell, stipulation.as_slice())?;
-    add_stamp_words(&mut verdict, judgement_of(bench, time).stamp)?;
+    add_stamp_words(&mut verdict, entry_judgement(bench, time, unread).stamp)?;
     put_words(alloc, html, Element::Cell, verdict.as_slice())
 }
 
-/// Adds a row for the entry of this number: its number, its title, its author, what is asked for and the verdict, by how many of its
-/// faults lose time alone.
+/// Adds a row for this entry: its number, its title, its author, what is asked for and the verdict, by how many of its
+/// faults lose time alone, or which line of it was refused.
 #[tactic(auto, unfolding(crate::specs::Lists::summary_row))]
 pub fn add_entry<'a, 'b, A: Allocator, B: Allocator>(
     alloc: &'a A,
     rows: &mut Html<'_, A>,
     bench: &Bench<'b, B>,
     time: u32,
-    number: u32,
+    info: EntryInfo,
 ) -> Result<(), AllocError>
-    ensures { OnOk result (rows.new ≡ rows.old ++ summary_row (marked bench.now) time number) }
+    ensures { OnOk result (rows.new ≡ rows.old ++ summary_row (marked bench.now) time info) }
 {
     let mut row = Html::new(alloc);
-    put_number(alloc, &mut row, Element::Cell, number)?;
-    put_link_cell(alloc, &mut row, bench, number)?;
+    put_number(alloc, &mut row, Element::Cell, info.number)?;
+    put_link_cell(alloc, &mut row, bench, info.number)?;
     put_words(
         alloc,
         &mut row,
         Element::Cell,
         known_tag(bench, TagName::White),
     )?;
-    put_judged(alloc, &mut row, bench, time)?;
+    put_judged(alloc, &mut row, bench, time, info.unread)?;
     rows.put(Element::Row, &row)
 }
 

@@ -20,6 +20,7 @@ fn stamp_element(stamp: Stamp) -> Element
                 Element::Unsound
             }
         }
+        Stamp::NotRead(_) => Element::Unsound,
     }
 }
 

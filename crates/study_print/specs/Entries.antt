@@ -23,9 +23,9 @@ unfoldable pub left_out_row : List ℕ → List ℕ
 left_out_row line =
     inside Row (inside Cell [] ++ (inside Cell (said (subject line)) ++ (inside Cell [] ++ (inside Cell [] ++ inside Cell (said (statement line))))))
 
--- the row of a study is that of its annotation, with its number
+-- the row of a study is that of its annotation
 abbrev pub IsRowOf : Entry → List ℕ → Type 0
-IsRowOf (study_entry plain number) row = (s : Study Mark) × (plain_study s ≡ plain) × IsAnnotated s × IsRow s number row
+IsRowOf (study_entry plain info) row = (s : Study Mark) × (plain_study s ≡ plain) × IsAnnotated s × IsRow s info row
 IsRowOf (game_entry line) row = row ≡ left_out_row line
 
 -- a row for each entry, in order

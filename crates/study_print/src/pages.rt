@@ -7,6 +7,7 @@ use crate::remarks::write_remark;
 use crate::watch::Watch;
 use std::alloc::Allocator;
 use std::io::Write;
+use study_facts::EntryInfo;
 use study_html::Html;
 use study_marks::Bench;
 use study_page::{Listed, write_page, write_refusal};
@@ -68,7 +69,7 @@ impl<'s, S: Allocator, N: Watch> Report for Pages<'s, S, N> {
     ghost use Rattle.study_print.specs.Pages.{refusal_text};
     ghost use Rattle.study_print.specs.Remarks.{remark_text};
 
-    ghost tells = { λ plain number text. IsPageOf plain number text };
+    ghost tells = { λ plain info text. IsPageOf plain info text };
 
     ghost form = { λ number text. IsEntry number text };
 
@@ -83,17 +84,17 @@ impl<'s, S: Allocator, N: Watch> Report for Pages<'s, S, N> {
         alloc: &'a A,
         bench: &Bench<'b, B>,
         values: &mut V,
-        number: u32,
+        info: EntryInfo,
         out: &mut W,
     ) -> Result<(), ReviewFault> {
         let list = Listed {
             alloc: self.alloc,
             rows: &self.rows,
         };
-        let rows = write_page(alloc, bench, values, number, list, out)?;
+        let rows = write_page(alloc, bench, values, info, list, out)?;
         self.rows = rows;
         self.count = self.count.next();
-        self.watch.told(number);
+        self.watch.told(info.number);
         Ok(())
     }
 

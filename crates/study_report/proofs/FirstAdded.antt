@@ -23,7 +23,9 @@ use Rattle.study_script.specs.Replies.{Reply, refused}
 use Rattle.study_report.specs.declared.line_kind.LineKind.{LineKind}
 use Rattle.study_report.specs.declared.line_kind.LineKind.TheVariants.{Remark, PassedOver, NoClass, Study, Checked}
 use Rattle.study_report.specs.Told.{Point, Added, IsAdded, IsAddedAs, IsPgnAfter, IsCheckedAfter, line_kind, refusal_count, study_count}
-use Rattle.study_report.specs.Told.{nothing_added, refusal_added, Entry, studies_on, listed_in, entries_in}
+use Rattle.study_facts.specs.declared.entry.EntryInfo.{EntryInfo}
+use Rattle.study_report.specs.Unread.{unread_after}
+use Rattle.study_report.specs.Told.{nothing_added, refusal_added, Entry, last_entry, studies_on, listed_in, entries_in}
 use Rattle.study_report.specs.Outcome.{begun, AreAdded, report_text, refusals, point_after, IsFollowed, AreListed, StoppedAfter, AreListedBefore, Outcome}
 use Rattle.study_report.specs.Outcome.{Shape}
 use Rattle.study_report.specs.Written.{Adds, Stops}
@@ -65,14 +67,14 @@ text-more [] a = append-nil a.text
 text-more (x ∷ added) a = ap (λ (t : List ℕ). x.text ++ t) (text-more added a) ∙ sym (append_assoc x.text (report_text added) a.text)
 
 -- the study that a line reported is the one in the document, and has the number after the others
-listed-same : (line : List ℕ) (t u : LineOutcome) (b c : Document) (i j : ℕ) → t ≡ u → b ≡ c → (study_count u ≡ 1 → i ≡ j)
+listed-same : (line : List ℕ) (t u : LineOutcome) (b c : Document) (i j : EntryInfo) → t ≡ u → b ≡ c → (study_count u ≡ 1 → i ≡ j)
     → listed_in line t b i ≡ listed_in line u c j
 listed-same line t Nothing b c i j e f n = ap (λ (x : LineOutcome). listed_in line x b i) e
 listed-same line t ARefusal b c i j e f n = ap (λ (x : LineOutcome). listed_in line x b i) e
 listed-same line t AStudy b c i j e f n =
     ap (λ (x : LineOutcome). listed_in line x b i) e ∙ ap (λ (x : Document). studies_on x i) f ∙ ap (studies_on c) (n refl)
 
-module _ (tells : PlainStudy → ℕ → List ℕ → Type 0) (refusal : ℕ → List ℕ → List ℕ → List ℕ) (remark : List ℕ → List ℕ) where
+module _ (tells : PlainStudy → EntryInfo → List ℕ → Type 0) (refusal : ℕ → List ℕ → List ℕ → List ℕ) (remark : List ℕ → List ℕ) where
   are-more : (p : Point) (lines : List (List ℕ)) (added : List Added) (line : List ℕ) (a : Added)
       → AreAdded tells refusal remark p lines added → IsAdded tells refusal remark (point_after p added) line a
       → AreAdded tells refusal remark p (lines ++ line ∷ []) (added ++ a ∷ [])
@@ -83,14 +85,14 @@ module _ (tells : PlainStudy → ℕ → List ℕ → Type 0) (refusal : ℕ →
 
   entries-more : (p : Point) (lines : List (List ℕ)) (added : List Added) (line : List ℕ) (a : Added) → AreAdded tells refusal remark p lines added
       → entries_in (lines ++ line ∷ []) (added ++ a ∷ [])
-      ≡ entries_in lines added ++ listed_in line a.told a.after.state.document a.after.studies
-  entries-more p [] [] line a h = append-nil (listed_in line a.told a.after.state.document a.after.studies)
+      ≡ entries_in lines added ++ listed_in line a.told a.after.state.document (last_entry a.after)
+  entries-more p [] [] line a h = append-nil (listed_in line a.told a.after.state.document (last_entry a.after))
   entries-more p [] (x ∷ added) line a h = absurd h
   entries-more p (l ∷ lines) [] line a h = absurd h
   entries-more p (l ∷ lines) (x ∷ added) line a h =
-      let mine = listed_in l x.told x.after.state.document x.after.studies in
+      let mine = listed_in l x.told x.after.state.document (last_entry x.after) in
       ap (λ (t : List Entry). mine ++ t) (entries-more x.after lines added line a h.1)
-      ∙ sym (append_assoc mine (entries_in lines added) (listed_in line a.told a.after.state.document a.after.studies))
+      ∙ sym (append_assoc mine (entries_in lines added) (listed_in line a.told a.after.state.document (last_entry a.after)))
 
   -- ---- the parts of the first n lines are written
 
@@ -138,7 +140,7 @@ module _ (tells : PlainStudy → ℕ → List ℕ → Type 0) (refusal : ℕ →
       (p : Point) (line : List ℕ) (a : Added) (n refused refused' : ℕ) → HasTold Lists script now old mid first p n refused
       → TakesLine now next true line → length line ≤ 1024
       → IsAdded tells refusal remark p line a → Appends mid new a.text → refused' ≡ refused + refusal_count a.told
-      → ((more : List Entry) → Lists more → Lists' (more ++ listed_in line a.told a.after.state.document a.after.studies))
+      → ((more : List Entry) → Lists more → Lists' (more ++ listed_in line a.told a.after.state.document (last_entry a.after)))
       → HasTold Lists' script next old new first a.after (n + 1) refused'
   told_more Lists Lists' None now next old mid new first p line a n refused refused' r t short is wrote k l = record { known = tt }
   told_more Lists Lists' (Some bs) None next old mid new first p line a n refused refused' r t short is wrote k l = absurd r.known
@@ -374,61 +376,82 @@ module _ (tells : PlainStudy → ℕ → List ℕ → Type 0) (refusal : ℕ →
 
   -- the lines so far are reported, the session has their state, and the counts are theirs
   pub record ToldOn (holds : State → Type 0) (Lists : List Entry → Type 0) (script now old new : Option (List ℕ)) (first : State)
-      (n refused studies : ℕ) : Type 0 where
+      (n refused studies : ℕ) (unread : Option ℕ) : Type 0 where
     pub point : Point
     pub told : HasTold Lists script now old new first point n refused
     pub held : holds point.state
     pub lines_are : n ≡ point.lines
     pub studies_are : studies ≡ point.studies
+    pub unread_is : unread ≡ point.unread
 
-  -- a line counts as one more, and its study as one more
-  abbrev Counts : Point → Added → Type 0
-  Counts p a = (a.after.lines ≡ suc p.lines) × (a.after.studies ≡ p.studies + study_count a.told)
+  -- a line counts as one more, its study as one more, and what was not read is what it leaves
+  abbrev Counts : Point → List ℕ → Added → Type 0
+  Counts p line a = (a.after.lines ≡ suc p.lines) × (a.after.studies ≡ p.studies + study_count a.told)
+      × (a.after.unread ≡ unread_after p.unread (suc p.lines) line a.told)
 
-  counts-nothing : (p : Point) (s : State) (a : Added) → a ≡ nothing_added p s → Counts p a
-  counts-nothing p s a e = subst (Counts p) (sym e) (refl, omega arith)
+  counts-nothing : (p : Point) (line : List ℕ) (s : State) (a : Added) → a ≡ nothing_added p line s → Counts p line a
+  counts-nothing p line s a e = subst (Counts p line) (sym e) (refl, omega arith, refl)
 
-  counts-refusal : (p : Point) (line : List ℕ) (reply : Reply) (a : Added) → a ≡ refusal_added tells refusal remark p line reply → Counts p a
-  counts-refusal p line reply a e = subst (Counts p) (sym e) (refl, omega arith)
+  counts-refusal : (p : Point) (line : List ℕ) (reply : Reply) (a : Added) → a ≡ refusal_added tells refusal remark p line reply → Counts p line a
+  counts-refusal p line reply a e = subst (Counts p line) (sym e) (refl, omega arith, refl)
 
-  counts-pgn : (p : Point) (line : List ℕ) (reply : Reply) (a : Added) (b : Bool) → IsPgnAfter tells refusal remark p line reply b a → Counts p a
+  counts-pgn : (p : Point) (line : List ℕ) (reply : Reply) (a : Added) (b : Bool) → IsPgnAfter tells refusal remark p line reply b a → Counts p line a
   counts-pgn p line reply a true e = counts-refusal p line reply a e
-  counts-pgn p line reply a false (inl (plain, text, b, t, e)) = subst (Counts p) (sym e) (refl, omega arith)
+  counts-pgn p line reply a false (inl (plain, text, b, t, e)) = subst (Counts p line) (sym e) (refl, omega arith, refl)
   counts-pgn p line reply a false (inr (plain, why, d, l, e)) = counts-refusal p line (refused reply.state why) a e
 
-  counts-checked : (p : Point) (line : List ℕ) (reply : Reply) (a : Added) (b : Bool) → IsCheckedAfter tells refusal remark p line reply b a → Counts p a
+  counts-checked : (p : Point) (line : List ℕ) (reply : Reply) (a : Added) (b : Bool) → IsCheckedAfter tells refusal remark p line reply b a → Counts p line a
   counts-checked p line reply a true e = counts-refusal p line reply a e
-  counts-checked p line reply a false e = counts-nothing p reply.state a e
+  counts-checked p line reply a false e = counts-nothing p line reply.state a e
 
-  counts-more : (p : Point) (line : List ℕ) (a : Added) (k : LineKind) → IsAddedAs tells refusal remark k p line a → Counts p a
-  counts-more p line a Remark e = subst (Counts p) (sym e) (refl, omega arith)
-  counts-more p line a PassedOver e = counts-nothing p p.state a e
+  counts-more : (p : Point) (line : List ℕ) (a : Added) (k : LineKind) → IsAddedAs tells refusal remark k p line a → Counts p line a
+  counts-more p line a Remark e = subst (Counts p line) (sym e) (refl, omega arith, refl)
+  counts-more p line a PassedOver e = counts-nothing p line p.state a e
   counts-more p line a NoClass e = counts-refusal p line (refused p.state NotAClass) a e
   counts-more p line a Study (o, reply, is, after) = counts-pgn p line reply a reply.refused after
   counts-more p line a Checked (o, reply, is, after) = counts-checked p line reply a reply.refused after
 
+  -- a study that is reported leaves what was not read of it
+  study-unread : (old : Option ℕ) (number : ℕ) (line : List ℕ) (told : LineOutcome) → study_count told ≡ 1 → unread_after old number line told ≡ old
+  study-unread old number line Nothing e = absurd cc
+  study-unread old number line AStudy e = refl
+  study-unread old number line ARefusal e = absurd cc
+
+  entry : ℕ → Option ℕ → EntryInfo
+  entry i u = record { number = i; unread = u }
+
+  same-entry : (i j : ℕ) (u v : Option ℕ) → i ≡ j → u ≡ v → entry i u ≡ entry j v
+  same-entry i j u v e f = ap (λ (x : ℕ). entry x u) e ∙ ap (λ (x : Option ℕ). entry j x) f
+
   pub ToldOn-more : (holds holds' : State → Type 0) (Lists Lists' : List Entry → Type 0) (document : Document)
       (script now next old mid new : Option (List ℕ)) (first : State)
-      (line : List ℕ) (n refused refused' studies studies' : ℕ) (told : LineOutcome)
-      (r : ToldOn holds Lists script now old mid first n refused studies)
+      (line : List ℕ) (n refused refused' studies studies' : ℕ) (unread unread' : Option ℕ) (told : LineOutcome)
+      (r : ToldOn holds Lists script now old mid first n refused studies unread)
       → TakesLine now next true line → length line ≤ 1024
       → Adds (IsAdded tells refusal remark r.point line) holds' mid new told
       → refused' ≡ refused + refusal_count told → studies' ≡ studies + study_count told
+      → unread' ≡ unread_after unread (n + 1) line told
       → ((s : State) → holds' s → document ≡ s.document)
-      → ((more : List Entry) → Lists more → Lists' (more ++ listed_in line told document (studies + 1)))
-      → ToldOn holds' Lists' script next old new first (n + 1) refused' studies'
-  ToldOn-more holds holds' Lists Lists' document script now next old mid new first line n refused refused' studies studies' told r t short
-      (a, is, wrote, held, same) k j seen l =
+      → ((more : List Entry) → Lists more → Lists' (more ++ listed_in line told document (record { number = studies + 1; unread = unread })))
+      → ToldOn holds' Lists' script next old new first (n + 1) refused' studies' unread'
+  ToldOn-more holds holds' Lists Lists' document script now next old mid new first line n refused refused' studies studies' unread unread' told r t short
+      (a, is, wrote, held, same) k j u seen l =
       let counts = counts-more r.point line a (line_kind line) is in
       record {
         point = a.after;
         told = told_more Lists Lists' script now next old mid new first r.point line a n refused refused' r.told t short is wrote
             (k ∙ ap (λ (x : LineOutcome). refused + refusal_count x) same)
             (λ more h. subst (λ (x : List Entry). Lists' (more ++ x))
-            (listed-same line told a.told document a.after.state.document (studies + 1) a.after.studies same (seen a.after.state held)
-            (λ one. ap (λ i. i + 1) r.studies_are ∙ ap (λ i. r.point.studies + i) (sym one) ∙ sym counts.1)) (l more h));
+            (listed-same line told a.told document a.after.state.document (record { number = studies + 1; unread = unread }) (last_entry a.after)
+            same (seen a.after.state held)
+            (λ one. same-entry (studies + 1) a.after.studies unread a.after.unread
+            (ap (λ i. i + 1) r.studies_are ∙ ap (λ i. r.point.studies + i) (sym one) ∙ sym counts.1)
+            (r.unread_is ∙ sym (study-unread r.point.unread (suc r.point.lines) line a.told one) ∙ sym counts.2))) (l more h));
         held = held;
         lines_are = ap (λ i. i + 1) r.lines_are ∙ omega arith ∙ sym counts.0;
+        unread_is = u ∙ ap (λ (x : LineOutcome). unread_after unread (n + 1) line x) same
+            ∙ ap (λ (x : Option ℕ). unread_after x (n + 1) line a.told) r.unread_is
+            ∙ ap (λ i. unread_after r.point.unread i line a.told) (ap (λ i. i + 1) r.lines_are ∙ omega arith) ∙ sym counts.2;
         studies_are = j ∙ ap (λ (x : LineOutcome). studies + study_count x) same ∙ ap (λ i. i + study_count a.told) r.studies_are ∙ sym counts.1;
       }
 
@@ -455,7 +478,7 @@ few-told AStudy = (omega arith, omega arith)
 few-told ARefusal = (omega arith, omega arith)
 
 -- there is no memory for the first line
-pub none_before : (tells : PlainStudy → ℕ → List ℕ → Type 0) (refusal : ℕ → List ℕ → List ℕ → List ℕ)
+pub none_before : (tells : PlainStudy → EntryInfo → List ℕ → Type 0) (refusal : ℕ → List ℕ → List ℕ → List ℕ)
     (remark : List ℕ → List ℕ) (Has : List Entry → Type 0)
     (told : List Entry) (script out : Option (List ℕ)) (first : State) → Has told
     → IfSome script (λ bytes. AreListedBefore tells refusal remark first bytes out out (λ more. Has (told ++ more)) OutOfMemory)

@@ -15,10 +15,16 @@ use Rattle.study_script.specs.SessionHolds.{Answered}
 use Rattle.study_report.specs.declared.line_kind.LineKind.TheVariants.{Study, Checked}
 use Rattle.study_report.specs.declared.line_outcome.LineOutcome.{LineOutcome}
 use Rattle.study_report.specs.declared.line_outcome.LineOutcome.TheVariants.{Nothing, Study as AStudy, Refusal as ARefusal}
-use Rattle.study_report.specs.Told.{study_count, Entry, games_in, listed_in}
+use Rattle.study_facts.specs.declared.entry.EntryInfo.{EntryInfo}
+use Rattle.study_report.specs.declared.line_outcome.ReportPosition.{ReportPosition}
+use Rattle.study_report.specs.Told.{study_count, Entry, entry_at, next_entry, IsAt, games_in, listed_in}
 use Rattle.study_report.specs.Told.{Point, Added, IsLeftOut, IsStudyTold, IsAddedAs, IsPgnAfter, IsCheckedAfter}
 use Rattle.study_report.specs.Told.{nothing_added, study_added, refusal_added, remark_added}
 use Rattle.study_report.specs.Written.{Adds, Stops, StopsIn, IsSection, IsSectionPart, IsReplied}
+
+-- the next study is the entry of the next line
+pub at-next : (p : Point) (at : ReportPosition) → IsAt p at → entry_at at ≡ next_entry p
+at-next p at (lines, studies, unread) = let n : at.studies + 1 ≡ suc p.studies = omega (arith, studies) in cc
 
 -- what holds of every text written for a refusal
 abbrev pub RefusalWritten : List ℕ → Option (List ℕ) → Option (List ℕ) → LineOutcome → Type 0
@@ -34,37 +40,37 @@ refusal-none r text old new h =
 abbrev pub RemarkWritten : List ℕ → Option (List ℕ) → Option (List ℕ) → LineOutcome → Type 0
 RemarkWritten text old new told = (told ≡ Nothing) × Appends old new text
 
-none-in : (line : List ℕ) (t : LineOutcome) (document : Document) (number : ℕ) → games_in line ≡ [] → study_count t ≡ 0
-    → listed_in line t document number ≡ []
-none-in line Nothing document number none e = none
-none-in line AStudy document number none e = absurd cc
-none-in line ARefusal document number none e = refl
+none-in : (line : List ℕ) (t : LineOutcome) (document : Document) (info : EntryInfo) → games_in line ≡ [] → study_count t ≡ 0
+    → listed_in line t document info ≡ []
+none-in line Nothing document info none e = none
+none-in line AStudy document info none e = absurd cc
+none-in line ARefusal document info none e = refl
 
 pub nothing-listed : (Lists : List Entry → Type 0) (told : List Entry) → Lists told → Lists (told ++ [])
 nothing-listed Lists told kept = subst Lists (sym (append-nil told)) kept
 
 -- if the line is no remark of a game, and no study was reported, the list is unchanged
-pub none-listed : (Lists : List Entry → Type 0) (r : Result LineOutcome RunFault) (told : List Entry) (line : List ℕ) (document : Document) (number : ℕ)
-    → games_in line ≡ [] → IfOk r (λ t. study_count t ≡ 0) → Lists told → IfOk r (λ t. Lists (told ++ listed_in line t document number))
-none-listed Lists r told line document number none h kept =
-    IfOk-weaker r (λ t. study_count t ≡ 0) (λ t. Lists (told ++ listed_in line t document number))
-    (λ t e. subst (λ (x : List Entry). Lists (told ++ x)) (sym (none-in line t document number none e)) (nothing-listed Lists told kept)) h
+pub none-listed : (Lists : List Entry → Type 0) (r : Result LineOutcome RunFault) (told : List Entry) (line : List ℕ) (document : Document) (info : EntryInfo)
+    → games_in line ≡ [] → IfOk r (λ t. study_count t ≡ 0) → Lists told → IfOk r (λ t. Lists (told ++ listed_in line t document info))
+none-listed Lists r told line document info none h kept =
+    IfOk-weaker r (λ t. study_count t ≡ 0) (λ t. Lists (told ++ listed_in line t document info))
+    (λ t e. subst (λ (x : List Entry). Lists (told ++ x)) (sym (none-in line t document info none e)) (nothing-listed Lists told kept)) h
 
 -- a refusal leaves it unchanged
-pub refusal-listed : (Lists : List Entry → Type 0) (r : Result LineOutcome RunFault) (told : List Entry) (line : List ℕ) (document : Document) (number : ℕ)
+pub refusal-listed : (Lists : List Entry → Type 0) (r : Result LineOutcome RunFault) (told : List Entry) (line : List ℕ) (document : Document) (info : EntryInfo)
     (text : List ℕ) (old new : Option (List ℕ)) → IfOk r (RefusalWritten text old new) → Lists told
-    → IfOk r (λ t. Lists (told ++ listed_in line t document number))
-refusal-listed Lists r told line document number text old new h kept =
-    IfOk-weaker r (RefusalWritten text old new) (λ t. Lists (told ++ listed_in line t document number))
-    (λ t (e, wrote). subst (λ (x : LineOutcome). Lists (told ++ listed_in line x document number)) (sym e) (nothing-listed Lists told kept)) h
+    → IfOk r (λ t. Lists (told ++ listed_in line t document info))
+refusal-listed Lists r told line document info text old new h kept =
+    IfOk-weaker r (RefusalWritten text old new) (λ t. Lists (told ++ listed_in line t document info))
+    (λ t (e, wrote). subst (λ (x : LineOutcome). Lists (told ++ listed_in line x document info)) (sym e) (nothing-listed Lists told kept)) h
 
 -- a remark adds the game that was left out
-pub remark-listed : (Lists : List Entry → Type 0) (r : Result LineOutcome RunFault) (told : List Entry) (line : List ℕ) (document : Document) (number : ℕ)
+pub remark-listed : (Lists : List Entry → Type 0) (r : Result LineOutcome RunFault) (told : List Entry) (line : List ℕ) (document : Document) (info : EntryInfo)
     (text : List ℕ) (old new : Option (List ℕ)) → IfOk r (RemarkWritten text old new) → IfOk r (λ t. Lists (told ++ games_in line))
-    → IfOk r (λ t. Lists (told ++ listed_in line t document number))
-remark-listed Lists (Ok t) told line document number text old new (e, wrote) kept =
-    subst (λ (x : LineOutcome). Lists (told ++ listed_in line x document number)) (sym e) kept
-remark-listed Lists (Err fault) told line document number text old new h kept = tt
+    → IfOk r (λ t. Lists (told ++ listed_in line t document info))
+remark-listed Lists (Ok t) told line document info text old new (e, wrote) kept =
+    subst (λ (x : LineOutcome). Lists (told ++ listed_in line x document info)) (sym e) kept
+remark-listed Lists (Err fault) told line document info text old new h kept = tt
 
 pub adds-weaker : (I J : Added → Type 0) (H K : State → Type 0) (r : Result LineOutcome RunFault) (old new : Option (List ℕ)) → ((a : Added) → I a → J a)
     → ((s : State) → H s → K s) → IfOk r (Adds I H old new) → IfOk r (Adds J K old new)
@@ -91,7 +97,7 @@ stops-in I a old new ReadDevice is h = absurd h
 stops-in I a old new (LineTooLong n) is h = absurd h
 stops-in I a old new TooManyLines is h = absurd h
 
-module _ (tells : PlainStudy → ℕ → List ℕ → Type 0) (refusal : ℕ → List ℕ → List ℕ → List ℕ) (remark : List ℕ → List ℕ) where
+module _ (tells : PlainStudy → EntryInfo → List ℕ → Type 0) (refusal : ℕ → List ℕ → List ℕ → List ℕ) (remark : List ℕ → List ℕ) where
   -- a refusal is written, from the number of the line and the bytes of its reply
   pub refusal-adds : (I : Added → Type 0) (H : State → Type 0) (p : Point) (line : List ℕ) (reply : Reply) (number : ℕ) (bytes : List ℕ)
       (r : Result LineOutcome RunFault) (old new : Option (List ℕ)) → number ≡ suc p.lines → bytes ≡ reply.text
@@ -128,21 +134,19 @@ module _ (tells : PlainStudy → ℕ → List ℕ → Type 0) (refusal : ℕ →
       (λ fault. stops-in I (remark_added tells refusal remark p line) old new fault is) h
 
   -- the study in the document is written
-  pub section-adds : (H : State → Type 0) (p : Point) (s : State) (line : List ℕ) (number studies : ℕ) (plain : PlainStudy) (old new : Option (List ℕ))
-      → s.document ≡ study plain → number ≡ suc studies → studies ≡ p.studies → H s → IsSection tells s.document number old new
+  pub section-adds : (H : State → Type 0) (p : Point) (s : State) (line : List ℕ) (info : EntryInfo) (plain : PlainStudy) (old new : Option (List ℕ))
+      → s.document ≡ study plain → info ≡ next_entry p → H s → IsSection tells s.document info old new
       → Adds (IsStudyTold tells refusal remark p s line) H old new AStudy
-  section-adds H p s line number studies plain old new b n k held sec =
-      let there = subst (λ (x : Document). IsSection tells x number old new) b sec in
-      let at : number ≡ suc p.studies = n ∙ ap suc k in
-      (study_added p s there.0, inl (plain, there.0, b, subst (λ i. tells plain i there.0) at there.1, refl), there.2, held, refl)
+  section-adds H p s line info plain old new b k held sec =
+      let there = subst (λ (x : Document). IsSection tells x info old new) b sec in
+      (study_added p line s there.0, inl (plain, there.0, b, subst (λ i. tells plain i there.0) k there.1, refl), there.2, held, refl)
 
-  pub section-stops : (p : Point) (s : State) (line : List ℕ) (number studies : ℕ) (plain : PlainStudy) (old new : Option (List ℕ))
-      → s.document ≡ study plain → number ≡ suc studies → studies ≡ p.studies → IsSectionPart tells s.document number old new
+  pub section-stops : (p : Point) (s : State) (line : List ℕ) (info : EntryInfo) (plain : PlainStudy) (old new : Option (List ℕ))
+      → s.document ≡ study plain → info ≡ next_entry p → IsSectionPart tells s.document info old new
       → Stops (IsStudyTold tells refusal remark p s line) old new WriteDevice
-  section-stops p s line number studies plain old new b n k sec =
-      let there = subst (λ (x : Document). IsSectionPart tells x number old new) b sec in
-      let at : number ≡ suc p.studies = n ∙ ap suc k in
-      (study_added p s there.0, inl (plain, there.0, b, subst (λ i. tells plain i there.0) at there.1, refl), there.2)
+  section-stops p s line info plain old new b k sec =
+      let there = subst (λ (x : Document). IsSectionPart tells x info old new) b sec in
+      (study_added p line s there.0, inl (plain, there.0, b, subst (λ i. tells plain i there.0) k there.1, refl), there.2)
 
   -- a study that is refused
   pub left-out : (p : Point) (s : State) (line : List ℕ) (plain : PlainStudy) (why : Refusal) → s.document ≡ study plain → IsLeftOut s plain why
@@ -184,7 +188,7 @@ module _ (tells : PlainStudy → ℕ → List ℕ → Type 0) (refusal : ℕ →
   pub checked-nothing : (H : State → Type 0) (p : Point) (line : List ℕ) (bytes : List ℕ) (was : Bool) (out : Option (List ℕ))
       → was ≡ false → IsReplied p.state line H bytes was → Adds (IsAddedAs tells refusal remark Checked p line) H out out Nothing
   checked-nothing H p line bytes was out was-false (o, reply, is, b, held, same) =
-      let a = nothing_added p reply.state in
+      let a = nothing_added p line reply.state in
       (a, (o, reply, is, subst (λ x. IsCheckedAfter tells refusal remark p line reply x a) (sym (sym same ∙ was-false)) refl), Appends-nil out, held, refl)
 
 -- the reply that a session wrote into memory

@@ -12,6 +12,7 @@ use Rattle.study_script.specs.declared.running.RunFault.TheVariants.{ReadDevice,
 use Rattle.study_script.specs.State.{State, empty}
 use Rattle.study_material.specs.declared.class.Class.{Class}
 use Rattle.study_script.specs.Outcome.{AreShort, AreLeft, Shape as ScriptShape}
+use Rattle.study_facts.specs.declared.entry.EntryInfo.{EntryInfo}
 use Rattle.study_report.specs.Told.{Point, Added, IsAdded, refusal_count, Entry, entries_in}
 
 -- no study and no start; the tables of these classes are loaded and may fail in any way; nothing is known of files
@@ -23,9 +24,9 @@ over_tables classes paged = record {
   shelf = record { files = λ c. None; headers = λ c. None; faults = λ c f. true };
 }
 
--- before the first line: no line was read, and no study was reported
+-- before the first line: no line was read or refused, and no study was reported
 abbrev pub begun : State → Point
-begun s = record { state = s; lines = 0; studies = 0 }
+begun s = record { state = s; lines = 0; studies = 0; unread = None }
 
 -- the texts of the lines, one after the other
 abbrev pub report_text : List Added → List ℕ
@@ -40,7 +41,7 @@ abbrev pub point_after : Point → List Added → Point
 point_after p [] = p
 point_after p (a ∷ more) = point_after a.after more
 
-module _ (tells : PlainStudy → ℕ → List ℕ → Type 0) (refusal : ℕ → List ℕ → List ℕ → List ℕ) (remark : List ℕ → List ℕ) where
+module _ (tells : PlainStudy → EntryInfo → List ℕ → Type 0) (refusal : ℕ → List ℕ → List ℕ → List ℕ) (remark : List ℕ → List ℕ) where
   -- the additions of lines, one for each; each line starts at the point after the one before it
   abbrev pub AreAdded : Point → List (List ℕ) → List Added → Type 0
   AreAdded p [] [] = Unit {0}

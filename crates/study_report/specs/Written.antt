@@ -9,6 +9,7 @@ use Rattle.study_script.specs.declared.running.RunFault.TheVariants.{WriteDevice
 use Rattle.study_script.specs.State.{State, Document, empty, start, study, Environment}
 use Rattle.study_script.specs.Replies.{Reply, IsReplyIn}
 use Rattle.study_report.specs.declared.line_outcome.LineOutcome.{LineOutcome}
+use Rattle.study_facts.specs.declared.entry.EntryInfo.{EntryInfo}
 use Rattle.study_report.specs.Told.{Added}
 
 -- no class's file has to be right, since a report opens none
@@ -31,16 +32,16 @@ Stops IsIt old new WriteDevice = (added : Added) × IsIt added × TakesPrefix ol
 Stops IsIt old new OutOfMemory = new ≡ old
 Stops IsIt old new _ = ⊥
 
--- the text of the study in a document, with this number, is appended; without a study nothing is
-abbrev pub IsSection : (PlainStudy → ℕ → List ℕ → Type 0) → Document → ℕ → Option (List ℕ) → Option (List ℕ) → Type 0
-IsSection tells empty number old new = new ≡ old
-IsSection tells (start s) number old new = new ≡ old
-IsSection tells (study plain) number old new = (text : List ℕ) × tells plain number text × Appends old new text
+-- the text of the study in a document, as this entry, is appended; without a study nothing is
+abbrev pub IsSection : (PlainStudy → EntryInfo → List ℕ → Type 0) → Document → EntryInfo → Option (List ℕ) → Option (List ℕ) → Type 0
+IsSection tells empty info old new = new ≡ old
+IsSection tells (start s) info old new = new ≡ old
+IsSection tells (study plain) info old new = (text : List ℕ) × tells plain info text × Appends old new text
 
-abbrev pub IsSectionPart : (PlainStudy → ℕ → List ℕ → Type 0) → Document → ℕ → Option (List ℕ) → Option (List ℕ) → Type 0
-IsSectionPart tells empty number old new = ⊥
-IsSectionPart tells (start s) number old new = ⊥
-IsSectionPart tells (study plain) number old new = (text : List ℕ) × tells plain number text × TakesPrefix old new text
+abbrev pub IsSectionPart : (PlainStudy → EntryInfo → List ℕ → Type 0) → Document → EntryInfo → Option (List ℕ) → Option (List ℕ) → Type 0
+IsSectionPart tells empty info old new = ⊥
+IsSectionPart tells (start s) info old new = ⊥
+IsSectionPart tells (study plain) info old new = (text : List ℕ) × tells plain info text × TakesPrefix old new text
 
 -- these bytes are the text of the reply to a line, the state after it is that of the reply, and the line was refused if the reply says so
 abbrev pub IsReplied : State → List ℕ → (State → Type 0) → List ℕ → Bool → Type 0

@@ -14,6 +14,7 @@ mod report;
 mod report_line;
 mod script_report;
 mod section;
+mod unread;
 
 pub use line_kind::{LineKind, kind_of};
 pub use lines::{Lines, refusal_words};

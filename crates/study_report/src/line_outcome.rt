@@ -2,11 +2,12 @@
 ghost use Rattle.std.specs.Prelude.{◌≡◌};
 ghost use Rattle.study_report.specs.Told.{study_count, refusal_count};
 
-/// The number of a line, and the number of studies reported before it.
-#[derive(Clone, Copy, Debug, PartialEq, Eq)]
+/// The number of a line, the number of studies reported before it, and the first refused edit of the study in the document.
+#[derive(Clone, Copy, Debug)]
 pub struct ReportPosition {
     pub line: u32,
     pub studies: u32,
+    pub unread: Option<u32>,
 }
 
 /// The outcome of one line.

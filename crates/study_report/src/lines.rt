@@ -8,7 +8,7 @@ use crate::report::Report;
 use itoa::Buffer;
 use std::alloc::Allocator;
 use std::io::Write;
-use study_facts::{ReviewFault, WriteFault};
+use study_facts::{EntryInfo, ReviewFault, WriteFault};
 use study_marks::Bench;
 use study_review::write_review;
 use study_text::{DeviceFailed, write_text};
@@ -19,10 +19,9 @@ use study_values::Values;
 pub struct Lines;
 
 impl Report for Lines {
-    ghost use Rattle.study_review.specs.Review.{IsReviewOf};
-    ghost use Rattle.study_report.specs.Lines.{IsReviewForm};
+    ghost use Rattle.study_report.specs.Lines.{IsReviewAs, IsReviewForm};
 
-    ghost tells = { λ plain number text. IsReviewOf plain number text };
+    ghost tells = { λ plain info text. IsReviewAs plain info text };
 
     ghost form = { λ number text. IsReviewForm number text };
 
@@ -38,10 +37,10 @@ impl Report for Lines {
         alloc: &'a A,
         bench: &Bench<'b, B>,
         values: &mut V,
-        number: u32,
+        info: EntryInfo,
         out: &mut W,
     ) -> Result<(), ReviewFault> {
-        write_review(alloc, bench, values, number, out)
+        write_review(alloc, bench, values, info.number, out)
     }
 
     fn add_refusal<'a, A: Allocator, W: Write>(

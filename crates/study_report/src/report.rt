@@ -8,18 +8,19 @@ ghost use Rattle.study_marks.specs.BenchState.{marked, IsKeptRight};
 ghost use Rattle.study_marks.specs.Study.{plain_study};
 ghost use Rattle.study_facts.specs.Asked.{within};
 ghost use Rattle.study_facts.specs.Order.{HasReviewed};
+ghost use Rattle.study_facts.specs.declared.entry.EntryInfo.{EntryInfo as AnEntry};
 ghost use Rattle.study_report.specs.Told.{Entry, study_entry, games_in};
 
 use std::alloc::Allocator;
 use std::io::Write;
-use study_facts::{ReviewFault, WriteFault};
+use study_facts::{EntryInfo, ReviewFault, WriteFault};
 use study_marks::Bench;
 use study_values::Values;
 
 /// The text of a report for a study, for a refused line, and for a remark.
 pub trait Report {
-    /// The text reports the study of this number.
-    ghost tells: { PlainStudy → ℕ → List ℕ → Type 0 };
+    /// The text reports the study as this entry.
+    ghost tells: { PlainStudy → AnEntry → List ℕ → Type 0 };
 
     /// The form of each text for the study of this number, whatever its values are.
     ghost form: { ℕ → List ℕ → Type 0 };
@@ -34,24 +35,24 @@ pub trait Report {
     /// in which they were reported.
     ghost lists: { Self → List Entry → Type 0 };
 
-    /// Reports the study of this number. Nothing is written before its last value was probed.
+    /// Reports the study as this entry. Nothing is written before its last value was probed.
     fn add_study<'a, 'b, A: Allocator, B: Allocator, V: Values, W: Write>(
         &mut self,
         alloc: &'a A,
         bench: &Bench<'b, B>,
         values: &mut V,
-        number: u32,
+        info: EntryInfo,
         out: &mut W,
     ) -> Result<(), ReviewFault>
         ensures told { V.source.is_honest values.old → IsKeptRight bench.now
             → OnOk result ((text : List ℕ)
-            × tells (plain_study (marked bench.now)) number text
+            × tells (plain_study (marked bench.now)) info text
             × Appends (W.contents out.old) (W.contents out.new) text) }
-        ensures formed { OnOk result ((text : List ℕ) × form number text
+        ensures formed { OnOk result ((text : List ℕ) × form info.number text
             × Appends (W.contents out.old) (W.contents out.new) text) }
         ensures device { V.source.is_honest values.old → IsKeptRight bench.now
             → result ≡ Err ReviewFault.Device → (text : List ℕ)
-            × tells (plain_study (marked bench.now)) number text
+            × tells (plain_study (marked bench.now)) info text
             × TakesPrefix (W.contents out.old) (W.contents out.new) text }
         ensures memory { result ≡ Err ReviewFault.OutOfMemory → out.new ≡ out.old }
         ensures untold { (fault : AProbeFault)
@@ -59,7 +60,7 @@ pub trait Report {
         ensures listed { (told : List Entry) → V.source.is_honest values.old
             → IsKeptRight bench.now → lists self.old told
             → OnOk result
-            (lists self.new (told ++ study_entry (plain_study (marked bench.now)) number ∷ [])) }
+            (lists self.new (told ++ study_entry (plain_study (marked bench.now)) info ∷ [])) }
         ensures unlisted { (told : List Entry) → lists self.old told
             → OnErr result (lists self.new told) }
         ensures asked { HasReviewed (within (marked bench.now).start.position V.source)

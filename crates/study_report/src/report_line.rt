@@ -9,7 +9,7 @@ ghost use Rattle.study_script.specs.State.{State, study};
 ghost use Rattle.study_script.specs.SessionHolds.{Holds, document_seen};
 ghost use Rattle.study_script.specs.Session.{SessionHolds};
 ghost use Rattle.study_script.specs.Stores.{HonestOn, IsTrusted};
-ghost use Rattle.study_report.specs.Told.{Point, line_kind, IsAdded, IsAddedAs, IsAt, IsStudyTold, study_count, Entry, games_in, listed_in};
+ghost use Rattle.study_report.specs.Told.{Point, line_kind, IsAdded, IsAddedAs, IsAt, IsStudyTold, study_count, Entry, entry_at, games_in, listed_in};
 ghost use Rattle.study_report.specs.Written.{none_trusted, Adds, StopsIn, Stops, IsReplied};
 ghost use Rattle.study_report.specs.Parts.{IsReplyPiece, IsPart, IsPartAs, WritesPart};
 
@@ -19,7 +19,7 @@ use crate::report::Report;
 use crate::section::{add_section, lacks_study};
 use std::alloc::Allocator;
 use std::io::Write;
-use study_facts::{ReviewFault, WriteFault};
+use study_facts::{EntryInfo, ReviewFault, WriteFault};
 use study_reply::{Refusal, of_probe, write_refusal};
 use study_script::{Document, RunFault, Session, TableStore, Tables};
 use study_tablefile::PageSource;
@@ -196,7 +196,7 @@ fn report_study<'a, P: PageSource, A: Allocator, W: Write, T: Report>(
     ensures listed { (s : State) (told : List Entry)
         → Holds P.honest P.gives document.now tables.old s → T.lists report.old told
         → IfOk result (λ t.
-        T.lists report.new (told ++ listed_in line.now t s.document (at.studies + 1))) }
+        T.lists report.new (told ++ listed_in line.now t s.document (entry_at at))) }
     ensures unlisted { (told : List Entry) → T.lists report.old told
         → IfErr result (λ e. T.lists report.new told) }
     ensures written { IfOk result
@@ -208,7 +208,11 @@ fn report_study<'a, P: PageSource, A: Allocator, W: Write, T: Report>(
     if lacks_study(document) {
         return refuse_line(alloc, report, at.line, line, Refusal::NoStudy, out);
     }
-    match add_section(alloc, document, tables, report, at.studies + 1, out) {
+    let info = EntryInfo {
+        number: at.studies + 1,
+        unread: at.unread,
+    };
+    match add_section(alloc, document, tables, report, info, out) {
         Ok(()) => Ok(LineOutcome::Study),
         Err(ReviewFault::Device) => Err(RunFault::WriteDevice),
         Err(ReviewFault::OutOfMemory) => {
@@ -254,7 +258,7 @@ fn add_pgn<'a, 's, S: TableStore, A: Allocator, W: Write, T: Report>(
         → T.lists report.old told
         → IfOk result (λ t.
         T.lists report.new
-        (told ++ listed_in line.now t (document_seen session.new.document) (at.studies + 1))) }
+        (told ++ listed_in line.now t (document_seen session.new.document) (entry_at at))) }
     ensures unlisted { (told : List Entry) → T.lists report.old told
         → IfErr result (λ e. T.lists report.new told) }
     ensures written { IfOk result
@@ -314,7 +318,7 @@ pub fn add_line<'a, 's, S: TableStore, A: Allocator, W: Write, T: Report>(
         → T.lists report.old told
         → IfOk result (λ t.
         T.lists report.new
-        (told ++ listed_in line.now t (document_seen session.new.document) (at.studies + 1))) }
+        (told ++ listed_in line.now t (document_seen session.new.document) (entry_at at))) }
     ensures unlisted { (told : List Entry) → T.lists report.old told
         → IfErr result (λ e. T.lists report.new told) }
     ensures written { IfOk result

@@ -14,6 +14,7 @@ use crate::line_outcome::ReportPosition;
 use crate::no_files::NoFiles;
 use crate::report::Report;
 use crate::report_line::add_line;
+use crate::unread::unread_after;
 use std::alloc::Allocator;
 use std::io::{Read, Write};
 use study_command::{Line, LineFault, read_byte};
@@ -74,6 +75,7 @@ pub fn follow<'a, 's, R: Read, W: Write, S: TableStore, A: Allocator, T: Report>
 {
     let mut refused = 0u32;
     let mut studies = 0u32;
+    let mut unread = None;
     for n in 0..100_000u32 {
         match line.read(script) {
             Err(LineFault::Device) => return Err(RunFault::ReadDevice),
@@ -84,12 +86,14 @@ pub fn follow<'a, 's, R: Read, W: Write, S: TableStore, A: Allocator, T: Report>
         let at = ReportPosition {
             line: n + 1,
             studies,
+            unread,
         };
         match add_line(session, report, at, line.as_slice(), out) {
             Err(fault) => return Err(fault),
             Ok(told) => {
                 studies += told.studies();
                 refused += told.refusals();
+                unread = unread_after(unread, n + 1, line.as_slice(), told);
             }
         }
     }

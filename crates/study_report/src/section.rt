@@ -16,31 +16,31 @@ ghost use Rattle.study_report.specs.Written.{IsSection, IsSectionPart};
 use crate::report::Report;
 use std::alloc::Allocator;
 use std::io::Write;
-use study_facts::ReviewFault;
+use study_facts::{EntryInfo, ReviewFault};
 use study_marks::Bench;
 use study_script::{Document, Tables};
 use study_tablefile::PageSource;
 use study_values::Values;
 
-/// Reports the study on the bench, by whole tables or by pages.
+/// Reports the study on the bench as this entry, by whole tables or by pages.
 pub fn add_study<'a, P: PageSource, A: Allocator, W: Write, T: Report>(
     alloc: &'a A,
     bench: &Bench<'a, A>,
     tables: &mut Tables<'a, P, A>,
     report: &mut T,
-    number: u32,
+    info: EntryInfo,
     out: &mut W,
 ) -> Result<(), ReviewFault>
     // Many clauses: what is reported, why nothing is, and what stays of the tables.
     ensures told { tables_honest P.honest tables.old → IsKeptRight bench.now
         → OnOk result ((text : List ℕ)
-        × T.tells (plain_study (marked bench.now)) number text
+        × T.tells (plain_study (marked bench.now)) info text
         × Appends (W.contents out.old) (W.contents out.new) text) }
-    ensures formed { OnOk result ((text : List ℕ) × T.form number text
+    ensures formed { OnOk result ((text : List ℕ) × T.form info.number text
         × Appends (W.contents out.old) (W.contents out.new) text) }
     ensures device { tables_honest P.honest tables.old → IsKeptRight bench.now
         → result ≡ Err ReviewFault.Device → (text : List ℕ)
-        × T.tells (plain_study (marked bench.now)) number text
+        × T.tells (plain_study (marked bench.now)) info text
         × TakesPrefix (W.contents out.old) (W.contents out.new) text }
     ensures memory { result ≡ Err ReviewFault.OutOfMemory → out.new ≡ out.old }
     ensures untold { (fault : AProbeFault)
@@ -48,7 +48,7 @@ pub fn add_study<'a, P: PageSource, A: Allocator, W: Write, T: Report>(
     ensures listed { (told : List Entry) → tables_honest P.honest tables.old
         → IsKeptRight bench.now → T.lists report.old told
         → OnOk result
-        (T.lists report.new (told ++ study_entry (plain_study (marked bench.now)) number ∷ [])) }
+        (T.lists report.new (told ++ study_entry (plain_study (marked bench.now)) info ∷ [])) }
     ensures unlisted { (told : List Entry) → T.lists report.old told
         → OnErr result (T.lists report.new told) }
     ensures why { (fault : AProbeFault) → tables_honest P.honest tables.old
@@ -63,35 +63,35 @@ pub fn add_study<'a, P: PageSource, A: Allocator, W: Write, T: Report>(
 {
     let first = bench.start();
     match tables {
-        Tables::Whole(tables) => report.add_study(alloc, bench, tables, number, out),
-        Tables::Paged(tables) => report.add_study(alloc, bench, tables, number, out),
+        Tables::Whole(tables) => report.add_study(alloc, bench, tables, info, out),
+        Tables::Paged(tables) => report.add_study(alloc, bench, tables, info, out),
     }
 }
 
-/// Reports the study in the document.
+/// Reports the study in the document as this entry.
 pub fn add_section<'a, P: PageSource, A: Allocator, W: Write, T: Report>(
     alloc: &'a A,
     document: &Document<'a, A>,
     tables: &mut Tables<'a, P, A>,
     report: &mut T,
-    number: u32,
+    info: EntryInfo,
     out: &mut W,
 ) -> Result<(), ReviewFault>
     ensures told { (s : State) → Holds P.honest P.gives document.now tables.old s
         → OnOk result
-        (IsSection T.tells s.document number (W.contents out.old) (W.contents out.new)) }
+        (IsSection T.tells s.document info (W.contents out.old) (W.contents out.new)) }
     ensures formed { lacks_study (document_seen document.now) ≡ false
-        → OnOk result ((text : List ℕ) × T.form number text
+        → OnOk result ((text : List ℕ) × T.form info.number text
         × Appends (W.contents out.old) (W.contents out.new) text) }
     ensures device { (s : State) → Holds P.honest P.gives document.now tables.old s
         → result ≡ Err ReviewFault.Device
-        → IsSectionPart T.tells s.document number (W.contents out.old) (W.contents out.new) }
+        → IsSectionPart T.tells s.document info (W.contents out.old) (W.contents out.new) }
     ensures memory { result ≡ Err ReviewFault.OutOfMemory → out.new ≡ out.old }
     ensures untold { (fault : AProbeFault)
         → result ≡ Err (ReviewFault.Values fault) → out.new ≡ out.old }
     ensures listed { (s : State) (told : List Entry)
         → Holds P.honest P.gives document.now tables.old s → T.lists report.old told
-        → OnOk result (T.lists report.new (told ++ studies_on s.document number)) }
+        → OnOk result (T.lists report.new (told ++ studies_on s.document info)) }
     ensures unlisted { (told : List Entry) → T.lists report.old told
         → OnErr result (T.lists report.new told) }
     ensures why { (s : State) (plain : PlainStudy) (fault : AProbeFault)
@@ -101,7 +101,7 @@ pub fn add_section<'a, P: PageSource, A: Allocator, W: Write, T: Report>(
         → Holds P.honest P.gives document.now tables.new s }
 {
     match document {
-        Document::Study(bench) => add_study(alloc, bench, tables, report, number, out),
+        Document::Study(bench) => add_study(alloc, bench, tables, report, info, out),
         Document::Empty => Ok(()),
         Document::Start(_) => Ok(()),
     }

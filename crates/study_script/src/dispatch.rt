@@ -100,7 +100,7 @@ fn clear_after<'a, A: Allocator>(document: &mut Document<'a, A>, line: &[u8], re
 }
 
 /// Whether the first word of a line is `position`.
-fn begins_position(line: &[u8]) -> bool
+pub fn begins_position(line: &[u8]) -> bool
     ensures { result ≡ begins_position line.now }
 {
     match next_word(line) {

@@ -19,6 +19,7 @@ mod table_commands;
 mod table_edits;
 mod tables;
 
+pub use dispatch::begins_position;
 pub use document::Document;
 pub use laws::replies_are_unique;
 pub use memory_store::{MemoryFile, MemoryStore, SharedWriter};

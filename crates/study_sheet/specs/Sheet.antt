@@ -6,6 +6,8 @@ use Rattle.study_script.specs.declared.running.Summary.{Summary}
 use Rattle.study_script.specs.declared.running.RunFault.{RunFault}
 use Rattle.study_script.specs.declared.running.RunFault.TheVariants.{WriteDevice}
 use Rattle.study_script.specs.State.{State}
+use Rattle.study_facts.specs.declared.entry.EntryInfo.{EntryInfo}
+use Rattle.study_marks.specs.Edits.{PlainStudy}
 use Rattle.study_report.specs.Lines.{no_remark}
 use Rattle.study_report.specs.Outcome.{Outcome}
 use Rattle.study_report.specs.Parts.{Fits}
@@ -13,13 +15,17 @@ use Rattle.study_html.specs.Frame.{sheet_opening, closing}
 use Rattle.study_page.specs.Sheet.{IsPlaceOf, IsPlace}
 use Rattle.study_print.specs.Pages.{refusal_text, IsEnded}
 
+-- a place has no stamp, so it is the same whether or not the study was read to its end
+abbrev pub IsPlaceAs : PlainStudy → EntryInfo → List ℕ → Type 0
+IsPlaceAs plain info text = IsPlaceOf plain info.number text
+
 -- A sheet, given the state at the beginning, the bytes of a script, what the reader has left of them, what the writer had and has, and the result: the
 -- opening; in script order the place of each study of an accepted `pgn` line, and each refused line; and the closing.
 abbrev pub IsSheet : State → List ℕ → Option (List ℕ) → Option (List ℕ) → Option (List ℕ) → Result Summary RunFault → Type 0
 IsSheet first script left old new answer =
     ((answer ≡ Err WriteDevice) × (left ≡ Some script) × TakesPrefix old new sheet_opening)
     ⊎ ((begun ended : Option (List ℕ)) × (ran : Result Summary RunFault) × Appends old begun sheet_opening
-    × Outcome IsPlaceOf refusal_text no_remark first script left begun ended ran × IsEnded closing ended new ran answer)
+    × Outcome IsPlaceAs refusal_text no_remark first script left begun ended ran × IsEnded closing ended new ran answer)
 
 -- What is written of a sheet, whatever the state: the opening, the places and the refusals of the lines, with as many refusals as are counted, and the
 -- closing.

@@ -1,6 +1,7 @@
 //! A report as a sheet of diagrams.
 use std::alloc::Allocator;
 use std::io::Write;
+use study_facts::EntryInfo;
 use study_marks::Bench;
 use study_page::{write_place, write_refusal};
 use study_print::refusal_name;
@@ -15,9 +16,10 @@ pub struct Sheet;
 impl Report for Sheet {
     ghost use Rattle.study_report.specs.Lines.{no_remark};
     ghost use Rattle.study_print.specs.Pages.{refusal_text};
-    ghost use Rattle.study_page.specs.Sheet.{IsPlaceOf, IsPlace};
+    ghost use Rattle.study_page.specs.Sheet.{IsPlace};
+    ghost use Rattle.study_sheet.specs.Sheet.{IsPlaceAs};
 
-    ghost tells = { λ plain number text. IsPlaceOf plain number text };
+    ghost tells = { λ plain info text. IsPlaceAs plain info text };
 
     ghost form = { λ number text. IsPlace number text };
 
@@ -34,10 +36,10 @@ impl Report for Sheet {
         alloc: &'a A,
         bench: &Bench<'b, B>,
         _values: &mut V,
-        number: u32,
+        info: EntryInfo,
         out: &mut W,
     ) -> Result<(), ReviewFault> {
-        match write_place(alloc, bench, number, out) {
+        match write_place(alloc, bench, info.number, out) {
             Ok(()) => Ok(()),
             Err(WriteFault::OutOfMemory) => Err(ReviewFault::OutOfMemory),
             Err(WriteFault::Device) => Err(ReviewFault::Device),

@@ -8,7 +8,7 @@ use Rattle.study_script.specs.Written.{Fits}
 use Rattle.study_script.specs.State.{State}
 use Rattle.study_report.specs.Lines.{no_remark}
 use Rattle.study_report.specs.Outcome.{Outcome as ReportOutcome, Shape}
-use Rattle.study_review.specs.Review.{IsReviewOf}
+use Rattle.study_report.specs.Lines.{IsReviewAs}
 use Rattle.study_web.specs.Answers.{IsOwn, IsUnread}
 use Rattle.study_web.specs.Views.{refused_line}
 
@@ -46,9 +46,9 @@ own_outcome first script text written left ran told is (inl (same, ended)) = (le
 own_outcome first script text written left ran told is (inr (none, ended)) = rw (none, ended) (Some script, (refl, refl))
 
 pub own_review : (first : State) (script text written : List ℕ) (left : Option (List ℕ)) (ran told : Result Summary RunFault)
-    → ReportOutcome IsReviewOf refused_line no_remark first script left (Some []) (Some written) ran
+    → ReportOutcome IsReviewAs refused_line no_remark first script left (Some []) (Some written) ran
     → ((text ≡ written) × (told ≡ ran)) ⊎ ((text ≡ []) × (told ≡ Err OutOfMemory))
-    → (left : Option (List ℕ)) × ReportOutcome IsReviewOf refused_line no_remark first script left (Some []) (Some text) told
+    → (left : Option (List ℕ)) × ReportOutcome IsReviewAs refused_line no_remark first script left (Some []) (Some text) told
 own_review first script text written left ran told is (inl (same, ended)) = (left, rw (same, ended) is)
 own_review first script text written left ran told is (inr (none, ended)) =
     rw (none, ended) (None, (0, omega arith, omega arith, (tt, [], tt, refl)))

@@ -8,6 +8,7 @@ use Rattle.study_command.specs.Lines.{script_lines}
 use Rattle.study_values.specs.declared.fault.SourceFault.{SourceFault}
 use Rattle.study_values.specs.Values.{ValueSource}
 use Rattle.study_values.specs.declared.values.ProbeFault.{ProbeFault}
+use Rattle.study_facts.specs.declared.entry.EntryInfo.{EntryInfo}
 use Rattle.study_facts.specs.Asked.{Stopped, within}
 use Rattle.study_script.specs.declared.store.StoreFault.{StoreFault}
 use Rattle.study_script.specs.State.{Document, empty, start, study, StoreKnowledge, State, is_among}
@@ -25,8 +26,8 @@ abbrev pub refused_line : ℕ → List ℕ → List ℕ → List ℕ
 refused_line number line reply = refusal_line number reply
 
 -- nothing is printed for a study
-abbrev pub tells_nothing : PlainStudy → ℕ → List ℕ → Type 0
-tells_nothing plain number text = text ≡ []
+abbrev pub tells_nothing : PlainStudy → EntryInfo → List ℕ → Type 0
+tells_nothing plain info text = text ≡ []
 
 -- the view of a study at a path; for a start without a stipulation its lines, and for nothing no line; these two have only a root
 abbrev pub IsDocumentView : Document → List ℕ → List ℕ → Type 0

@@ -2,7 +2,7 @@
 
 use std::alloc::Allocator;
 use std::io::Write;
-use study_facts::ReviewFault;
+use study_facts::{EntryInfo, ReviewFault};
 use study_marks::Bench;
 use study_report::{Lines, Report, WriteFault};
 use study_values::Values;
@@ -16,7 +16,7 @@ impl Report for Refusals {
     ghost use Rattle.study_report.specs.Lines.{refusal_line, no_remark};
     ghost use Rattle.study_web.specs.Views.{tells_nothing};
 
-    ghost tells = { λ plain number text. tells_nothing plain number text };
+    ghost tells = { λ plain info text. tells_nothing plain info text };
 
     ghost form = { λ number text. text ≡ [] };
 
@@ -32,7 +32,7 @@ impl Report for Refusals {
         _alloc: &'a A,
         _bench: &Bench<'b, B>,
         _values: &mut V,
-        _number: u32,
+        _info: EntryInfo,
         _out: &mut W,
     ) -> Result<(), ReviewFault> {
         Ok(())

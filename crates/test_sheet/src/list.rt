@@ -36,15 +36,43 @@ const LIST: &str = "Number,Title,Author,FEN,Stipulation,Verdict\r
 ,\"game 4, line 52, column 17\",,,,\"NoSuchMove at \"\"Kb6\"\"\"\r
 ";
 
+/// Studies of which a question, a move, a tag, a line of a table and an unknown command are refused.
+const NOT_READ: &str = "position k7/8/8/8/8/8/8/K7 w - - 0 1
+stipulate white draw
+mark 5
+pgn
+insert root Kb5
+tag Foo x
+pgn
+position k7/8/8/8/8/8/8/K7 b - - 0 5
+load XYZ
+pgn
+insrt root Kb8
+pgn
+";
+
+const NOT_READ_LIST: &str = "Number,Title,Author,FEN,Stipulation,Verdict\r
+,line 3: mark 5,,,,refused: NoSuchNode\r
+1,,,k7/8/8/8/8/8/8/K7 w - - 0 1,White to draw,holds\r
+,line 5: insert root Kb5,,,,refused: NoSuchMove\r
+,line 6: tag Foo x,,,,refused: UnknownTag\r
+2,,,k7/8/8/8/8/8/8/K7 w - - 0 1,White to draw,not read: line 5\r
+,line 9: load XYZ,,,,refused: NotAClass\r
+3,,,k7/8/8/8/8/8/8/K7 b - - 0 5,White to draw,holds\r
+,line 11: insrt root Kb8,,,,refused: UnknownCommand\r
+4,,,k7/8/8/8/8/8/8/K7 b - - 0 5,White to draw,not read: line 11\r
+";
+
 /// The list that is written to this writer, and the result.
 fn list_to<'a>(
     rt: &impl Abort,
     alloc: &'a Global,
+    script: &str,
     mut writer: MemoryWriter<'a, Global>,
 ) -> (Vec<u8, &'a Global>, Result<Summary, RunFault>) {
     let answer = follow_list(
         alloc,
-        &mut MemoryReader::new(SCRIPT.as_bytes()),
+        &mut MemoryReader::new(script.as_bytes()),
         &mut writer,
         two_kings(rt, alloc),
     );
@@ -54,7 +82,7 @@ fn list_to<'a>(
 #[test]
 fn each_study_has_its_record(rt: HostRuntime) -> Result<(), Fail> {
     let alloc = rt.alloc();
-    let (text, answer) = list_to(&rt, &alloc, MemoryWriter::new(&alloc));
+    let (text, answer) = list_to(&rt, &alloc, SCRIPT, MemoryWriter::new(&alloc));
     assert!(rt; std::str::from_utf8(text.as_slice()).unwrap_or("no text") == LIST);
     let wanted = Summary {
         lines: 18,
@@ -64,13 +92,23 @@ fn each_study_has_its_record(rt: HostRuntime) -> Result<(), Fail> {
     Ok(())
 }
 
+/// A study has no verdict if a line of it was refused before its `pgn`: questions and lines of tables are none of it, and the next `position` begins
+/// another study.
+#[test]
+fn a_study_that_is_not_read_has_no_verdict(rt: HostRuntime) -> Result<(), Fail> {
+    let alloc = rt.alloc();
+    let (text, _) = list_to(&rt, &alloc, NOT_READ, MemoryWriter::new(&alloc));
+    assert!(rt; std::str::from_utf8(text.as_slice()).unwrap_or("no text") == NOT_READ_LIST);
+    Ok(())
+}
+
 /// A writer that is full in the head, in a record, and one byte before the end has a prefix of the list.
 #[test]
 fn a_full_writer_has_the_front_of_the_list(rt: HostRuntime) -> Result<(), Fail> {
     let alloc = rt.alloc();
     for room in [3, 60, LIST.len() - 1] {
         let writer = MemoryWriter::with_room(&alloc, room, WhenFull::Fail);
-        let (text, answer) = list_to(&rt, &alloc, writer);
+        let (text, answer) = list_to(&rt, &alloc, SCRIPT, writer);
         assert!(rt; answer == Err(RunFault::WriteDevice));
         assert!(rt; text.len() == room);
         assert!(rt; LIST.as_bytes().starts_with(text.as_slice()));

@@ -24,7 +24,7 @@ returns-clause-text g c h =
       p.5,
       p.6,
       from-nothing _ _ _ c.new-page.ensures c.in_ok-put.ensures
-          ∙ ap (inside (element.Entry c.args.number)) (from-nothing _ _ _ c.new-content.ensures c.in_ok-put_content.ensures),
+          ∙ ap (inside (element.Entry c.args.info.number)) (from-nothing _ _ _ c.new-content.ensures c.in_ok-put_content.ensures),
     )
 
 pub returns-clause-rows : goal.returns-clause-rows

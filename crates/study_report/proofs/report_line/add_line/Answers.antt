@@ -11,7 +11,7 @@ use Rattle.study_script.specs.SessionHolds.{document_seen}
 use Rattle.study_script.specs.Session.{SessionHolds}
 use Rattle.study_script.specs.Stores.{HonestOn}
 use Rattle.study_report.specs.Written.{none_trusted}
-use Rattle.study_report.specs.Told.{line_kind, Entry, IsAdded, IsAddedAs, nothing_added, refusal_added, remark_added}
+use Rattle.study_report.specs.Told.{line_kind, Entry, entry_at, IsAdded, IsAddedAs, nothing_added, refusal_added, remark_added}
 use Rattle.study_report.proofs.LineKinds.{trusted-checked, no-games}
 use Rattle.study_report.proofs.LineAdds.{remark-adds, remark-stops, remark-listed, refusal-adds, refusal-stops}
 use Rattle.study_report.proofs.LineAdds.{adds-weaker, stops-weaker, none-listed, nothing-listed, refusal-listed}
@@ -41,7 +41,7 @@ returns-in-Remark-clause-err g c = λ p held at.
 pub returns-in-Remark-clause-listed : goal.returns-in-Remark-clause-listed
 returns-in-Remark-clause-listed g c = λ p told held kept.
     remark-listed (g.T.Report.lists c.add_remark.new.report) c.add_remark.result told c.args.line.now (document_seen c.args.session.now.document)
-    (c.args.at.studies + 1) _ (g.W.Write.contents _) (g.W.Write.contents c.add_remark.new.out) c.add_remark.ensures.ok
+    (entry_at c.args.at) _ (g.W.Write.contents _) (g.W.Write.contents c.add_remark.new.out) c.add_remark.ensures.ok
     (c.add_remark.ensures.listed told kept)
 
 pub returns-in-Remark-clause-written : goal.returns-in-Remark-clause-written
@@ -53,7 +53,7 @@ returns-in-Remark-clause-written g c =
 pub returns-in-PassedOver-clause-ok : goal.returns-in-PassedOver-clause-ok
 returns-in-PassedOver-clause-ok g c = λ p held at.
     let kind : PassedOver ≡ line_kind c.args.line.now = sym c.in-PassedOver.is ∙ c.kind_of.ensures in
-    let a = nothing_added p p.state in (
+    let a = nothing_added p c.args.line.now p.state in (
       a,
       subst (λ (k : LineKind). IsAddedAs g.T.Report.tells g.T.Report.refusal g.T.Report.remark k p c.args.line.now a) kind refl,
       Appends-nil (g.W.Write.contents c.args.out.now),
@@ -136,7 +136,7 @@ returns-in-PassedOver-clause-listed g c = λ p told held kept.
 pub returns-in-NoClass-clause-listed : goal.returns-in-NoClass-clause-listed
 returns-in-NoClass-clause-listed g c = λ p told held kept.
     refusal-listed (g.T.Report.lists c.refuse_line.new.report) c.refuse_line.result told c.args.line.now (document_seen c.args.session.now.document)
-    (c.args.at.studies + 1) _ (g.W.Write.contents _) (g.W.Write.contents c.refuse_line.new.out) c.refuse_line.ensures.ok
+    (entry_at c.args.at) _ (g.W.Write.contents _) (g.W.Write.contents c.refuse_line.new.out) c.refuse_line.ensures.ok
     (c.refuse_line.ensures.listed told kept)
 
 pub returns-in-Study-clause-listed : goal.returns-in-Study-clause-listed
@@ -148,7 +148,7 @@ pub returns-in-Checked-clause-listed : goal.returns-in-Checked-clause-listed
 returns-in-Checked-clause-listed g c = λ p told held kept.
     let kind : line_kind c.args.line.now ≡ Checked = sym (sym c.in-Checked.is ∙ c.kind_of.ensures) in
     none-listed (g.T.Report.lists c.answer_silently.new.report) c.answer_silently.result told c.args.line.now (document_seen c.answer_silently.new.session.document)
-    (c.args.at.studies + 1) (no-games c.args.line.now Checked (λ e. absurd cc) kind)
+    (entry_at c.args.at) (no-games c.args.line.now Checked (λ e. absurd cc) kind)
     c.answer_silently.ensures.told_none (c.answer_silently.ensures.listed told kept)
 
 pub returns-in-PassedOver-clause-written : goal.returns-in-PassedOver-clause-written

@@ -5,7 +5,7 @@ use Rattle.study_script.specs.Session.{SessionHolds}
 use Rattle.study_script.specs.SessionHolds.{Holds, document_seen}
 use Rattle.study_script.specs.Stores.{HonestOn, StoreSeen}
 use Rattle.study_report.specs.declared.line_kind.LineKind.TheVariants.{Study}
-use Rattle.study_report.specs.Told.{IsAddedAs, IsStudyTold, listed_in}
+use Rattle.study_report.specs.Told.{IsAddedAs, IsStudyTold, entry_at, listed_in}
 use Rattle.study_report.specs.Written.{none_trusted}
 use Rattle.study_report.proofs.LineKinds.{trusted-study, study-finds}
 use Rattle.study_report.proofs.LineAdds.{pgn-refused, pgn-told, replied-adds, replied-stops, adds-weaker, stops-weaker, refusal-listed}
@@ -66,14 +66,14 @@ returns-clause-err g c = λ p kind held at.
 pub returns-then-reply-clause-listed : goal.returns-then-reply-clause-listed
 returns-then-reply-clause-listed g c = λ p told kind held kept.
     refusal-listed (g.T.Report.lists c.add_refusal.new.report) c.add_refusal.result told c.args.line.now (document_seen c.reply_in_memory.new.session.document)
-    (c.args.at.studies + 1) _ (g.W.Write.contents _) (g.W.Write.contents c.add_refusal.new.out) c.add_refusal.ensures.ok
+    (entry_at c.args.at) _ (g.W.Write.contents _) (g.W.Write.contents c.add_refusal.new.out) c.add_refusal.ensures.ok
     (c.add_refusal.ensures.listed told kept)
 
 pub returns-clause-listed : goal.returns-clause-listed
 returns-clause-listed g c = λ p told kind held kept.
     let r = c.in_ok-reply.ensures.ok p.state (trusted-study c.args.line.now kind) held in
     subst (λ (b : Document). IfOk c.report_study.result
-    (λ t. g.T.Report.lists c.report_study.new.report (told ++ listed_in c.args.line.now t b (c.args.at.studies + 1))))
+    (λ t. g.T.Report.lists c.report_study.new.report (told ++ listed_in c.args.line.now t b (entry_at c.args.at))))
     (sym r.4.held.document) (c.report_study.ensures.listed r.1.state told r.4.held kept)
 
 pub returns-then-reply-clause-written : goal.returns-then-reply-clause-written

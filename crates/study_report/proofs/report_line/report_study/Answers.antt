@@ -5,9 +5,9 @@ use Rattle.study_reply.specs.Words.{reply_line}
 use Rattle.study_reply.specs.declared.refusal.Refusal.TheVariants.{OutOfMemory}
 use Rattle.study_script.specs.SessionHolds.{Holds}
 use Rattle.study_script.specs.Replies.{refused}
-use Rattle.study_report.specs.Told.{IsStudyTold}
+use Rattle.study_report.specs.Told.{IsStudyTold, entry_at}
 use Rattle.study_report.specs.Written.{StopsIn}
-use Rattle.study_report.proofs.LineAdds.{RefusalWritten, refusal-adds, refusal-stops, section-adds, section-stops, left-out, refusal-listed}
+use Rattle.study_report.proofs.LineAdds.{RefusalWritten, refusal-adds, refusal-stops, section-adds, section-stops, left-out, refusal-listed, at-next}
 use Rattle.study_report.proofs.PartsWritten.{on-err, no-study, refusal-part, study-in, left-out-part}
 use Rattle.study_script.specs.SessionHolds.{document_seen}
 use Rattle.study_reply.specs.declared.refusal.Refusal.TheVariants.{NoStudy}
@@ -17,12 +17,12 @@ pub returns-in-Ok-clause-ok : goal.returns-in-Ok-clause-ok
 returns-in-Ok-clause-ok g c = λ p s plain held b at. section-adds g.T.Report.tells g.T.Report.refusal g.T.Report.remark
     (λ t. (t ≡ s) × Holds g.P.PageSource.honest g.P.PageSource.gives c.args.document.now c.add_section.new.tables t)
     p s c.args.line.now
-    (c.args.at.studies + 1) c.args.at.studies plain (g.W.Write.contents c.args.out.now) (g.W.Write.contents c.add_section.new.out) b (omega arith) at.1
+    (entry_at c.args.at) plain (g.W.Write.contents c.args.out.now) (g.W.Write.contents c.add_section.new.out) b (at-next p c.args.at at)
     (refl, c.add_section.ensures.holds s held) (c.in-Ok.ensures.told s held)
 
 pub returns-in-Err-Device-clause-err : goal.returns-in-Err-Device-clause-err
 returns-in-Err-Device-clause-err g c = λ p s plain held b at. section-stops g.T.Report.tells g.T.Report.refusal g.T.Report.remark p s c.args.line.now
-    (c.args.at.studies + 1) c.args.at.studies plain (g.W.Write.contents c.args.out.now) (g.W.Write.contents c.add_section.new.out) b (omega arith) at.1
+    (entry_at c.args.at) plain (g.W.Write.contents c.args.out.now) (g.W.Write.contents c.add_section.new.out) b (at-next p c.args.at at)
     (c.in-Err-Device.ensures.device s held cc)
 
 pub returns-in-Err-OutOfMemory-clause-ok : goal.returns-in-Err-OutOfMemory-clause-ok
@@ -79,13 +79,13 @@ returns-in-Err-Values-clause-err g c = λ p s plain held b at.
 
 pub returns-in-Err-OutOfMemory-clause-listed : goal.returns-in-Err-OutOfMemory-clause-listed
 returns-in-Err-OutOfMemory-clause-listed g c s told held kept =
-    refusal-listed (g.T.Report.lists c.refuse_line-in-Err-OutOfMemory.new.report) c.refuse_line-in-Err-OutOfMemory.result told c.args.line.now s.document (c.args.at.studies + 1) _
+    refusal-listed (g.T.Report.lists c.refuse_line-in-Err-OutOfMemory.new.report) c.refuse_line-in-Err-OutOfMemory.result told c.args.line.now s.document (entry_at c.args.at) _
     (g.W.Write.contents _) (g.W.Write.contents c.refuse_line-in-Err-OutOfMemory.new.out) c.refuse_line-in-Err-OutOfMemory.ensures.ok
     (c.refuse_line-in-Err-OutOfMemory.ensures.listed told (c.in-Err-OutOfMemory.ensures.unlisted told kept))
 
 pub returns-in-Err-Values-clause-listed : goal.returns-in-Err-Values-clause-listed
 returns-in-Err-Values-clause-listed g c s told held kept =
-    refusal-listed (g.T.Report.lists c.refuse_line-in-Err-Values.new.report) c.refuse_line-in-Err-Values.result told c.args.line.now s.document (c.args.at.studies + 1) _
+    refusal-listed (g.T.Report.lists c.refuse_line-in-Err-Values.new.report) c.refuse_line-in-Err-Values.result told c.args.line.now s.document (entry_at c.args.at) _
     (g.W.Write.contents _) (g.W.Write.contents c.refuse_line-in-Err-Values.new.out) c.refuse_line-in-Err-Values.ensures.ok
     (c.refuse_line-in-Err-Values.ensures.listed told (c.in-Err-Values.ensures.unlisted told kept))
 
@@ -99,7 +99,7 @@ returns-then-lacks_study-clause-err g c = λ p s plain held b at.
 
 pub returns-then-lacks_study-clause-listed : goal.returns-then-lacks_study-clause-listed
 returns-then-lacks_study-clause-listed g c s told held kept =
-    refusal-listed (g.T.Report.lists c.refuse_line.new.report) c.refuse_line.result told c.args.line.now s.document (c.args.at.studies + 1) _
+    refusal-listed (g.T.Report.lists c.refuse_line.new.report) c.refuse_line.result told c.args.line.now s.document (entry_at c.args.at) _
     (g.W.Write.contents _) (g.W.Write.contents c.refuse_line.new.out) c.refuse_line.ensures.ok
     (c.refuse_line.ensures.listed told kept)
 

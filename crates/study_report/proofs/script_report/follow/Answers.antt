@@ -138,7 +138,7 @@ returns-in-Err-clause-outcome g c = λ first h.
     let some = rw c.in-Ok-true.field-0-test at c.in-Ok-true.ensures.line in
     let stop : Stops (IsAdded g.T.Report.tells g.T.Report.refusal g.T.Report.remark on.point c.read.new.self) (g.W.Write.contents c.loop-n.out)
     (g.W.Write.contents c.add_line.new.out) c.in-Err.fault =
-    rw c.as_slice.ensures at (c.in-Err.ensures.err on.point on.held (omega (arith, on.lines_are), on.studies_are)) in
+    rw c.as_slice.ensures at (c.in-Err.ensures.err on.point on.held (omega (arith, on.lines_are), on.studies_are, on.unread_is)) in
     (told_stops g.T.Report.tells g.T.Report.refusal g.T.Report.remark (g.R.Read.remaining c.args.script.now) (g.R.Read.remaining c.loop-n.script)
     (g.R.Read.remaining c.read.new.script) (g.W.Write.contents c.args.out.now) (g.W.Write.contents c.loop-n.out) (g.W.Write.contents c.add_line.new.out)
     first on.point c.read.new.self c.loop-n.n c.loop-n.refused c.in-Err.fault on.told some c.in-Ok-true.ensures.short c.loop-n-test.true
@@ -203,6 +203,7 @@ loop-n-init g c = (
     held = h;
     lines_are = refl;
     studies_are = refl;
+    unread_is = refl;
   },
   omega arith,
   omega arith,
@@ -229,7 +230,7 @@ loop-n-preserved g c =
           (SessionHolds g.S.Pages.PageSource.honest g.S.Pages.PageSource.gives (HonestOn none_trusted g.S.TableStore.honest) g.S.TableStore.files
           g.S.TableStore.headers g.S.TableStore.faults c.add_line.new.session.document c.add_line.new.session.tables c.add_line.new.session.store.now)
           mid new told =
-          rw c.as_slice.ensures at (c.in-Ok.ensures.ok on.point on.held (omega (arith, on.lines_are), on.studies_are)) in
+          rw c.as_slice.ensures at (c.in-Ok.ensures.ok on.point on.held (omega (arith, on.lines_are), on.studies_are, on.unread_is)) in
           ToldOn-more g.T.Report.tells g.T.Report.refusal g.T.Report.remark
           (SessionHolds g.S.Pages.PageSource.honest g.S.Pages.PageSource.gives (HonestOn none_trusted g.S.TableStore.honest) g.S.TableStore.files
           g.S.TableStore.headers g.S.TableStore.faults c.loop-n.session.document c.loop-n.session.tables c.loop-n.session.store.now)
@@ -239,12 +240,13 @@ loop-n-preserved g c =
           (λ more. (told : List Entry) → g.T.Report.lists c.args.report.now told → g.T.Report.lists c.add_line.new.report (told ++ more))
           (document_seen c.add_line.new.session.document)
           (g.R.Read.remaining c.args.script.now) (g.R.Read.remaining c.loop-n.script) (g.R.Read.remaining c.read.new.script)
-          (g.W.Write.contents c.args.out.now) mid new first line c.loop-n.n c.loop-n.refused _ c.loop-n.studies _ told on some
+          (g.W.Write.contents c.args.out.now) mid new first line c.loop-n.n c.loop-n.refused _ c.loop-n.studies _ c.loop-n.unread _ told on some
           c.in-Ok-true.ensures.short said (ap (λ i. c.loop-n.refused + i) counted) (ap (λ i. c.loop-n.studies + i) numbered)
+          (rw c.as_slice-unread.ensures at c.unread_after.ensures)
           (λ s after. after.held.document)
           (λ more kept before have.
           subst (λ (l : List Entry). g.T.Report.lists c.add_line.new.report l)
-          (append_assoc before more (listed_in line told (document_seen c.add_line.new.session.document) (c.loop-n.studies + 1)))
+          (append_assoc before more (listed_in line told (document_seen c.add_line.new.session.document) (record { number = c.loop-n.studies + 1; unread = c.loop-n.unread })))
           (rw c.as_slice.ensures at (c.in-Ok.ensures.listed on.point (before ++ more) on.held (kept before have)))),
       omega (arith, counted, some-more),
       omega (arith, numbered, one-more),
@@ -364,7 +366,7 @@ returns-in-Err-clause-listed_before g c = λ first before h kept.
     let some = rw c.in-Ok-true.field-0-test at c.in-Ok-true.ensures.line in
     let stop : Stops (IsAdded g.T.Report.tells g.T.Report.refusal g.T.Report.remark on.point c.read.new.self) (g.W.Write.contents c.loop-n.out)
     (g.W.Write.contents c.add_line.new.out) c.in-Err.fault =
-    rw c.as_slice.ensures at (c.in-Err.ensures.err on.point on.held (omega (arith, on.lines_are), on.studies_are)) in
+    rw c.as_slice.ensures at (c.in-Err.ensures.err on.point on.held (omega (arith, on.lines_are), on.studies_are, on.unread_is)) in
     told_before_stop g.T.Report.tells g.T.Report.refusal g.T.Report.remark (λ more. g.T.Report.lists c.add_line.new.report (before ++ more))
     (g.R.Read.remaining c.args.script.now) (g.R.Read.remaining c.loop-n.script) (g.R.Read.remaining c.read.new.script)
     (g.W.Write.contents c.args.out.now) (g.W.Write.contents c.loop-n.out) (g.W.Write.contents c.add_line.new.out) first on.point c.read.new.self

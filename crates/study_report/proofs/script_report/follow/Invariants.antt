@@ -21,7 +21,7 @@ invariant-loop-n g l =
     l.session.document l.session.tables l.session.store.now)
     (λ more. (told : List Entry) → g.T.Report.lists l.fn.report told → g.T.Report.lists l.report (told ++ more))
     (g.R.Read.remaining l.fn.script) (g.R.Read.remaining l.script)
-    (g.W.Write.contents l.fn.out) (g.W.Write.contents l.out) first l.n l.refused l.studies)
+    (g.W.Write.contents l.fn.out) (g.W.Write.contents l.out) first l.n l.refused l.studies l.unread)
     × (l.refused ≤ l.n) × (l.studies ≤ l.n) × GaveFeeds (g.R.Read.remaining l.fn.script) (g.R.Read.remaining l.script) l.n
     × Gone (g.R.Read.remaining l.fn.script) (g.R.Read.remaining l.script) l.n
     × HasParts g.T.Report.form g.T.Report.refusal g.T.Report.remark (g.R.Read.remaining l.fn.script) (g.R.Read.remaining l.script)

@@ -14,21 +14,21 @@ pub returns-in-Study-clause-told : goal.returns-in-Study-clause-told
 returns-in-Study-clause-told g c s h =
     let seen : study (plain_study (marked c.in-Study.bench)) ≡ s.document = sym (ap document_seen c.in-Study.is) ∙ h.document in
     let right = subst (λ b. IsMarked b) c.in-Study.is h.marks in
-    subst (λ (b : Document). OnOk c.add_study.result (IsSection g.T.Report.tells b c.args.number (g.W.Write.contents c.args.out.now)
+    subst (λ (b : Document). OnOk c.add_study.result (IsSection g.T.Report.tells b c.args.info (g.W.Write.contents c.args.out.now)
     (g.W.Write.contents c.add_study.new.out))) seen (c.add_study.ensures.told h.values right)
 
 pub returns-in-Study-clause-device : goal.returns-in-Study-clause-device
 returns-in-Study-clause-device g c s h e =
     let seen : study (plain_study (marked c.in-Study.bench)) ≡ s.document = sym (ap document_seen c.in-Study.is) ∙ h.document in
     let right = subst (λ b. IsMarked b) c.in-Study.is h.marks in
-    subst (λ (b : Document). IsSectionPart g.T.Report.tells b c.args.number (g.W.Write.contents c.args.out.now)
+    subst (λ (b : Document). IsSectionPart g.T.Report.tells b c.args.info (g.W.Write.contents c.args.out.now)
     (g.W.Write.contents c.add_study.new.out)) seen (c.add_study.ensures.device h.values right e)
 
 pub returns-in-Study-clause-listed : goal.returns-in-Study-clause-listed
 returns-in-Study-clause-listed g c s told h kept =
     let seen : study (plain_study (marked c.in-Study.bench)) ≡ s.document = sym (ap document_seen c.in-Study.is) ∙ h.document in
     let right = subst (λ b. IsMarked b) c.in-Study.is h.marks in
-    subst (λ (b : Document). OnOk c.add_study.result (g.T.Report.lists c.add_study.new.report (told ++ studies_on b c.args.number))) seen
+    subst (λ (b : Document). OnOk c.add_study.result (g.T.Report.lists c.add_study.new.report (told ++ studies_on b c.args.info))) seen
     (c.add_study.ensures.listed told h.values right kept)
 
 pub returns-in-Study-clause-why : goal.returns-in-Study-clause-why
@@ -54,22 +54,22 @@ pub returns-in-Empty-clause-told : goal.returns-in-Empty-clause-told
 returns-in-Empty-clause-told g c s h =
     let seen : empty ≡ s.document = sym (ap document_seen c.in-Empty.is) ∙ h.document in
     let out = g.W.Write.contents c.args.out.now in
-    subst (λ (b : Document). IsSection g.T.Report.tells b c.args.number out out) seen refl
+    subst (λ (b : Document). IsSection g.T.Report.tells b c.args.info out out) seen refl
 
 pub returns-in-Start-clause-told : goal.returns-in-Start-clause-told
 returns-in-Start-clause-told g c s h =
     let seen : start c.in-Start.field-0 ≡ s.document = sym (ap document_seen c.in-Start.is) ∙ h.document in
     let out = g.W.Write.contents c.args.out.now in
-    subst (λ (b : Document). IsSection g.T.Report.tells b c.args.number out out) seen refl
+    subst (λ (b : Document). IsSection g.T.Report.tells b c.args.info out out) seen refl
 
 pub returns-in-Empty-clause-listed : goal.returns-in-Empty-clause-listed
 returns-in-Empty-clause-listed g c s told h kept =
     let seen : empty ≡ s.document = sym (ap document_seen c.in-Empty.is) ∙ h.document in
-    subst (λ (b : Document). g.T.Report.lists c.args.report.now (told ++ studies_on b c.args.number)) seen
+    subst (λ (b : Document). g.T.Report.lists c.args.report.now (told ++ studies_on b c.args.info)) seen
     (subst (λ (l : List Entry). g.T.Report.lists c.args.report.now l) (sym (append-nil told)) kept)
 
 pub returns-in-Start-clause-listed : goal.returns-in-Start-clause-listed
 returns-in-Start-clause-listed g c s told h kept =
     let seen : start c.in-Start.field-0 ≡ s.document = sym (ap document_seen c.in-Start.is) ∙ h.document in
-    subst (λ (b : Document). g.T.Report.lists c.args.report.now (told ++ studies_on b c.args.number)) seen
+    subst (λ (b : Document). g.T.Report.lists c.args.report.now (told ++ studies_on b c.args.info)) seen
     (subst (λ (l : List Entry). g.T.Report.lists c.args.report.now l) (sym (append-nil told)) kept)

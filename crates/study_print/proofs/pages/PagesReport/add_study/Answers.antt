@@ -8,7 +8,7 @@ use Rattle.study_print.proofs.pages.PagesReport.add_study.Goals as goal
 
 pub returns-in_err-rows-clause-device : goal.returns-in_err-rows-clause-device
 returns-in_err-rows-clause-device g c honest right h =
-    told_plain c.args.bench.now c.args.number (g.W.Write.contents c.args.out.now) (g.W.Write.contents c.write_page.new.out) right
+    told_plain c.args.bench.now c.args.info (g.W.Write.contents c.args.out.now) (g.W.Write.contents c.write_page.new.out) right
     (c.in_err-rows.ensures.device honest (search rules))
 
 pub returns-clause-listed : goal.returns-clause-listed
@@ -16,5 +16,5 @@ returns-clause-listed g c told honest right listed =
     let next = c.next-self in
     let s = marked c.args.bench.now in
     let row = c.in_ok-rows.ensures.rows honest in
-    entries_after told c.args.self.now.count next.result c.args.self.now.rows c.in_ok-rows.rows (study_entry (plain_study s) c.args.number) listed
+    entries_after told c.args.self.now.count next.result c.args.self.now.rows c.in_ok-rows.rows (study_entry (plain_study s) c.args.info) listed
     (row.0, (s, refl, right.marks, row.1), row.2) next.ensures.nothing next.ensures.one next.ensures.several
