@@ -43,22 +43,11 @@ fn first_of(old: Option<u32>, number: u32) -> Option<u32>
 }
 
 /// The first refused edit of the study in the document, after the line of this number.
-pub fn unread_after(
-    old: Option<u32>,
-    number: u32,
-    line: &[u8],
-    outcome: LineOutcome,
-) -> Option<u32>
+pub fn unread_after(old: Option<u32>, number: u32, line: &[u8], outcome: LineOutcome) -> Option<u32>
     ensures { result ≡ unread_after old number line.now outcome }
 {
     match outcome {
-        LineOutcome::Nothing => {
-            if begins_position(line) {
-                None
-            } else {
-                old
-            }
-        }
+        LineOutcome::Nothing => { if begins_position(line) { None } else { old } }
         LineOutcome::Study => old,
         LineOutcome::Refusal => {
             if is_edit(line) {
