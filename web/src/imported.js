@@ -87,7 +87,11 @@ export function notKept(lines) {
     for (const [, name, n] of m ? m[1].matchAll(/([A-Za-z ]+?) (\d+)(?:, |$)/g) : [])
       if (GONE[name]) sums.set(name, (sums.get(name) || 0) + Number(n));
   }
+  const many = (/** @type {RegExp} */ form) => lines.filter(line => form.test(line)).length,
+        atNull = many(/^# note (\S+ )*--[ :]/), behind = many(/^# behind the result: /);
   const list = [...sums].map(([name, n]) => counted(n, ...GONE[name]));
+  if (atNull) list.push(counted(atNull, 'comment or NAG there', 'comments and NAGs there'));
+  if (behind) list.push(behind === 1 ? 'text behind a result' : `text behind ${behind} results`);
   return list.length ? `Not kept of this PGN: ${list.join(', ')}.` : '';
 }
 /** @param {string[]} lines */

@@ -15,7 +15,8 @@ export const plain = symbol =>
   symbol.replace(/^\d+\.+/, '').replace(/[+#]+$/, '').replace(/[x:=]/g, '').replace(/e\.?p\.?$/, '');
 const RESULT = /^(1-0|0-1|1\/2-1\/2|1\/2|\*)$/,
       SIGNS = /** @type {Record<string, string>} */ (
-        {'!': '$1', '?': '$2', '!!': '$3', '??': '$4', '!?': '$5', '?!': '$6', '=': '$10', '+-': '$18', '-+': '$19'});
+        {'!': '$1', '?': '$2', '!!': '$3', '??': '$4', '!?': '$5', '?!': '$6', '=': '$10', '+-': '$18', '-+': '$19'}),
+      NULL_MOVE = /^(--|Z0|null|pass|[\u2013\u2014])$/;
 /**
  * The moves of a game, one after the other: for each token the moves from the start that lead to it.
  * @param {string} movetext
@@ -35,20 +36,28 @@ function walk(movetext, visit) {
     else if (symbol && SIGNS[symbol]) visit('nag', SIGNS[symbol], at, end);
     else if (symbol && RESULT.test(symbol)) {
       if (!outer.length) return;
-    } else if (symbol && /[a-hO0]/.test(plain(symbol))) {
-      [before, at] = [at, [...at, plain(symbol)]];
+    } else if (symbol && (NULL_MOVE.test(symbol) || /[a-hO0]/.test(plain(symbol)))) {
+      [before, at] = [at, [...at, NULL_MOVE.test(symbol) ? '--' : plain(symbol)]];
       visit('move', symbol, at, end);
     }
   }
 }
+/** A tag, with the comments before it. */
+const TAG = /^((?:\s|\{[^}]*\}|;[^\n]*(?:\n|$))*)\[[ \t]*([A-Za-z]\w*)[ \t]*"((?:\\.|[^\\\n])*?)"[ \t]*\]/;
 /**
  * Header and moves of a game.
  * @param {string} game
  * @returns {[Record<string, string>, string]}
  */
 function parts(game) {
-  const tags = Object.fromEntries([...game.matchAll(/^\[(\w+) "(.*)"\]\s*$/gm)].map(m => [m[1], m[2]]));
-  return [tags, game.replace(/^\[\w+ ".*"\]\s*$/gm, '').replace(/^%.*$/gm, '')];
+  const tags = /** @type {Record<string, string>} */ ({});
+  let comments = '', rest = game.replace(/^%.*$/gm, '');
+  for (let m = TAG.exec(rest); m; m = TAG.exec(rest)) {
+    tags[m[2]] = tags[m[2]] ?? m[3];
+    comments += m[1];
+    rest = rest.slice(m[0].length);
+  }
+  return [tags, comments + rest];
 }
 /**
  * The title and the author of a game that is left out, as remarks to stand behind its own; `its` keeps them apart from
@@ -70,8 +79,10 @@ export function namesOf(game) {
 export function gamesIn(text) {
   const games = /** @type {string[][]} */ ([]);
   let moved = true, event = false;
-  for (const line of text.replace(/^\ufeff/, '').replace(/\r\n?/g, '\n').split('\n')) {
-    const tag = /^\[(\w+)[ \t]*"/.exec(line), silent = /^\s*$|^[%;]/.test(line);
+  for (const line of text.replace(/^\ufeff/, '').split(/\r*\n/)) {
+    const remark = /^[%;]/.test(line), silent = remark || /^[ \t\v\f\r]*$/.test(line),
+          tag = remark ? null : /^[ \t]*\[[ \t]*([A-Za-z]\w*)[ \t]*"/.exec(line);
+    if (!games.length && silent) continue;
     if (!games.length || (tag && (moved || (event && tag[1] === 'Event')))) {
       games.push([]);
       moved = event = false;
@@ -100,6 +111,11 @@ function partsOf(text) {
   }
   return out;
 }
+/**
+ * What is written as a comment has no braces, which could end it.
+ * @param {string} text
+ */
+const withoutBraces = text => text.replace(/\{/g, '(').replace(/\}/g, ')');
 /** What only some notations say: where a man comes from, figurines, the dash of `Kh2-g3`. */
 const NOTATIONS = /** @type {[RegExp, string][]} */ ([
   [/[♔♚]/, 'K'], [/[♕♛]/, 'Q'], [/[♖♜]/, 'R'], [/[♗♝]/, 'B'], [/[♘♞]/, 'N'], [/[♙♟P]/, ''],
@@ -126,7 +142,7 @@ export function remarksOf(game) {
     last = kind;
     if (kind === 'move' || !text) return;
     if (own && (kind === 'nag' ? behindMove && /^\$[14]$/.test(text) : isOurs(text))) return;
-    for (const part of partsOf(text)) out.push(`# note ${path.join(' ') || '-'}: ${part}`);
+    for (const part of partsOf(withoutBraces(text))) out.push(`# note ${path.join(' ') || '-'}: ${part}`);
   });
   return out.map(short);
 }

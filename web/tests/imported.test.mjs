@@ -70,6 +70,10 @@ test('games that were left out, and why', () => {
 test('what a script has no place for', () => {
   assert.equal(notKept(LINES), 'Not kept of this PGN: 1 repeated move, 2 moves behind null moves.');
   assert.equal(notKept(['# game 1, line 1: stipulated by its result']), '');
+  const beside =
+    ['# behind the result: line 14, column 715', '# note Kg3 --: threat', '# note -- Kf6: $6', '# note Kg3: --'];
+  assert.equal(notKept(['# not taken over: null moves 2, moves behind 1', ...beside]),
+    'Not kept of this PGN: 2 null moves, 1 move behind a null move, 2 comments and NAGs there, text behind a result.');
 });
 test('remarks above a position are the study\'s, and names stay in their letters', () => {
   const lines = documentOf(LINES), {studies} = assumeAccepted(lines);

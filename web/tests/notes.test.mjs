@@ -32,6 +32,22 @@ test('remarks of a game, at the moves that lead to them', () => {
   ]);
   assert.deepEqual(remarksOf(OURS), []);
 });
+test('a comment at a null move is none of the move before it', () => {
+  const game = GAME.replace('(1. b4? $4 Kf6 {draws\n[%cal Gg5f6]})', '{kept} (1. -- {threat} Kf6 $6) (1. Z0 {same})');
+  assert.deepEqual(remarksOf(game).filter(line => /kept|--/.test(line)),
+    ['# note Kg3: kept', '# note --: threat', '# note -- Kf6: $6', '# note --: same']);
+  const text = withNotes(OURS, remarksOf(game));
+  assert.ok(text.includes('{kept}') && !text.includes('threat') && !text.includes('$6'), text);
+});
+test('headers as other programs write them, and braces in a comment to the end of the line', () => {
+  const game =
+    GAME.replace('[Annotator "an editor"]', ' [ Annotator  "an \\"editor\\""] [ECO "A00"]\n% [Site "x"]\n; {early}')
+      .replace('{The only move}', '; see {1}\n');
+  assert.deepEqual(remarksOf(game).slice(0, 6), [
+    '# tag Annotator an \\"editor\\"', '# tag ECO A00', '# note -: (early)', '# note -: A study for practice.',
+    '# note Kg3: $1', '# note Kg3: see (1)'
+  ]);
+});
 test('they are written behind what the program says there', () => {
   const text = withNotes(OURS, remarksOf(GAME));
   assert.match(text, /\[SetUp "1"\]\n\[Annotator "an editor"\]\n\n/);
@@ -67,4 +83,7 @@ test('games are cut as the program cuts them', () => {
   assert.equal(gamesIn(GAME + '\n' + OURS).length, 2);
   assert.equal(gamesIn('[Event "a"]\n[Event "b"]\n\n1. e4 *\n').length, 2);
   assert.equal(gamesIn('prose\n[Event "a"]\n').length, 2);
+  assert.deepEqual(gamesIn('; to whom\n\n [ Event  "a"]\r\n1. e4 *\r\n [FEN "x"]\n[_a "b"]\n[Event"c"]\n')
+                     .map(text => text.split('\n').length - 1),
+    [2, 2, 2]);
 });
