@@ -14,7 +14,7 @@ import {makeCore} from './engine.js';
 import {back, forth, listenToKeys} from './keys.js';
 import {savedGames} from './notes.js';
 import {unreadIn} from './entries.js';
-import {fensOf, gameLines, toText, savedScript} from './script.js';
+import {fensOf, reportedLines, toText, savedScript} from './script.js';
 import {begin, closeSetup, judgeDraft, openSetup} from './setup.js';
 import {bytesOf} from './packed.js';
 import {makeReaders} from './file_readers.js';
@@ -146,7 +146,7 @@ on('print', () => {
 const saveReport = () => work(async () => {
   const {lines} = doc();
   await services.tables.loadFor(fensOf(lines), services.facts);
-  const answer = await services.facts.answer('report', toText(gameLines(doc())), PAGES);
+  const answer = await services.facts.answer('report', toText(reportedLines(doc())), PAGES);
   if (answer.ended === 'done') {
     download(fileName('.html'), answer.text);
     return sayUnread();

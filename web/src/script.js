@@ -274,14 +274,22 @@ export function savedScript(script, classes) {
  * @param {Script} script
  */
 export const gamesOf = script => script.studies.flatMap(study => study.games).join('');
-/** Remarks of an import that a report prints: games that were left out, and names in their own letters. */
-const PRINTED = /^# (game \d+, line |(Event|Site|Date|Round|White|Black) was: )/;
+/** Remarks of an import that a report prints. */
+const PRINTED = /^ *# ((game|not taken over|behind the result|a tail)\b|(Event|Site|Date|Round|White|Black) was: )/;
 /**
- * The lines of the saved script that write them, with the remarks that a report prints.
+ * The lines that are reported, each at its place in the script, so that refused ones have the numbers that they have on
+ * the board. The `pgn` that a study lacks comes in place of an empty line or a remark behind it, if there is one.
  * @param {Script} script
  */
-export const gameLines = script =>
-  linesOf(savedScript(script, [])).filter(line => isEdit(line) || isGame(line) || PRINTED.test(line));
+export function reportedLines(script) {
+  const lines = [...script.lines];
+  for (const {aim, last, end} of [...script.studies].reverse()) {
+    if (!aim || lines.slice(last + 1, end).some(isGame)) continue;
+    const free = lines.findIndex((line, at) => at > last && at < end && isSilent(line) && !PRINTED.test(line));
+    lines.splice(free < 0 ? last + 1 : free, free < 0 ? 0 : 1, 'pgn');
+  }
+  return lines;
+}
 /**
  * Remarks and questions of a study that is written anew: the last `pgn` is enough.
  * @param {string[]} lines

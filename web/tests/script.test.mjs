@@ -8,13 +8,13 @@ import {readView} from '../src/parse_answers.js';
 import {
   editsTo,
   fensOf,
-  gameLines,
   gamesOf,
   toText,
   linesOf,
   oneGame,
   overLimit,
   readScript,
+  reportedLines,
   repliesOf,
   savedScript,
   assumeAccepted,
@@ -131,8 +131,16 @@ test('a study with more than one game', () => {
     [['wrong', 2, ['White to win: wrong']], ['sound', 1, []]]);
   assert.equal(gamesOf(script), replies.filter(r => r.startsWith('[')).join(''));
   assert.equal(savedScript(script, []).split('\n').filter(line => line === 'pgn').length, 3);
-  assert.equal(gameLines(script).length, 9);
+  assert.deepEqual(reportedLines(script), [...lines.slice(0, 4), 'pgn', ...lines.slice(4)]);
   assert.deepEqual(oneGame(['pgn', '# a', 'pgn', '']), ['# a', 'pgn', '']);
+});
+test('lines that are reported keep their numbers', () => {
+  const block =
+          ['position A', 'stipulate white win', 'insert root Kb2', '# White was: Réti', '# why', '', 'mark 0', ''],
+        lines = ['# first', '', ...block, ...block.slice(0, 3)],
+        script = {lines, studies: [2, 10].map(from => ({aim: {}, last: from + 2, end: from === 2 ? 10 : 13}))};
+  assert.deepEqual(reportedLines(script), [...lines.slice(0, 6), 'pgn', ...lines.slice(7), 'pgn']);
+  assert.deepEqual(reportedLines({lines, studies: [{aim: null, last: 4, end: 10}]}), lines);
 });
 test('dates as PGN writes them', () => {
   const dates = {
