@@ -11,8 +11,9 @@ import {aimText, reason} from './words.js';
 /** @typedef {import('./types.js').Review} Review */
 /** @typedef {import('./types.js').Aim} Aim */
 /**
- * `kind` is what the list is filtered by; `at` the place of a study, -1 of an entry that was left out.
- * @typedef {{line: number, at: number, kind: string, title: string, author: string, fen: string, aim: string,
+ * `kind` is what the list is filtered by; `at` the place of a study, -1 of an entry that was left out; `number` that of
+ * its game and page.
+ * @typedef {{line: number, at: number, number: string, kind: string, title: string, author: string, fen: string, aim: string,
  *   stamp: string, review: Review | null}} Entry
  */
 
@@ -23,16 +24,24 @@ import {aimText, reason} from './words.js';
  */
 export const nameOf = (s, name) => s.originals[name] || (isKnown(s.tags[name]) ? s.tags[name] : '');
 /**
- * Title and author, or the men.
- * @param {Study} s
- */
-export const studyName = s => [nameOf(s, 'Event'), nameOf(s, 'White')].filter(Boolean).join(', ') || control(s.fen);
-/**
  * Whether a tag has the text that an earlier study left.
  * @param {Study} s
  * @param {string} name
  */
 const isCarried = (s, name) => s.place[name] === undefined && !s.originals[name];
+/**
+ * Title and author, or the men; no other study's.
+ * @param {Study} s
+ */
+export const studyName =
+  s => ['Event', 'White'].map(name => (isCarried(s, name) ? '' : nameOf(s, name))).filter(Boolean).join(', ') ||
+  control(s.fen);
+/**
+ * Whether the stipulation is the one that an earlier study left.
+ * @param {Study} s
+ */
+export const isAimCarried = s => s.aim !== null && s.place.aim === undefined;
+const CARRIED = ' (set for an earlier study)';
 /**
  * The text of a tag in the list: that of its own line, also where it was refused; one that an earlier study left is not
  * given as this one's.
@@ -44,7 +53,7 @@ function listedName(doc, s, name) {
   const text = nameOf(s, name);
   if (!isCarried(s, name)) return text;
   const own = refusedIn(doc, s, line => (tagIn(line) || [])[1] === name), m = own && tagIn(own.text);
-  return m ? m[2] : text && `${text} (set for an earlier study)`;
+  return m ? m[2] : text && text + CARRIED;
 }
 /** @param {string} line */
 const tagIn = line => /^ *tag +(\w+) +(.*?) *$/.exec(line);
@@ -147,8 +156,31 @@ function leftOutAt(lines, line) {
  * @param {string} why
  * @returns {Entry}
  */
-const missing = (line, title, author, why) =>
-  ({line, at: -1, kind: 'left out', title, author, fen: '', aim: '', stamp: `left out: ${why}`, review: null});
+const missing = (line, title, author, why) => ({
+  line,
+  at: -1,
+  number: '',
+  kind: 'left out',
+  title,
+  author,
+  fen: '',
+  aim: '',
+  stamp: `left out: ${why}`,
+  review: null
+});
+/**
+ * The numbers of each study, as the saved PGN counts its games and the report its pages: `3`; `3\u20134` of a study with
+ * two games, and nothing without a stipulation.
+ * @param {Study[]} studies
+ */
+export function numbersOf(studies) {
+  let last = 0;
+  return studies.map(({aim, games}) => {
+    const first = last + 1, many = aim ? Math.max(games.length, 1) : 0;
+    last += many;
+    return many > 1 ? `${first}\u2013${last}` : many ? `${last}` : '';
+  });
+}
 /**
  * The entries in the order of the script.
  * @param {Doc} doc
@@ -156,16 +188,17 @@ const missing = (line, title, author, why) =>
  * @returns {Entry[]}
  */
 export function entriesOf(doc, reviews = []) {
-  const studies = doc.studies.map((s, at) => {
+  const numbers = numbersOf(doc.studies), studies = doc.studies.map((s, at) => {
     const {kind, text} = stampOf(doc, s, reviews[at] || null);
     return {
       line: s.from,
       at,
+      number: numbers[at],
       kind,
       title: listedName(doc, s, 'Event') || control(s.fen),
       author: listedName(doc, s, 'White'),
       fen: s.fen,
-      aim: s.aim ? aimText(s.aim) : '',
+      aim: s.aim ? aimText(s.aim) + (isAimCarried(s) ? CARRIED : '') : '',
       stamp: text,
       review: kind === 'not read' ? null : reviews[at] || null
     };
@@ -181,11 +214,6 @@ export function entriesOf(doc, reviews = []) {
   const unread = doc.lines.flatMap((_, line) => leftOutAt(doc.lines, line));
   return [...studies, ...refused, ...unread].sort((x, y) => x.line - y.line);
 }
-/**
- * The number of each study's row: entries that were left out have theirs too.
- * @param {Doc} doc
- */
-export const numbersOf = doc => new Map(entriesOf(doc).map(({at}, i) => [at, i + 1]));
 const KINDS = ['sound', 'time', 'unsound', 'wrong', 'holds', 'not read', 'left out', 'not judged'];
 /** @type {Record<string, string>} */
 export const KIND_WORDS = {
@@ -211,11 +239,11 @@ const field = value => (/[",\r\n]/.test(`${value}`) ? `"${`${value}`.replace(/"/
  * @param {Entry[]} entries
  */
 export function csvOf(entries) {
-  const rows = entries.map(({title, author, fen, aim, stamp, review}, i) => {
+  const rows = entries.map(({number, title, author, fen, aim, stamp, review}) => {
     const duals = review ? review.faults.filter(f => f.kind === 'dual') : [],
           facts =
             review ? [duals.length, duals.filter(f => f.time === f.duals).length, review.missing.length] : ['', '', ''];
-    return [i + 1, title, author, fen, aim, stamp, ...facts];
+    return [number, title, author, fen, aim, stamp, ...facts];
   });
   const head =
     ['Number', 'Title', 'Author', 'FEN', 'Stipulation', 'Verdict', 'Duals', 'Duals that lose time', 'Missing defences'];

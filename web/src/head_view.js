@@ -4,11 +4,12 @@ import {h} from './dom.js';
 import {change} from './actions.js';
 import {app, services, say} from './state.js';
 import {isDate, isKnown, setTag, stipulate, wholeDate} from './edits.js';
-import {nameOf} from './entries.js';
+import {isAimCarried, nameOf} from './entries.js';
 import {plainText} from './opening.js';
 import {guess} from './setup.js';
 import {typedOr} from './node_view.js';
 import {TAGS} from './script.js';
+import {aimWords} from './words.js';
 /** @typedef {import('./types.js').Study} Study @typedef {import('./types.js').Aim} Aim */
 
 const LABELS =
@@ -35,12 +36,8 @@ export function headView(s) {
         h('button',
           {class: 'chip act', id: 'clearOld', title: 'not known for this study', onclick: () => clearTags(old)},
           'Clear')),
-    h('div', {class: 'row'},
-      aimView(s.aim,
-        words => change(now => (now.studies[now.at] ? stipulate(now.lines, now.studies[now.at], words) : null), 'head'),
-        'aim'),
-      h('span', {class: 'note'}, app.counts)),
-    messageAt('head'),
+    h('div', {class: 'row'}, aimView(s.aim, setAim, 'aim'), h('span', {class: 'note'}, app.counts)),
+    s.aim && isAimCarried(s) && carriedAim(s.aim), messageAt('head'),
     h('details', {
       id: 'tags',
       open: open.tags,
@@ -52,6 +49,14 @@ export function headView(s) {
       h('div', {class: 'tags'}, TAGS.map(name => tagView(name, nameOf(s, name)))))
   ];
 }
+/** @param {string} words */
+const setAim = words =>
+  change(now => (now.studies[now.at] ? stipulate(now.lines, now.studies[now.at], words) : null), 'head');
+/** @param {Aim} aim */
+const carriedAim = aim => h('p', {class: 'note'}, 'The stipulation was set for an earlier study and not since. ',
+  h('button',
+    {class: 'chip act', id: 'keepAim', title: 'write it for this study', onclick: () => setAim(aimWords(aim))},
+    'It is this study\'s'));
 /**
  * Tags that an earlier study left are not known for this one.
  * @param {string[]} names

@@ -30,10 +30,9 @@ export function listView() {
   const entries = entriesOf(doc(), knownReviews(doc())), counts = countsOf(entries);
   if (entries.length < 2) return null;
   if (!counts.some(([kind]) => kind === filter)) filter = '';
-  const numbers = new Map(entries.map((entry, i) => [entry, i + 1])),
-        shown = entries.filter(entry => !filter || entry.kind === filter);
+  const shown = entries.filter(entry => !filter || entry.kind === filter);
   const number = (/** @type {Entry} */ entry) => {
-    const text = `${numbers.get(entry)}`, props = {class: 'link', 'aria-current': entry.at === doc().at && 'true'};
+    const text = entry.number || '\u2013', props = {class: 'link', 'aria-current': entry.at === doc().at && 'true'};
     return entry.at < 0 ? text : button(text, 'show it', () => goStudy(entry.at), props);
   };
   const count = (/** @type {[string, number]} */[kind, n]) =>

@@ -10,14 +10,13 @@ import {listView, showDocuments} from './documents_view.js';
 import {reviewView} from './review_view.js';
 import {headView} from './head_view.js';
 import {hereView, navView} from './node_view.js';
-import {isKnown} from './edits.js';
 import {PAWN, SAAVEDRA} from './samples.js';
 import {toText} from './script.js';
 import {redrawJudged, setupView} from './setup_view.js';
 import {checkWhole, importView, openText} from './opening.js';
 import {listFrom, listView as entriesView} from './list_view.js';
 import {later, knownReviews} from './list_facts.js';
-import {numbersOf, stampOf, studyName} from './entries.js';
+import {nameOf, numbersOf, stampOf, studyName} from './entries.js';
 import {textsView} from './texts_view.js';
 import {faultsView, verdictView} from './verdict_view.js';
 import {keyView, listenToTree, markCurrent, showTree} from './tree_view.js';
@@ -128,7 +127,7 @@ export function show() {
   speak();
   hint();
   $('right').classList.toggle('behind', Boolean(app.setup && s && !anew));
-  document.title = s ? `${isKnown(s.tags.Event) ? s.tags.Event : 'Untitled'} · Study board` : 'Study board';
+  document.title = s ? `${nameOf(s, 'Event') || 'Untitled'} · Study board` : 'Study board';
 }
 /**
  * Focus stays where it was, though everything is drawn again.
@@ -181,9 +180,9 @@ function showBar() {
   const reviews = knownReviews(d);
   if (many)
     part('studies', [d.studies, d.refused, reviews], () => {
-      const numbers = numbersOf(d);
+      const numbers = numbersOf(d.studies).map(number => number && `${number}. `);
       return d.studies.map(
-        (s, i) => h('option', {value: i}, `${numbers.get(i)}. ${studyName(s)}: ${stampOf(d, s, reviews[i]).text}`));
+        (s, i) => h('option', {value: i}, `${numbers[i]}${studyName(s)}: ${stampOf(d, s, reviews[i]).text}`));
     });
   if (many) $('studies').value = d.at;
   $('more').disabled = !d.studies.length;

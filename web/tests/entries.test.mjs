@@ -2,7 +2,17 @@
 import test from 'node:test';
 import assert from 'node:assert/strict';
 import {setTag} from '../src/edits.js';
-import {byCause, countsOf, csvOf, entriesOf, hasSolution, nameOf, stampOf} from '../src/entries.js';
+import {
+  byCause,
+  countsOf,
+  csvOf,
+  entriesOf,
+  hasSolution,
+  nameOf,
+  numbersOf,
+  stampOf,
+  studyName
+} from '../src/entries.js';
 import {readReview, readReviews} from '../src/parse_answers.js';
 import {readScript} from '../src/script.js';
 import {copyStudy, moveStudy} from '../src/study_edits.js';
@@ -55,11 +65,17 @@ test('a game that was left out has its title and its author, where remarks behin
     ['game 4 of the PGN, line 31', '', 'left out: 6 men']
   ]);
 });
+test('a study has the number of its game, and no name of the study before', () => {
+  const d = doc(['unsound 1', 'sound', 'sound']), [a, b, c] = d.studies;
+  assert.deepEqual(entriesOf(d).map(row => row.number), ['1', '2', '', '', '']);
+  assert.deepEqual(numbersOf([a, {...b, games: ['', '']}, c, {...a, games: []}]), ['1', '2\u20133', '', '4']);
+  assert.deepEqual([a, b, c].map(studyName), ['A, "first", Reti', 'B', 'Kh8 Pc6 / Ka6 Ph5']);
+});
 test('the list as comma-separated values', () => {
   const text = csvOf(entriesOf(doc(['unsound 1', 'sound', 'sound']), readReviews(REVIEW)));
   const [, first, second] = text.split('\r\n');
   assert.equal(first, `1,"A, ""first""",Reti,${FEN},White to win,sound but for loss of time,1,1,1`);
-  assert.equal(second, `2,B,Reti (set for an earlier study),${FEN},White to win,holds,,,`);
+  assert.equal(second, `2,B,Reti (set for an earlier study),${FEN},White to win (set for an earlier study),holds,,,`);
   assert.equal(text.split('\r\n').length, 7);
 });
 test('a name that was refused is not that of the study before, and facts of a part are not those of the entry', () => {

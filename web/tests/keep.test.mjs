@@ -120,6 +120,7 @@ test('what a list says of a document', () => {
     verdict,
     tags: {Event, White: 'Réti'},
     originals: {},
+    place: {Event: 1, White: 1},
     fen,
     from: 0,
     end: 2,

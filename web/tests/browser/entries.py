@@ -85,7 +85,7 @@ def test_ten_entries_are_ten_rows(user):
     counts = user.js("return [...document.querySelectorAll('#list [data-kind]')].map(b => b.innerText)")
     assert counts == ["3 sound", "1 unsound", "1 wrong", "1 holds", "4 left out"], counts
     user.js("document.querySelector('#list [data-kind=wrong]').click()")
-    assert [row[0] for row in rows(user)] == ["9"]
+    assert [row[0] for row in rows(user)] == ["5"]
     user.js("document.querySelector('#list [data-kind=wrong]').click()")
     user.promise("new Promise(on => setTimeout(on, 3000))")
     name, text = user.download("saveList")
