@@ -4,7 +4,7 @@ import {TIME_STAMP} from './core_words.js';
 import {isKnown} from './edits.js';
 import {control, sideOf} from './fen.js';
 import {leftOutBy, originalsIn, whyLeftOut} from './imported.js';
-import {isEdit, isPosition, wordsOf} from './script.js';
+import {isCommand, isEdit, isPosition, wordsOf} from './script.js';
 import {bareTree} from './unmarked.js';
 import {aimText, reason} from './words.js';
 /** @typedef {import('./types.js').Study} Study @typedef {import('./types.js').Doc} Doc */
@@ -109,6 +109,21 @@ export function stampOf(doc, s, review) {
   if (review && review.waste.startsWith('sound')) return {kind: 'time', text: review.waste};
   return {kind, text: (review && review.waste) || s.verdict};
 }
+/** @param {string} line */
+const pathIn = line => wordsOf(line)[wordsOf(line)[0] === 'solve' ? 2 : 1] || '';
+/**
+ * Whether a line was refused for want of what an earlier refused one was to give: a study, or a move above its path.
+ * @param {import('./types.js').Refused} cause
+ * @param {import('./types.js').Refused} r
+ */
+function isForWantOf(cause, r) {
+  const [command] = wordsOf(cause.text), none = /^error No(Study|Position)/, path = pathIn(r.text);
+  if (none.test(r.reply)) return /^(position|stipulate)$/.test(command) || none.test(cause.reply);
+  if (!r.reply.startsWith('error NoSuchNode')) return false;
+  const at = pathIn(cause.text), below = at === 'root' ? path !== at : path.startsWith(at + '.');
+  if (cause.reply.startsWith('error NoSuchNode')) return below || path === at;
+  return below && (command === 'insert' || !isCommand(cause.text));
+}
 /**
  * Refused lines by what is wrong: those behind it in the same study that lack what it was to give come with it.
  * @param {import('./types.js').Refused[]} refused
@@ -117,8 +132,10 @@ export function stampOf(doc, s, review) {
 export function byCause(refused, of) {
   const causes = /** @type {import('./types.js').Refused[][]} */ ([]);
   for (const r of refused) {
-    const last = causes[causes.length - 1];
-    if (last && of(last[0].line) === of(r.line) && /^error No(Study|SuchNode|Position)/.test(r.reply)) last.push(r);
+    const study = of(r.line);
+    let at = /^error No(Study|Position|SuchNode)/.test(r.reply) ? causes.length - 1 : -1;
+    while (at >= 0 && of(causes[at][0].line) === study && !isForWantOf(causes[at][0], r)) at--;
+    if (at >= 0 && of(causes[at][0].line) === study) causes[at].push(r);
     else causes.push([r]);
   }
   return causes;

@@ -166,6 +166,7 @@ const OWN_REASONS = /** @type {Record<string, string>} */ ({
 /** What to write instead, where a reason of the core does not say it. */
 const ADVICE = /** @type {Record<string, string>} */ ({
   BadByte: 'write names without accents',
+  UnknownTag: 'write Event, White (the author), Black, Site, Date or Round',
   UnknownStipulation: 'write white or black, then win, draw, or mate and a number from 1 to 127',
   NotSan: 'write Kb6 or c8=R',
   Ambiguous: 'add the file or rank of the origin',

@@ -91,13 +91,17 @@ test('a name that was refused is not that of the study before, and facts of a pa
   assert.deepEqual(mended.slice(4), ['# White was: Prokeš', 'position ' + FEN, 'tag White Prokes']);
 });
 test('refused lines by what is wrong', () => {
-  const row = (line, reply) => ({line, text: 'x', reply: 'error ' + reply});
+  const row = (line, text, reply) => ({line, text, reply: 'error ' + reply});
   const list = [
-    row(1, 'NotSan'), row(2, 'NoSuchNode'), row(3, 'BadByte'), row(4, 'NoSuchNode'), row(11, 'NoStudy'),
-    row(12, 'NoStudy')
+    row(1, 'insert root 1.Kg3', 'NotSan'), row(2, 'insert 0 Kf5', 'NoSuchNode'), row(3, 'tag White Réti', 'BadByte'),
+    row(4, 'insert 0.0 Kf3', 'NoSuchNode'), row(5, 'solve 2 0.0', 'NoSuchNode'), row(6, 'promote 0', 'NoSuchNode'),
+    row(11, 'promote 0', 'AlreadyFirst'), row(12, 'mark 5', 'NoSuchNode'), row(13, 'inzert 0 Kg2', 'UnknownCommand'),
+    row(14, 'insert 0.0 Kg4', 'NoSuchNode'), row(15, 'delete 1', 'NoSuchNode'), row(16, 'delete 1.0', 'NoSuchNode'),
+    row(21, 'position x', 'FieldCount'), row(22, 'tag White Réti', 'BadByte'), row(23, 'insert root Kg3', 'NoStudy'),
+    row(24, 'pgn', 'NoStudy'), row(31, 'tag Event A', 'NoStudy'), row(32, 'pgn', 'NoStudy')
   ];
-  assert.deepEqual(
-    byCause(list, line => (line < 10 ? 0 : 1)).map(rows => rows.map(r => r.line)), [[1, 2], [3, 4], [11, 12]]);
+  assert.deepEqual(byCause(list, line => Math.floor(line / 10)).map(rows => rows.map(r => r.line)),
+    [[1, 2, 4, 5, 6], [3], [11], [12], [13, 14], [15, 16], [21, 23, 24], [22], [31, 32]]);
 });
 test('studies that are copied and moved stand alone', () => {
   const d = doc(['sound', 'sound', 'sound']), moved = moveStudy(d.lines, d.studies, 0, 1),
