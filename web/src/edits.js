@@ -154,6 +154,12 @@ function namedDate(text) {
  */
 const isUpTo = (n, most) => !n || (Number(n) >= 1 && Number(n) <= most);
 /**
+ * The days of a month; of an unknown one, or of an unknown year, as many as there can be.
+ * @param {string} year
+ * @param {string} month
+ */
+const daysIn = (year, month) => new Date(Date.UTC(Number(year) || 2000, Number(month) || 1, 0)).getUTCDate();
+/**
  * A date as PGN writes it, of which year, month and day are known, or not all: `1895`, `1921-05`, `12 May 1921`, `May
  * 1921`, `12.5.1921`. What is no date is left as it is.
  * @param {string} text
@@ -163,11 +169,14 @@ export function wholeDate(text) {
     /^(\d{1,2})\.\s?(\d{1,2})\.\s?(\d{4})$/.exec(text)?.slice(1).reverse();
   if (!parts) return text;
   const [year, month = '', day = ''] = parts;
-  if (!isUpTo(month, 12) || !isUpTo(day, 31)) return text;
+  if (!isUpTo(month, 12) || !isUpTo(day, daysIn(year, month))) return text;
   return [year, month, day].map((n, i) => n && n.padStart(i ? 2 : 4, '0') || '??').join('.');
 }
 /** @param {string} text */
-export const isDate = text => /^([\d?]{4})\.(0[1-9]|1[0-2]|\?\?)\.(0[1-9]|[12]\d|3[01]|\?\?)$/.test(text);
+export function isDate(text) {
+  const [, year, month, day] = /^([\d?]{4})\.(0[1-9]|1[0-2]|\?\?)\.(0[1-9]|[12]\d|3[01]|\?\?)$/.exec(text) || [];
+  return day === '??' || Number(day) <= daysIn(year, month);
+}
 /**
  * The remark above a position that keeps the text of a tag in its own letters.
  * @param {string[]} lines

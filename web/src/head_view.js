@@ -1,6 +1,6 @@
 // @ts-check
 // The head of a study: title, stipulation, tags.
-import {h} from './dom.js';
+import {$, h} from './dom.js';
 import {change} from './actions.js';
 import {app, services, say} from './state.js';
 import {isDate, isKnown, setTag, stipulate, wholeDate} from './edits.js';
@@ -37,7 +37,7 @@ export function headView(s) {
           {class: 'chip act', id: 'clearOld', title: 'not known for this study', onclick: () => clearTags(old)},
           'Clear')),
     h('div', {class: 'row'}, aimView(s.aim, setAim, 'aim'), h('span', {class: 'note'}, app.counts)),
-    s.aim && isAimCarried(s) && carriedAim(s.aim), messageAt('head'),
+    s.aim && isAimCarried(s) && carriedAim(s.aim), s.place.Date !== undefined && dateNote(t.Date), messageAt('head'),
     h('details', {
       id: 'tags',
       open: open.tags,
@@ -57,6 +57,21 @@ const carriedAim = aim => h('p', {class: 'note'}, 'The stipulation was set for a
   h('button',
     {class: 'chip act', id: 'keepAim', title: 'write it for this study', onclick: () => setAim(aimWords(aim))},
     'It is this study\'s'));
+/**
+ * A script and a PGN may have any text for a date: what a PGN would have, or where to write it.
+ * @param {string} date
+ */
+function dateNote(date) {
+  if (!isKnown(date) || isDate(date)) return null;
+  const whole = wholeDate(date), known = isDate(whole);
+  const write = () => {
+    if (known) return changeTag('Date', whole);
+    $('tags').open = true;
+    $('tagDate').focus();
+  };
+  return h('p', {class: 'note'}, `${date}: PGN writes a date as 1921.05.12 or 1921.??.??. `,
+    h('button', {class: 'chip act', id: 'mendDate', onclick: write}, known ? `Write ${whole}` : 'Change it'));
+}
 /**
  * Tags that an earlier study left are not known for this one.
  * @param {string[]} names

@@ -153,11 +153,12 @@ test('dates as PGN writes them', () => {
     'May 1895': '1895.05.??',
     'September 3, 1950': '1950.09.03',
     '12.5.1921': '1921.05.12',
-    '3. Sept 1950': '1950.09.03'
+    '3. Sept 1950': '1950.09.03',
+    '29.2.1904': '1904.02.29'
   };
   for (const [text, date] of Object.entries(dates)) assert.equal(edits.wholeDate(text), date, text);
-  assert.ok([...Object.values(dates), '????.??.??'].every(edits.isDate));
-  for (const text of ['?', 'spring 1921', '1921.13', '40 May 1921', '21', 'today']) {
+  assert.ok([...Object.values(dates), '????.??.??', '19??.02.29', '1921.??.31'].every(edits.isDate));
+  for (const text of ['?', 'spring 1921', '1921.13', '32 May 1921', '29 Feb 1900', '1921.04.31', '21', 'today']) {
     assert.equal(edits.wholeDate(text), text);
     assert.ok(!edits.isDate(text), text);
   }

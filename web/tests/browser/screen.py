@@ -196,6 +196,14 @@ def test_tags(user):
     user.fill("tagDate", "in spring")
     assert "a date is" in user.text("head") and "in spring" not in user.promise("studyboard.script()")
     assert user.by("tagDate").get_attribute("value") == "in spring"
+    user.promise("studyboard.open(a[0])", f"position {FEN}\nstipulate white win\ntag Date May 1921\n")
+    assert "May 1921: PGN writes a date" in user.text("head")
+    user.click("mendDate")
+    user.settle()
+    assert "tag Date 1921.05.??" in user.promise("studyboard.script()") and not user.has("mendDate")
+    user.promise("studyboard.open(a[0])", f"position {FEN}\nstipulate white win\ntag Date 32 May 1921\n")
+    user.click("mendDate")
+    assert user.js("return document.activeElement.id") == "tagDate" and user.seen("tagDate")
     long = "The longest title that was ever given to a study of a king and a pawn"
     user.fill("tagEvent", long)
     assert "60" in user.text("head") and user.by("tagEvent").get_attribute("value") == long
