@@ -12,20 +12,24 @@ import {aimWords} from './words.js';
  */
 
 /**
- * The positions that could stand before one, by each man of the side that has just moved on each free square.
+ * The positions that could stand before one, by each man of the side that has just moved on each free square; a man on
+ * the last rank can have been a pawn before it.
  * @param {string} fen
  */
 export function placesBefore(fen) {
   const [placed, mover, , , , number] = fen.split(' '), men = menOf(placed), before = mover === 'w' ? 'b' : 'w';
   const moves = Math.max(1, Number(number) - (before === 'b' ? 1 : 0)),
-        out = /** @type {{fen: string, from: number, to: number}[]} */ ([]);
+        out = /** @type {{fen: string, from: number, to: number, promoted: string}[]} */ ([]);
   for (const [at, letter] of Object.entries(men)) {
     if (isWhite(letter) !== (before === 'w')) continue;
-    for (let from = 0; from < 64; from++) {
-      if (men[from]) continue;
-      const {[Number(at)]: _, ...rest} = men;
-      out.push({fen: `${placement({...rest, [from]: letter})} ${before} - - 0 ${moves}`, from, to: Number(at)});
-    }
+    const to = Number(at), {[to]: _, ...rest} = men;
+    const add = (/** @type {number} */ from, /** @type {string} */ man, promoted = '') => {
+      if (!men[from])
+        out.push({fen: `${placement({...rest, [from]: man})} ${before} - - 0 ${moves}`, from, to, promoted});
+    };
+    for (let from = 0; from < 64; from++) add(from, letter);
+    if (/[QRBN]/.test(letter) && to > 55) add(to - 8, 'P', letter);
+    if (/[qrbn]/.test(letter) && to < 8) add(to + 8, 'p', letter.toUpperCase());
   }
   return out;
 }
@@ -37,23 +41,34 @@ export function placesBefore(fen) {
 export const aimBefore = (aim, movers) =>
   aimWords({...aim, k: aim.k && aim.k + movers.filter(side => side === aim.hero).length});
 /**
+ * Whether two FEN have the same men, side to move and square of a pawn's double step.
+ * @param {string} one
+ * @param {string} other
+ */
+const samePosition = (one, other) => one.split(' ').slice(0, 4).join(' ') === other.split(' ').slice(0, 4).join(' ');
+/**
  * The moves that can have led to a position, those first that are the only ones to hold.
  * @param {string} fen
  * @param {string} aim      words of a stipulation
- * @returns {Promise<Before[]>}
+ * @returns {Promise<{moves: Before[], lacking: string[]}>}      and the tables that promotions would need and that lack
  */
 export async function movesBefore(fen, aim) {
   const places = placesBefore(fen), texts = places.map(place => `position ${place.fen}\n`);
   const {text} = await services.core.answer('run', toText(texts.map(line => line.trim())), 1),
         replies = text.split('\n');
-  const found = /** @type {Before[]} */ ([]);
+  const found = /** @type {Before[]} */ ([]), lacking = /** @type {Set<string>} */ (new Set());
   for (const [i, place] of places.entries()) {
     if (!replies[i] || !replies[i].startsWith('position ')) continue;
+    const lacks = place.promoted ? await services.tables.lacking([place.fen]) : [];
+    for (const name of lacks) lacking.add(name);
+    if (lacks.length) continue;
     const {text: shown} = await services.core.answer('view root', `${texts[i]}stipulate ${aim}\n`, PAGES),
                  view = readView(shown);
-    const move = view && view.moves.find(m => m.from === place.from && m.to === place.to && !m.promoted);
+    const move = view &&
+      view.moves.find(
+        m => m.from === place.from && m.to === place.to && m.promoted === place.promoted && samePosition(m.fen, fen));
     if (move) found.push({fen: place.fen, san: move.san, from: place.from, mark: move.mark});
   }
   const rank = (/** @type {Before} */ m) => ['only', 'reply', 'dual', 'idle', 'mistake'].indexOf(m.mark);
-  return found.sort((x, y) => rank(x) - rank(y));
+  return {moves: found.sort((x, y) => rank(x) - rank(y)), lacking: [...lacking]};
 }

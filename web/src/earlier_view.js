@@ -12,7 +12,8 @@ import {markSign} from './words.js';
 /** @typedef {import('./earlier.js').Before} Before */
 
 /** The moves chosen so far, the last one first; and those to choose from, or none while they are looked for. */
-let chosen = /** @type {Before[]} */ ([]), offered = /** @type {Before[] | null} */ (null), fault = '';
+let chosen = /** @type {Before[]} */ ([]), offered = /** @type {Before[] | null} */ (null), fault = '',
+    lacks = /** @type {string[]} */ ([]);
 
 export function openEarlier() {
   $('earlier').hidden = false;
@@ -32,8 +33,8 @@ function look(fen) {
   const s = study(), mine = doc().lines;
   [offered, fault] = [null, ''];
   draw();
-  const found = (/** @type {Before[]} */ list) => {
-    offered = list;
+  const found = (/** @type {{moves: Before[], lacking: string[]}} */ {moves, lacking}) => {
+    [offered, lacks] = [moves, lacking];
   };
   const failed = (/** @type {Error} */ why) => {
     fault = why.message;
@@ -87,6 +88,8 @@ function draw() {
                        : none;
   put('earlier', panelHead('Begin earlier', close, 'closeEarlier'), h('p', {role: 'status', id: 'earlierState'}, words),
     h('p', {class: 'chips'}, (offered || []).map(moveView)),
+    offered && lacks.length > 0 &&
+      h('p', {class: 'note'}, `Promotions are left out, since these tables are not there: ${lacks.join(' ')}.`),
     chosen.length > 0 &&
       h('p', {}, button(`Begin with ${chosen[0].san}`, 'one move earlier alone', begin, {id: 'beginOne'})));
   if (!offered && !fault) return;

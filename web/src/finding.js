@@ -2,12 +2,12 @@
 // What the tables know: the positions of a class that have a theme, found piece by piece in a core of their own.
 import {services, PAGES} from './state.js';
 import {readValue, refusalIn} from './parse_answers.js';
-import {reason} from './words.js';
+import {counted, reason} from './words.js';
 /** @typedef {import('./types.js').Value} Value */
 /** @typedef {{fen: string, values: Value[], key: string}} Found      a zugzwang has two values, and no key move */
 /**
- * @typedef {{at: number, of: number, found: Found[], ended: string}} Search
- *   how far it came, in numbers of the class
+ * @typedef {{at: number, of: number, found: Found[], many: number, ended: string}} Search
+ *   how far it came, in numbers of the class; what was found, the first of how many
  */
 
 /** Themes as the program names them, with what the list of them says; those that end with `N` take a number. */
@@ -86,7 +86,8 @@ const PIECE = 1 << 14, ALIKE = 300;
  * @param {(search: Search) => boolean} report      whether to go on
  */
 export async function search({name, theme, filters, most}, spawn, report) {
-  const fens = placements(name), core = spawn(), now = /** @type {Search} */ ({at: 0, of: 0, found: [], ended: ''});
+  const fens = placements(name), core = spawn(),
+        now = /** @type {Search} */ ({at: 0, of: 0, found: [], many: 0, ended: ''});
   try {
     await services.tables.ready(fens);
     await services.tables.loadFor(fens, core);
@@ -96,7 +97,7 @@ export async function search({name, theme, filters, most}, spawn, report) {
       const answer = await core.answer(request, '', PAGES);
       if (answer.ended !== 'done') throw new Error(reason(refusalIn(answer)));
       addFound(now, answer.text.split('\n').filter(Boolean));
-      if (now.found.length > most || now.at < now.of && now.found.length === most) now.ended = 'enough';
+      if (now.many > most || now.at < now.of && now.many === most) now.ended = 'enough';
       else if (now.at >= now.of) now.ended = 'all';
       now.found = now.found.slice(0, most);
       if (!report(now)) now.ended = now.ended || 'stopped';
@@ -113,5 +114,15 @@ function addFound(now, lines) {
   const [, at, of] = /^to (\d+) of (\d+)$/.exec(lines.pop() || '') || [];
   if (!of) throw new Error('the answer has no end');
   now.found.push(...lines.map(readFound));
-  [now.at, now.of] = [Number(at), Number(of)];
+  [now.at, now.of, now.many] = [Number(at), Number(of), now.many + lines.length];
+}
+/**
+ * How a search stands, in words.
+ * @param {Search} now
+ */
+export function searchText({at, of, found, many, ended}) {
+  const whole = of > 0 && at >= of, first = `the first ${found.length} are listed; narrow it down by squares`,
+        end = {all: 'all there are', enough: whole ? `all there are, and ${first}` : first, stopped: 'stopped'}[ended];
+  const part = whole || !of ? '' : `; ${Math.floor(100 * at / of)} % looked at`;
+  return `${counted(many, 'position')} found${part}: ${end || 'searching …'}.`;
 }

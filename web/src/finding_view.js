@@ -5,11 +5,11 @@ import {track} from './actions.js';
 import {app, services} from './state.js';
 import {CLASSES} from './core_host.js';
 import {control, sideOf} from './fen.js';
-import {THEMES, manMissing, opened, search} from './finding.js';
+import {THEMES, manMissing, opened, search, searchText} from './finding.js';
 import {openText} from './opening.js';
 import {toText} from './script.js';
 import {draftFen} from './setup.js';
-import {counted, valueText, winner} from './words.js';
+import {valueText, winner} from './words.js';
 /** @typedef {import('./finding.js').Search} Search @typedef {import('./finding.js').Found} Found */
 
 const MOST = 300;
@@ -135,7 +135,8 @@ function find() {
     filters: narrowed ? [form.side, quiet, form.squares.trim()].filter(Boolean).join(' ') : '',
     most: MOST
   };
-  const shown = `${wanted.name} ${wanted.theme}`, lacking = manMissing(wanted.name, wanted.filters);
+  const shown = [wanted.name, wanted.theme, wanted.filters].filter(Boolean).join(' '),
+        lacking = manMissing(wanted.name, wanted.filters);
   Object.assign(state, {search: null, going: true, fault: '', shown, lacking});
   showFinding();
   const found = (/** @type {Search} */ now) => {
@@ -157,15 +158,7 @@ function soFar() {
   const now = state.search;
   if (state.fault) return `Not found: ${state.fault}.`;
   if (!now) return state.going ? 'Its tables are being read, or built …' : '';
-  const end = {
-    all: 'all there are',
-    enough: `the first ${now.found.length}; narrow it down by squares`,
-    stopped: 'stopped'
-  }[now.ended] ||
-    'searching …';
-  const part = now.ended === 'all' || !now.of ? '' : `; ${Math.floor(100 * now.at / now.of)} % looked at`,
-        why = now.found.length ? '' : state.lacking;
-  return `${state.shown}: ${counted(now.found.length, 'position')} found${part}: ${why || end}.`;
+  return `${state.shown}: ${now.found.length || !state.lacking ? searchText(now) : `${state.lacking}.`}`;
 }
 /** @param {Found} found */
 function linesOf(found) {

@@ -3,7 +3,7 @@ import test from 'node:test';
 import assert from 'node:assert/strict';
 import {placesBefore} from '../src/earlier.js';
 import {menOf} from '../src/fen.js';
-import {manMissing, opened, placements, readFound} from '../src/finding.js';
+import {manMissing, opened, placements, readFound, searchText} from '../src/finding.js';
 
 test('a line of a list is read', () => {
   assert.deepEqual(readFound('1B6/3K4/8/1k6/8/P7/8/8 w - - 0 1 draw loss 38'),
@@ -38,4 +38,18 @@ test('what can have stood before a position', () => {
   assert.equal(places.length, 61);
   assert.ok(places.every(({fen, to}) => to === 17 && / b - - 0 4$/.test(fen)));
   assert.equal(placesBefore('k7/8/8/8/4P3/8/8/K7 b - - 0 1').filter(({to}) => to === 28).length, 64 - 3);
+  const pawns = placesBefore('3Q4/8/8/8/8/2k5/8/K2r4 b - - 0 1').filter(({promoted}) => promoted);
+  assert.deepEqual(pawns, [{fen: '8/3P4/8/8/8/2k5/8/K2r4 w - - 0 1', from: 51, to: 59, promoted: 'Q'}]);
+  assert.equal(placesBefore('3Q4/8/8/8/8/2k5/8/K2r4 w - - 0 1').find(({promoted}) => promoted)?.promoted, 'R');
+  assert.equal(placesBefore('3Q4/3r4/8/8/8/2k5/8/K7 b - - 0 1').some(({promoted}) => promoted), false);
+});
+test('how a search stands', () => {
+  const search = {at: 50, of: 100, found: Array(3), many: 3, ended: ''};
+  assert.equal(searchText(search), '3 positions found; 50 % looked at: searching ….');
+  assert.equal(searchText({...search, ended: 'stopped'}), '3 positions found; 50 % looked at: stopped.');
+  assert.equal(searchText({...search, ended: 'enough', many: 7}),
+    '7 positions found; 50 % looked at: the first 3 are listed; narrow it down by squares.');
+  assert.equal(searchText({...search, at: 100, ended: 'enough', many: 7}),
+    '7 positions found: all there are, and the first 3 are listed; narrow it down by squares.');
+  assert.equal(searchText({...search, at: 100, ended: 'all'}), '3 positions found: all there are.');
 });

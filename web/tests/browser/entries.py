@@ -237,6 +237,15 @@ def test_a_study_begins_earlier(user):
         first,
         "Kg3",
     ], sans
+    user.promise("studyboard.open(a[0])", "position 3Q4/8/8/8/8/2k5/8/K7 b - - 0 1\nstipulate white win\n")
+    user.click("beginEarlier")
+    user.until("document.querySelector('#earlier [data-before=\"d8=Q\"]')", 60)
+    user.d.find_element(By.CSS_SELECTOR, '#earlier [data-before="d8=Q"]').click()
+    user.until("document.getElementById('beginOne')", 60)
+    user.settle()
+    user.click("beginOne")
+    user.settle()
+    assert "position 8/3P4/8/8/8/2k5/8/K7 w - - 0 1" in script(user) and "insert root d8=Q" in script(user), script(user)
 
 
 def test_a_mate_begins_earlier(user):
