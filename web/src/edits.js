@@ -252,14 +252,25 @@ export function addStudy(lines, fen, aim, before) {
   ];
 }
 /**
- * Removes a study from the script, with the remarks above it, which are its own.
+ * Removes a study from the script, with the remarks above it, which are its own. What the next study takes over from it
+ * becomes that one's own.
  * @param {string[]} lines
- * @param {Study} study
+ * @param {Study[]} studies
  * @param {number} at
  * @returns {Change}
  */
-export const dropStudy = (lines, study, at) =>
-  ({lines: splice(lines, study.head, study.end - study.head), at: Math.max(at - 1, 0), path: 'root'});
+export function dropStudy(lines, studies, at) {
+  const study = studies[at], next = studies[at + 1], rest = {at: Math.max(at - 1, 0), path: 'root'};
+  const without = (/** @type {string[]} */ all) => splice(all, study.head, study.end - study.head);
+  if (!next) return {lines: without(lines), ...rest};
+  const isTaken = (/** @type {string} */ name) => next.place[name] === undefined && study.place[name] !== undefined;
+  const aim = next.aim && isTaken('aim') ? ['stipulate ' + aimWords(next.aim)] : [],
+        tags = TAGS.filter(name => next.tags[name] !== undefined && isTaken(name));
+  // tags come behind the stipulation, without which there can be no study yet
+  const behind = next.place.aim === undefined ? next.from + 1 : next.place.aim + 1,
+        tagged = splice(lines, behind, 0, ...tags.map(name => `tag ${name} ${next.tags[name]}`));
+  return {lines: without(splice(tagged, next.from + 1, 0, ...aim)), ...rest};
+}
 
 /**
  * A study written again in its shortest form, in written order.

@@ -69,7 +69,7 @@ function scriptView(s) {
           {id: 'tidy'}),
       s && doc().studies.length > 1 &&
         button('Remove this study', 'take its lines out of the script',
-          () => change(now => dropStudy(now.lines, now.studies[now.at], now.at), 'script'), {id: 'drop'})));
+          () => change(now => dropStudy(now.lines, now.studies, now.at), 'script'), {id: 'drop'})));
 }
 const copy = () => change(now => copyStudy(now.lines, now.studies, now.at), 'script');
 /** What is done with the study as a whole. */

@@ -1,7 +1,7 @@
 // Entries, their stamps and the list as a file; whole studies copied and moved; diagrams turned with their moves.
 import test from 'node:test';
 import assert from 'node:assert/strict';
-import {setTag} from '../src/edits.js';
+import {dropStudy, setTag} from '../src/edits.js';
 import {
   byCause,
   countsOf,
@@ -102,6 +102,15 @@ test('refused lines by what is wrong', () => {
   ];
   assert.deepEqual(byCause(list, line => Math.floor(line / 10)).map(rows => rows.map(r => r.line)),
     [[1, 2, 4, 5, 6], [3], [11], [12], [13, 14], [15, 16], [21, 23, 24], [22], [31, 32]]);
+});
+test('a study that is removed leaves to the next one what that took over', () => {
+  const d = doc(['sound', 'sound', 'sound']), {lines, at} = dropStudy(d.lines, d.studies, 0);
+  assert.deepEqual(
+    [lines.slice(0, 5), at], [['position ' + FEN, 'stipulate white win', 'tag White Reti', 'tag Event B', 'pgn'], 0]);
+  assert.equal(dropStudy(d.lines, d.studies, 2).lines.length, LINES.length - 3);
+  const own = [...LINES.slice(0, 8), 'stipulate white draw', 'pgn'],
+        studies = [{...d.studies[0], end: 7}, {...d.studies[1], head: 7, from: 7, end: 10, place: {aim: 8}}];
+  assert.deepEqual(dropStudy(own, studies, 0).lines, [own[7], own[8], 'tag Event B', 'tag White Reti', 'pgn']);
 });
 test('studies that are copied and moved stand alone', () => {
   const d = doc(['sound', 'sound', 'sound']), moved = moveStudy(d.lines, d.studies, 0, 1),

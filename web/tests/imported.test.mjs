@@ -80,7 +80,7 @@ test('remarks above a position are the study\'s, and names stay in their letters
   assert.equal(lines.length, LINES.length - 2);
   assert.deepEqual(studies.map(s => [s.head, s.from, s.end]), [[0, 3, 8], [14, 16, lines.length]]);
   assert.deepEqual(studies.map(s => s.originals), [{White: 'Троицкий'}, {}]);
-  const dropped = assumeAccepted(dropStudy(lines, studies[0], 0).lines);
+  const dropped = assumeAccepted(dropStudy(lines, studies, 0).lines);
   assert.deepEqual(dropped.studies.map(s => s.originals), [{}]);
   assert.deepEqual(leftOut(dropped.lines), leftOut(lines));
   assert.deepEqual(leftOut(copyStudy(lines, studies, 0).lines), leftOut(lines));
