@@ -43,7 +43,7 @@ export function listView() {
     h('p', {class: 'row', role: 'group', 'aria-label': 'Show one kind'}, counts.map(count), h('span', {class: 'gap'}),
       button('Save list', 'as comma-separated values, with the numbers of duals and missing defences', saveList,
         {id: 'saveList'})),
-    table(['No.', 'Title', 'Author', 'Stipulation', 'Verdict'], shown,
+    table(['No.', 'Title', 'Author', 'Stipu\u00adlation', 'Verdict'], shown,
       entry => [number(entry), entry.title, entry.author, entry.aim || '–', stampView(entry)])
   ];
 }
