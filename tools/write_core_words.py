@@ -68,11 +68,46 @@ def later():
     return [words.removeprefix(", ") for words in words_in(body(source("study_page/src/cards_and_tries.rt"), "add_longer"))]
 
 
+def said(path, function):
+    """The one byte string of a function."""
+    words, = words_in(body(source(path), function))
+    return words
+
+
+def listed(words):
+    return "[" + ", ".join(quoted(it) for it in words) + "]"
+
+
+def zugzwangs():
+    """Of each kind of mutual zugzwang how much of a point it is, and what comes of it with White and with Black to move."""
+    text = source("study_page/src/cards_and_tries.rt")
+    full, half = words_in(body(text, "points_words"))
+    results = words_in(body(text, "to_move_words"))
+    kinds = zip(words_in(body(source("study_facts/src/zugzwang.rt"), "add_zugzwang_words")), (full, half, half), results[::2], results[1::2])
+    return "".join(f"  {quoted(kind)}: {listed(words)},\n" for kind, *words in kinds)
+
+
+def heads():
+    """The heads of the tables of a page, by what they list, and those of the list of studies."""
+    page, summary = source("study_page/src/page.rt"), source("study_page/src/summary.rt")
+    first, last = words_in(body(page, "put_tables")), words_in(body(page, "put_last_tables"))
+    return {"tries": first[:3], "zugzwangs": first[3:], "ends": last[3:], "list": words_in(body(summary, "put_summary_heads"))}
+
+
+def titles():
+    """The titles of the parts of a page, and that of the list of studies."""
+    functions = {"tries": "tries_title", "zugzwangs": "zugzwangs_title", "defences": "missing_title", "ends": "ends_title"}
+    return {**{name: said("study_page/src/page.rt", function) for name, function in functions.items()},
+            "list": said("study_page/src/summary.rt", "summary_of")}
+
+
 def written():
     one, several = lost()
     as_quick, longer, quicker = later()
     stamp = words_in(body(source("study_facts/src/words.rt"), "add_time_verdict"))[0]
     at_start = words_in(body(source("study_head/src/verdict.rt"), "at_start"))[0]
+    values = source("study_pgn/src/value_text.rt")
+    stalemate, hold = words_in(body(source("study_page/src/defence_groups.rt"), "add_several"))
     return FRONT + f"""/** Why a line is refused, by the name of the refusal, as the printed page has it. */
 export const REASONS = /** @type {{Record<string, string>}} */ ({{
 {reasons()}}});
@@ -84,6 +119,31 @@ export const TIME_STAMP = {quoted(stamp)};
 export const LATER = [{quoted(as_quick)}, {quoted(longer)}, {quoted(quicker)}];
 /** What the value of the start follows. */
 export const AT_START = {quoted(at_start)};
+/** The start, and a study without a title. */
+export const THE_START = {quoted(words_in(body(source("study_page/src/words.rt"), "add_node_name"))[0])};
+export const UNTITLED = {quoted(said("study_head/src/head.rt", "title_words"))};
+/** A value: a draw, a mate, and what stands between who mates and in how many moves. */
+export const DRAW = {quoted(words_in(body(values, "add_value"))[0])};
+export const MATE = {quoted(words_in(body(values, "add_value"))[1])};
+export const MATES_IN = {quoted(said("study_pgn/src/value_text.rt", "add_mates"))};
+/** What follows a mistake. */
+export const LETS_GO = {quoted(said("study_page/src/fault_list.rt", "gives_up_goal"))};
+/** What follows another move that only loses time. */
+export const LOSES_TIME = {quoted(said("study_page/src/cards_and_tries.rt", "loses_time"))};
+/** What follows the number of answers to a defence, and that of the moves that keep a draw. */
+export const HOLD = {quoted(hold)};
+export const KEEP_IT = {quoted(said("study_page/src/play_rows.rt", "keeps_draw_words"))};
+/** A defence that stalemates. */
+export const STALEMATE = {quoted(stalemate)};
+/** The titles of the parts of a page, and of the list of studies. */
+export const TITLES = {{
+{"".join(f"  {name}: {quoted(words)},{chr(10)}" for name, words in titles().items())}}};
+/** The heads of their tables. */
+export const HEADS = {{
+{"".join(f"  {name}: {listed(words)},{chr(10)}" for name, words in heads().items())}}};
+/** Of a mutual zugzwang how much of a point it is, and what comes of it with White and with Black to move. */
+export const ZUGZWANGS = /** @type {{Record<string, string[]>}} */ ({{
+{zugzwangs()}}});
 """
 
 

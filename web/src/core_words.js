@@ -47,3 +47,40 @@ export const TIME_STAMP = 'sound but for loss of time';
 export const LATER = ['as quick', 'longer', 'quicker'];
 /** What the value of the start follows. */
 export const AT_START = 'At the start: ';
+/** The start, and a study without a title. */
+export const THE_START = 'the start';
+export const UNTITLED = 'Untitled';
+/** A value: a draw, a mate, and what stands between who mates and in how many moves. */
+export const DRAW = 'draw';
+export const MATE = 'mate';
+export const MATES_IN = ' mates in ';
+/** What follows a mistake. */
+export const LETS_GO = ' lets the aim go: ';
+/** What follows another move that only loses time. */
+export const LOSES_TIME = ', loses time';
+/** What follows the number of answers to a defence, and that of the moves that keep a draw. */
+export const HOLD = ' hold';
+export const KEEP_IT = ' moves keep it:';
+/** A defence that stalemates. */
+export const STALEMATE = 'stalemate';
+/** The titles of the parts of a page, and of the list of studies. */
+export const TITLES = {
+  tries: 'Tries and their refutations',
+  zugzwangs: 'Mutual zugzwangs',
+  defences: 'Defences that are not in the tree',
+  ends: 'Best play from the open ends',
+  list: 'Entries and verdicts',
+};
+/** The heads of their tables. */
+export const HEADS = {
+  tries: ['After', 'Left', 'Refuted by'],
+  zugzwangs: ['After', 'White to move', 'Black to move'],
+  ends: ['After', 'Value', 'Goes on'],
+  list: ['No.', 'Title', 'Author', 'Stipulation', 'Verdict'],
+};
+/** Of a mutual zugzwang how much of a point it is, and what comes of it with White and with Black to move. */
+export const ZUGZWANGS = /** @type {Record<string, string[]>} */ ({
+  'full': ['full point', 'Black wins', 'White wins'],
+  'half white': ['half a point', 'draw', 'White wins'],
+  'half black': ['half a point', 'Black wins', 'draw'],
+});

@@ -2,6 +2,7 @@
 // The head of a study: title, stipulation, tags.
 import {$, h} from './dom.js';
 import {change} from './actions.js';
+import {UNTITLED} from './core_words.js';
 import {app, services, say} from './state.js';
 import {isDate, isKnown, setTag, stipulate, wholeDate} from './edits.js';
 import {isAimCarried, nameOf} from './entries.js';
@@ -30,7 +31,7 @@ export function headView(s) {
                .join(' · ');
   const old = Object.keys(t).filter(name => s.place[name] === undefined && isKnown(t[name]));
   return [
-    h('h1', {}, isKnown(t.Event) ? nameOf(s, 'Event') : 'Untitled'), by && h('p', {class: 'by'}, by),
+    h('h1', {}, isKnown(t.Event) ? nameOf(s, 'Event') : UNTITLED), by && h('p', {class: 'by'}, by),
     old.length > 0 &&
       h('p', {class: 'note'}, `Set for an earlier study and not since: ${old.map(name => LABELS[name]).join(', ')}. `,
         h('button',

@@ -2,6 +2,7 @@
 // The list of a script's entries with their verdicts: how many of each kind, by which it is filtered, and as a file.
 import {button, download, h} from './dom.js';
 import {goStudy} from './actions.js';
+import {HEADS, TITLES} from './core_words.js';
 import {doc, services} from './state.js';
 import {KIND_WORDS, countsOf, csvOf, entriesOf} from './entries.js';
 import {knownReviews, reviewAll} from './list_facts.js';
@@ -39,11 +40,11 @@ export function listView() {
     button(`${n} ${KIND_WORDS[kind] || kind}`, 'show these alone', () => toggleFilter(kind),
       {class: `chip act${filter === kind ? ' on' : ''}`, 'data-kind': kind, 'aria-pressed': `${filter === kind}`});
   return [
-    h('h2', {id: 'studiesTitle'}, 'Entries and verdicts'),
+    h('h2', {id: 'studiesTitle'}, TITLES.list),
     h('p', {class: 'row', role: 'group', 'aria-label': 'Show one kind'}, counts.map(count), h('span', {class: 'gap'}),
       button('Save list', 'as comma-separated values, with the numbers of duals and missing defences', saveList,
         {id: 'saveList'})),
-    table(['No.', 'Title', 'Author', 'Stipu\u00adlation', 'Verdict'], shown,
+    table(HEADS.list.map(head => head.replace('pul', 'pu\u00adl')), shown,
       entry => [number(entry), entry.title, entry.author, entry.aim || '–', stampView(entry)])
   ];
 }

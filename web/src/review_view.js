@@ -3,11 +3,12 @@
 import {h, smallButton} from './dom.js';
 import {other, sideOf} from './fen.js';
 import {change} from './actions.js';
+import {HEADS, THE_START, TITLES, ZUGZWANGS} from './core_words.js';
 import {app} from './state.js';
 import {insertLines} from './edits.js';
 import {depth, nodeAt, allNodes} from './parse_answers.js';
 import {add, alsoView, nodeLink} from './verdict_view.js';
-import {counted, numberedLine, valueSign, valueText, winner, zugzwangText} from './words.js';
+import {answersText, counted, keepText, numberedLine, valueSign, valueText, winner} from './words.js';
 /** @typedef {import('./types.js').Study} Study @typedef {import('./types.js').TreeNode} TreeNode */
 /** @typedef {import('./types.js').Review} Review @typedef {import('./types.js').Missing} Missing */
 
@@ -93,8 +94,8 @@ function dualsView(s, review, root) {
 function triesView(s, review, root) {
   const rows = byNode(review.refuted, root).sort((x, y) => depth(x[0]) - depth(y[0])), wrong = s.verdict === 'wrong';
   return rows.length > 0 &&
-    section('tries', wrong ? 'What refutes the moves' : 'Tries and their refutations', null,
-      table([wrong ? 'Move' : 'Try', 'Left', 'Refuted by', 'In the tree'], rows, ([n, list]) => tryView(n, list)));
+    section('tries', wrong ? 'What refutes the moves' : TITLES.tries, null,
+      table([...HEADS.tries, 'In the tree'], rows, ([n, list]) => tryView(n, list)));
 }
 /**
  * @param {TreeNode} n
@@ -117,9 +118,11 @@ function tryView(n, list) {
 function zugzwangView(root) {
   const rows = allNodes(root).filter(n => n.zugzwang);
   return rows.length > 0 &&
-    section('zugzwangs', 'Mutual zugzwangs', 'Whoever is to move there would rather not be.',
-      table(
-        ['After', 'What is at stake'], rows, n => [n.parent ? nodeLink(n) : 'the start', zugzwangText(n.zugzwang)]));
+    section('zugzwangs', TITLES.zugzwangs, 'Whoever is to move there would rather not be.',
+      table(HEADS.zugzwangs, rows, n => {
+        const [points, ...results] = ZUGZWANGS[n.zugzwang];
+        return [[n.parent ? nodeLink(n) : THE_START, ' ', h('small', {}, points)], ...results];
+      }));
 }
 /**
  * @param {Study} s
@@ -136,7 +139,7 @@ function defencesView(s, review, root) {
   const note =
     (aim ? (aim.goal === 'draw' ? draws : mates) : '') + 'A press adds it, with its answer where only one holds.';
   const single = review.missing.filter(d => d.count === 1).length;
-  return rows.length > 0 && section('defences', 'Defences that are not in the tree', note, [
+  return rows.length > 0 && section('defences', TITLES.defences, note, [
     single > 1 &&
       h('p', {class: 'act'},
         smallButton(
@@ -180,11 +183,8 @@ function byWorth(s, n, list) {
  */
 function missingView(s, n, list) {
   const sorted = byWorth(s, n, list),
-        view = (/** @type {Missing} */ d) => [defenceView(s, n, d),
-          d.count === 1     ? [' ', h('i', {}, d.answer)]
-            : d.count === 0 ? ' stalemate'
-                            : h('small', {}, ` ${d.count} answers`),
-          '; '];
+        view = (/** @type {Missing} */ d) => [defenceView(s, n, d), ' ',
+          d.count === 1 ? h('i', {}, d.answer) : h('small', {}, answersText(d.count)), '; '];
   const rest = sorted.slice(FIRST),
         more =
           h('button', {class: 'chip act more', onclick: () => more.replaceWith(...rest.flatMap(d => view(d)).flat())},
@@ -232,11 +232,10 @@ function defenceView(s, n, d) {
 function endsView(review, root) {
   const rows =
     byNode(review.ends, root).sort((x, y) => Number(x[1][0].value === null) - Number(y[1][0].value === null));
-  const cells = (/** @type {[TreeNode, import('./types.js').Ending[]]} */[
-    n, [end]
-  ]) => [n.parent ? nodeLink(n) : 'the start', end.value ? playView(n, end.sans, end.value.n) : keepView(n, end)];
-  return rows.length > 0 &&
-    section('ends', 'Best play from the open ends', null, table(['End', 'Goes on'], rows, cells));
+  const cells =
+    (/** @type {[TreeNode, import('./types.js').Ending[]]} */[n, [end]]) => [n.parent ? nodeLink(n) : THE_START,
+      valueText(sideOf(n.fen), n.value), end.value ? playView(n, end.sans, end.value.n) : keepView(n, end)];
+  return rows.length > 0 && section('ends', TITLES.ends, null, table(HEADS.ends, rows, cells));
 }
 /**
  * @param {TreeNode} n
@@ -251,5 +250,4 @@ const playView = (n, sans, plies) => [numberedLine(n.fen, sans),
  * @param {TreeNode} n
  * @param {import('./types.js').Ending} end
  */
-const keepView =
-  (n, end) => [`drawn; ${end.keeping} of ${end.of} moves keep it: `, end.sans.map(san => add(n.path, [san], san))];
+const keepView = (n, end) => [keepText(end.keeping, end.of), end.sans.map(san => add(n.path, [san], san))];

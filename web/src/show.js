@@ -3,6 +3,7 @@
 import {$, button, h, put, onDocument} from './dom.js';
 import {spokenMove} from './fen.js';
 import {prefetch} from './prefetch.js';
+import {UNTITLED} from './core_words.js';
 import {app, doc, node, study} from './state.js';
 import {showBoard} from './board.js';
 import {announce} from './board_input.js';
@@ -127,7 +128,7 @@ export function show() {
   speak();
   hint();
   $('right').classList.toggle('behind', Boolean(app.setup && s && !anew));
-  document.title = s ? `${nameOf(s, 'Event') || 'Untitled'} · Study board` : 'Study board';
+  document.title = s ? `${nameOf(s, 'Event') || UNTITLED} · Study board` : 'Study board';
 }
 /**
  * Focus stays where it was, though everything is drawn again.

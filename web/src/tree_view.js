@@ -7,7 +7,7 @@ import {app, doc} from './state.js';
 import {allNodes} from './parse_answers.js';
 import {editsTo} from './script.js';
 import {bareTree} from './unmarked.js';
-import {counted, markMeaning, markSign, moveName, valueSign, valueText, zugzwangText} from './words.js';
+import {counted, letsGo, markMeaning, markSign, moveName, valueSign, valueText, zugzwangText} from './words.js';
 /** @typedef {import('./types.js').TreeNode} TreeNode @typedef {import('./types.js').Study} Study */
 
 /**
@@ -147,5 +147,5 @@ const example = (/** @type {string} */ mark, /** @type {string} */ sign) =>
   h('span', {class: 'm ' + mark}, 'move', sign && h('b', {}, sign));
 export const keyView = () => h('p', {class: 'note key'}, example('only', '!'), ' the only one that holds · ',
   example('dual', ''), ' ', h('span', {class: 'tag'}, 'dual 2'), ' two others hold · ', example('mistake', '?'),
-  ' lets the aim go · ', example('', ''), h('sub', {}, '7'), ' mate in 7 · ', h('sub', {}, '−7'), ' is mated in 7 · ',
+  ` ${letsGo} · `, example('', ''), h('sub', {}, '7'), ' mate in 7 · ', h('sub', {}, '−7'), ' is mated in 7 · ',
   h('sub', {}, '='), ' drawn · ', h('span', {class: 'tag zugzwang'}, '⊙'), ' mutual zugzwang');

@@ -3,6 +3,7 @@
 import {h} from './dom.js';
 import {moveNumber, other, sideOf} from './fen.js';
 import {change, go, judgeAgain} from './actions.js';
+import {LETS_GO, LOSES_TIME} from './core_words.js';
 import {app, doc} from './state.js';
 import {insert} from './board_input.js';
 import {stipulate} from './edits.js';
@@ -15,6 +16,7 @@ import {
   counted,
   difference,
   holds,
+  lateBy,
   moveName,
   numberedLine,
   otherAims,
@@ -129,7 +131,9 @@ export function alsoView(s, n, list) {
   const parent = n.parent;
   return parent && list.map(a => {
     const there = parent.children.some(c => c.san === a.san);
-    const notes = [s.aim && difference(s.aim, n.value, a.value), a.time >= 0 && 'loses time', there && 'in the tree'];
+    const notes = [
+      s.aim && difference(s.aim, n.value, a.value), a.time >= 0 && LOSES_TIME.replace(', ', ''), there && 'in the tree'
+    ];
     const text = notes.filter(Boolean).join(', ');
     return [add(parent.path, [a.san], [h('b', {}, a.san), text && h('small', {}, ' ' + text)]), ' '];
   });
@@ -153,12 +157,10 @@ function faultView(s, root, f) {
  * @param {TreeNode} n
  */
 function mistakeView(s, n) {
-  const late = s.aim && s.aim.goal === 'mate' && winner(sideOf(n.fen), n.value) === s.aim.hero,
-        better = n.parent ? n.parent.children.find(holds) : undefined;
-  const left = late ? `mate comes on move ${Math.ceil((n.path.split('.').length + n.value.n) / 2)}`
-                    : valueText(sideOf(n.fen), n.value);
+  const better = n.parent ? n.parent.children.find(holds) : undefined, late = s.aim ? lateBy(s.aim, n) : 0;
   return [
-    nodeLink(n), h('b', {}, ' lets the aim go'), `: ${left} `,
+    nodeLink(n), h('b', {}, LETS_GO), valueText(sideOf(n.fen), n.value),
+    late > 0 && `, ${counted(late, 'move')} too late`, ' ',
     better && [h('button', {class: 'chip act', onclick: () => promote(better, true)}, `Put ${better.san} first`), ' '],
     cut(n, 'Delete it')
   ];

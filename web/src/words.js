@@ -1,6 +1,20 @@
 // @ts-check
 // Values, verdicts and refusals in the words of the printed page.
-import {AT_START, LATER, LOST, REASONS} from './core_words.js';
+import {
+  AT_START,
+  DRAW,
+  HOLD,
+  KEEP_IT,
+  LATER,
+  LETS_GO,
+  LOST,
+  MATE,
+  MATES_IN,
+  REASONS,
+  STALEMATE,
+  THE_START,
+  ZUGZWANGS
+} from './core_words.js';
 import {moveNumber, other, sideOf} from './fen.js';
 /** @typedef {import('./types.js').Value} Value @typedef {import('./types.js').Side} Side */
 /** @typedef {import('./types.js').Aim} Aim */
@@ -22,8 +36,8 @@ const isMate = value => value.kind === 'loss' && value.n === 0;
  * @param {Value} value
  */
 export function valueText(mover, value) {
-  if (value.kind === 'draw') return 'draw';
-  return isMate(value) ? 'mate' : `${winner(mover, value)} mates in ${movesTo(value)}`;
+  if (value.kind === 'draw') return DRAW;
+  return isMate(value) ? MATE : winner(mover, value) + MATES_IN + movesTo(value);
 }
 /**
  * The small number after a move.
@@ -59,7 +73,7 @@ export function readAim(words) {
 export const holds = move => move.mark === 'only' || move.mark === 'dual';
 
 /** @param {TreeNode} node */
-export const moveName = node => (node.parent ? numberedName(node.parent.fen, node.san) : 'the start');
+export const moveName = node => (node.parent ? numberedName(node.parent.fen, node.san) : THE_START);
 /**
  * @param {string} before
  * @param {string} san
@@ -105,18 +119,25 @@ export function markMeaning(node, hero) {
   if (node.mark === 'only') return 'the only move that holds';
   if (node.mark === 'dual') return node.duals === 1 ? 'dual: one other move holds' : `dual: ${node.duals} others hold`;
   if (node.mark === 'idle') return 'nothing was to be gained';
-  if (node.mark === 'mistake')
-    return node.parent && sideOf(node.parent.fen) === hero ? 'lets the aim go' : 'gives the aim back';
+  if (node.mark === 'mistake') return node.parent && sideOf(node.parent.fen) === hero ? letsGo : 'gives the aim back';
   return '';
 }
+/** What is said of a mistake of the hero. */
+export const letsGo = LETS_GO.replace(/[ :]*$/, '').trim();
+/** @param {number} answers */
+export const answersText = answers => (answers ? answers + HOLD : STALEMATE);
+/**
+ * @param {number} keeping
+ * @param {number} of
+ */
+export const keepText = (keeping, of) => `${keeping} of ${of}${KEEP_IT} `;
 /**
  * What a mutual zugzwang is about: `full`, `half white`, `half black`.
  * @param {string} kind
  */
 export function zugzwangText(kind) {
-  const side = kind.endsWith('white') ? 'White' : 'Black';
-  return kind === 'full' ? 'a full point: whoever moves loses'
-                         : `half a point: ${side} wins if the other side is to move, else it is a draw`;
+  const [points, white, black] = ZUGZWANGS[kind];
+  return `${points}; White to move: ${white}; Black to move: ${black}`;
 }
 /**
  * How much longer another move takes than the one played.
@@ -129,6 +150,14 @@ export function difference(aim, played, value) {
   const d = (value.n - played.n) / 2;
   return d === 0 ? LATER[0] : `${counted(Math.abs(d), 'move')} ${LATER[d > 0 ? 1 : 2]}`;
 }
+/**
+ * By how many of the hero's moves, counted from the start, a mate comes too late.
+ * @param {Aim} aim
+ * @param {TreeNode} n
+ */
+export const lateBy = (aim, n) => (aim.goal === 'mate' && winner(sideOf(n.fen), n.value) === aim.hero
+    ? Math.ceil((n.path.split('.').length + n.value.n) / 2) - aim.k
+    : 0);
 /**
  * What could be said of the position instead, by its value alone: words of stipulations.
  * @param {Aim} aim
