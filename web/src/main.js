@@ -2,7 +2,7 @@
 // The beginning: workers, what was kept, the bar, files and keys.
 import {$, download, onDocument} from './dom.js';
 import {makeApi} from './api.js';
-import {arrive, track, goStudy, judgeAgain, work} from './actions.js';
+import {arrive, go, track, goStudy, judgeAgain, work} from './actions.js';
 import {PAGES, app, doc, services, say, study} from './state.js';
 import {showBoard} from './board.js';
 import {listen} from './board_input.js';
@@ -138,9 +138,13 @@ on('savePgn', () => {
 addEventListener('beforeprint', () => {
   for (const more of /** @type {NodeListOf<HTMLElement>} */ (document.querySelectorAll('button.more'))) more.click();
 });
-on('print', () => {
+/** The diagram on paper is that of the start. */
+on('print', async () => {
+  const {path} = doc();
   if (app.setup) closeSetup();
+  await go('root');
   window.print();
+  if (path !== 'root') go(path);
 });
 /** The printed pages of all studies. */
 const saveReport = () => work(async () => {

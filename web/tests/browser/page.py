@@ -381,7 +381,16 @@ def test_print(user):
     user.d.execute_cdp_cmd("Emulation.setEmulatedMedia", {"media": "print"})
     user.picture("print")
     assert not user.by("saveReport").is_displayed()
-    assert user.by("stamp").is_displayed()
+    assert user.by("stamp").is_displayed() and user.by("value").is_displayed()
+    assert not user.d.find_element(By.CSS_SELECTOR, "#here .moves").is_displayed()
+    user.d.execute_cdp_cmd("Emulation.setEmulatedMedia", {"media": ""})
+    user.go("0")
+    told = "[studyboard.path(), document.getElementById('value').innerText]"
+    user.js(f"window.print = () => {{ window.printed = {told}; }}")
+    user.click("print")
+    user.settle()
+    path, value = user.js("return window.printed")
+    assert path == "root" and value.startswith("At the start") and user.js("return studyboard.path()") == "0"
 
 
 def test_no_request_is_made(user):

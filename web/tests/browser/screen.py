@@ -253,8 +253,8 @@ def test_colours_and_paper(user):
     user.d.execute_cdp_cmd("Emulation.setEmulatedMedia", {"media": "print"})
     rows = colours(user)
     assert rows and all(contrast(text, "rgb(255, 255, 255)") > 4.5 for text, _, _ in rows), rows
-    assert not any(user.by(name).is_displayed() for name in ("saveReport", "nav", "here"))
-    assert user.by("stamp").is_displayed()
+    assert not any(user.by(name).is_displayed() for name in ("saveReport", "nav"))
+    assert user.by("stamp").is_displayed() and user.by("value").is_displayed()
     user.picture("print_from_dark")
 
 
