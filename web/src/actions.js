@@ -1,8 +1,9 @@
 // @ts-check
 // What is done to the document, one action after the other.
 import {countsOf, linesToRun, repliesTo, reviewOf, viewOf} from './answer_cache.js';
+import {newlyRefused} from './entries.js';
 import {advance, redo as redone, replace, undo as undone} from './history.js';
-import {editsTo, fensOf, isEdit, toText, overLimit, readScript, repliesOf, wordsOf} from './script.js';
+import {editsTo, fensOf, toText, overLimit, readScript, repliesOf, wordsOf} from './script.js';
 import {nodeAt} from './parse_answers.js';
 import {cancelPrefetch, dropPrefetched, prefetchNeighbours, prefetchView} from './prefetch.js';
 import {Stopped} from './engine.js';
@@ -166,9 +167,7 @@ async function applyChange(make, where) {
   if (!wanted) return;
   if (wanted.lines === now.lines) return look(wanted.at, wanted.path === 'made' ? undefined : wanted.path);
   prefetchView(now, wanted).catch(() => {});
-  const script = await evaluate(wanted.lines),
-        newly =
-          script.refused.find(r => isEdit(r.text) && !now.refused.some(o => o.text === r.text && o.reply === r.reply));
+  const script = await evaluate(wanted.lines), newly = newlyRefused(now.refused, script.refused);
   if (newly && !wanted.lenient && now.judged) {
     const subject = /^ *insert/.test(newly.text) ? wordsOf(newly.text)[2] : '';
     say(where,

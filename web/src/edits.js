@@ -111,18 +111,21 @@ export function promoteNode(lines, study, node, toFront = false) {
     path: 'made'
   };
 }
+/** @param {string} line */
+const isAimLine = line => /^ *stipulate +(white|black) +(win|draw|mate +\d+) *$/.test(line);
 /**
- * An earlier line of the study is changed in place; else one is added below the position and its stipulation.
+ * An earlier line of the study is changed in place; else one is added below the position and its stipulation, before
+ * which there may be no study yet.
  * @param {string[]} lines
  * @param {Study} study
  * @param {string} place
  * @param {string} line
  */
 function setLine(lines, study, place, line) {
-  const at = study.place[place];
+  const at = study.place[place], {aim = study.from} = study.place;
   if (at !== undefined && at > study.from) return splice(lines, at, 1, ...(line ? [line] : []));
-  const aim = wordsOf(lines[study.from + 1] || '')[0] === 'stipulate' ? 1 : 0;
-  return line ? splice(lines, study.from + 1 + (place === 'aim' ? 0 : aim), 0, line) : lines;
+  const first = place === 'aim' ? -1 : lines.findIndex((text, i) => i > study.from && i <= aim && isAimLine(text));
+  return line ? splice(lines, Math.max(study.from, first) + 1, 0, line) : lines;
 }
 /**
  * @param {string[]} lines
@@ -198,7 +201,8 @@ function withOriginal(lines, study, name, original) {
  * @returns {Change}
  */
 export function setTag(lines, study, name, text, original = '') {
-  const carried = study.tags[name] !== undefined && study.place[name] === undefined;
+  const before = study.carried.find(line => wordsOf(line)[1] === name && wordsOf(line)[0] === 'tag'),
+        carried = before !== undefined && isKnown(before.replace(/^tag +\w+ +/, ''));
   const own = lines.findIndex(
     (line, at) => at > study.from && at < study.end && wordsOf(line).slice(0, 2).join(' ') === 'tag ' + name);
   const there = own < 0 ? study : {...study, place: {[name]: own, ...study.place}};

@@ -109,6 +109,20 @@ export function stampOf(doc, s, review) {
   if (review && review.waste.startsWith('sound')) return {kind: 'time', text: review.waste};
   return {kind, text: (review && review.waste) || s.verdict};
 }
+/**
+ * The first edit that is refused now and was not before: what was refused already may be so for another reason.
+ * @param {import('./types.js').Refused[]} before
+ * @param {import('./types.js').Refused[]} now
+ */
+export function newlyRefused(before, now) {
+  const left = /** @type {Map<string, number>} */ (new Map());
+  for (const {text} of before) left.set(text, (left.get(text) || 0) + 1);
+  return now.find(({text}) => {
+    const n = left.get(text) || 0;
+    left.set(text, n - 1);
+    return n < 1 && isEdit(text);
+  });
+}
 /** @param {string} line */
 const pathIn = line => wordsOf(line)[wordsOf(line)[0] === 'solve' ? 2 : 1] || '';
 /**

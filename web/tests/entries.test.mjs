@@ -9,6 +9,7 @@ import {
   entriesOf,
   hasSolution,
   nameOf,
+  newlyRefused,
   numbersOf,
   stampOf,
   studyName
@@ -111,6 +112,12 @@ test('a study that is removed leaves to the next one what that took over', () =>
   const own = [...LINES.slice(0, 8), 'stipulate white draw', 'pgn'],
         studies = [{...d.studies[0], end: 7}, {...d.studies[1], head: 7, from: 7, end: 10, place: {aim: 8}}];
   assert.deepEqual(dropStudy(own, studies, 0).lines, [own[7], own[8], 'tag Event B', 'tag White Reti', 'pgn']);
+});
+test('what was refused already is not newly refused, whatever the reason', () => {
+  const row = (text, reply) => ({line: 0, text, reply: 'error ' + reply}), old = row('insert 0.0 Kf3', 'NoSuchNode');
+  assert.equal(newlyRefused([old], [row('insert 0.0 Kf3', 'NoSuchMove'), row('mark 5', 'NoSuchNode')]), undefined);
+  assert.equal(newlyRefused([old], [old, old]), old);
+  assert.equal(newlyRefused([old], [row('insert 0 Kf9', 'NotSan')]).text, 'insert 0 Kf9');
 });
 test('studies that are copied and moved stand alone', () => {
   const d = doc(['sound', 'sound', 'sound']), moved = moveStudy(d.lines, d.studies, 0, 1),

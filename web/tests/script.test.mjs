@@ -239,15 +239,25 @@ test('stipulation and tags stand in the lines of the study', () => {
   assert.deepEqual(own.slice(0, 4), ['# White was: Троицкий', START[0], START[1], 'tag White Troickij']);
   const again = {...study, head: 0, from: 1, place: {aim: 2, White: 3}};
   assert.deepEqual(edits.setTag(own, again, 'White', 'Reti').lines.slice(0, 3), [START[0], START[1], 'tag White Reti']);
-  const old = {...study, tags: {White: 'A', Date: '1921.??.??'}, place: {aim: 1}};
+  const carried = ['tag White B', 'tag Date 1921.??.??', 'tag Site ?'],
+        old = {...study, tags: {White: 'A', Date: '1921.??.??'}, carried};
   assert.deepEqual(edits.setTag(START, old, 'Date', '').lines[2], 'tag Date ????.??.??');
+  // without its own line the study would have the author of the one before
+  assert.deepEqual(edits.setTag(START, old, 'White', '').lines[2], 'tag White ?');
+  assert.deepEqual(edits.setTag(START, old, 'Site', '').lines, START);
+});
+test('a tag stands below a stipulation that is not right below the position', () => {
+  const lines = ['position x', '', '# why', 'stipulate white wins', 'stipulate white mate 3', 'insert root c7'],
+        at = {from: 0, end: 6, place: {aim: 4}, tags: {}, originals: {}, carried: []};
+  assert.equal(edits.setTag(lines, at, 'Site', 'B').lines[5], 'tag Site B');
+  assert.equal(edits.stipulate(lines, {...at, place: {}}, 'white draw').lines[1], 'stipulate white draw');
 });
 test('a tag stands below the first stipulation of a study that has two', () => {
   const lines = [
     'position 8/8/1KP5/3r4/8/8/8/k7 w - - 0 1', 'stipulate white win', 'tag Event A', 'insert root c7',
     'stipulate white mate 7'
   ];
-  const study = {from: 0, end: 5, place: {aim: 4, Event: 2}, tags: {}, originals: {}};
+  const study = {from: 0, end: 5, place: {aim: 4, Event: 2}, tags: {}, originals: {}, carried: []};
   assert.deepEqual(
     edits.setTag(lines, study, 'Site', 'B').lines.slice(0, 4), [lines[0], lines[1], 'tag Site B', lines[2]]);
 });
