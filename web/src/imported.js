@@ -22,12 +22,14 @@ export function decode(bytes) {
   } catch { return new TextDecoder('latin1').decode(bytes); }
 }
 /**
- * The bytes of a file in UTF-8, where the mark at their front says that they are UTF-16.
+ * The bytes of a file in UTF-8, where the mark at their front says that they are UTF-16; with line feeds, where its
+ * lines end with carriage returns alone.
  * @param {Uint8Array} bytes
  */
-export function fromUtf16(bytes) {
+export function plainBytes(bytes) {
   const mark = bytes[0] * 256 + bytes[1], code = mark === 0xfffe ? 'utf-16le' : mark === 0xfeff ? 'utf-16be' : '';
-  return code ? new TextEncoder().encode(new TextDecoder(code).decode(bytes)) : bytes;
+  const read = code ? new TextEncoder().encode(new TextDecoder(code).decode(bytes)) : bytes;
+  return read.includes(10) ? read : read.map(byte => (byte === 13 ? 10 : byte));
 }
 const GAME = /^# game (\d+), line (\d+)(?:, column (\d+))?(?: \(([^:]*)\))?: (.*)$/,
       COUNTS = /^# games (\d+), studies (\d+)$/;

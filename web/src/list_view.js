@@ -33,7 +33,8 @@ export function listView() {
   if (!counts.some(([kind]) => kind === filter)) filter = '';
   const shown = entries.filter(entry => !filter || entry.kind === filter);
   const number = (/** @type {Entry} */ entry) => {
-    const text = entry.number || '\u2013', props = {class: 'link', 'aria-current': entry.at === doc().at && 'true'};
+    const text = entry.number || '\u2013', here = entry.at === doc().at && 'true';
+    const props = {class: 'link', 'aria-current': here, 'aria-label': !entry.number && `Show ${entry.title}`};
     return entry.at < 0 ? text : button(text, 'show it', () => goStudy(entry.at), props);
   };
   const count = (/** @type {[string, number]} */[kind, n]) =>

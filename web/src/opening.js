@@ -3,7 +3,7 @@
 import {$, h, smallButton} from './dom.js';
 import {change, track, sayOpened, work} from './actions.js';
 import {app, doc, services, say} from './state.js';
-import {decode, documentOf, fromUtf16, importNote, leftOutBy, looksLikePgn, notKept, withoutAim} from './imported.js';
+import {decode, documentOf, plainBytes, importNote, leftOutBy, looksLikePgn, notKept, withoutAim} from './imported.js';
 import {freshId} from './keep.js';
 import {gamesIn, namesOf, remarksOf, savedGames} from './notes.js';
 import {replace} from './history.js';
@@ -117,7 +117,7 @@ export const openText = (text, where = 'script', name = '') =>
  * @param {File} file
  */
 export const openFile = file => track(file.arrayBuffer().then(buffer => {
-  const bytes = fromUtf16(new Uint8Array(buffer)), text = decode(bytes);
+  const bytes = plainBytes(new Uint8Array(buffer)), text = decode(bytes);
   return looksLikePgn(text) ? openPgn(bytes, 'board', file.name) : openScript(text, 'board', file.name);
 }));
 /**

@@ -4,7 +4,7 @@ import assert from 'node:assert/strict';
 import {
   decode,
   documentOf,
-  fromUtf16,
+  plainBytes,
   importNote,
   leftOut,
   looksLikePgn,
@@ -31,9 +31,12 @@ test('a file in UTF-16 is read by its mark', () => {
   const text = '[White "Réti"]', codes = [...text].map(letter => letter.charCodeAt(0));
   const little = codes.flatMap(code => [code & 255, code >> 8]), big = codes.flatMap(code => [code >> 8, code & 255]);
   for (const bytes of [[0xff, 0xfe, ...little], [0xfe, 0xff, ...big]])
-    assert.equal(decode(fromUtf16(Uint8Array.from(bytes))), text);
+    assert.equal(decode(plainBytes(Uint8Array.from(bytes))), text);
   const plain = new TextEncoder().encode(text);
-  assert.equal(fromUtf16(plain), plain);
+  assert.equal(decode(plainBytes(plain)), text);
+  assert.equal(decode(plainBytes(new TextEncoder().encode('[FEN "x"]\r\r1. Kb3\r'))), '[FEN "x"]\n\n1. Kb3\n');
+  const windows = new TextEncoder().encode('a\r\nb\r\n');
+  assert.equal(plainBytes(windows), windows);
 });
 test('a PGN is told from a script', () => {
   for (const text of ['[Event "x"]', '\ufeff\n [White "x"]', '% a remark\n[FEN "x"]', 'by an editor\n\n[FEN "x"]'])
