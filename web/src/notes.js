@@ -18,27 +18,37 @@ const RESULT = /^(1-0|0-1|1\/2-1\/2|1\/2|\*)$/,
         {'!': '$1', '?': '$2', '!!': '$3', '??': '$4', '!?': '$5', '?!': '$6', '=': '$10', '+-': '$18', '-+': '$19'}),
       NULL_MOVE = /^(--|Z0|null|pass|[\u2013\u2014])$/;
 /**
- * The moves of a game, one after the other: for each token the moves from the start that lead to it.
+ * The moves of a game, one after the other: for each token the moves from the start that lead to it. A comment before
+ * the first move of a variation is one of that move.
  * @param {string} movetext
  * @param {(kind: 'comment' | 'nag' | 'move', text: string, path: string[], end: number) => void} visit
  */
 function walk(movetext, visit) {
   const outer = /** @type {[string[], string[]][]} */ ([]);
-  let at = /** @type {string[]} */ ([]), before = at;
+  let at = /** @type {string[]} */ ([]), before = at, ahead = /** @type {string[] | null} */ (null);
+  const flush = (/** @type {number} */ end) => {
+    for (const text of ahead || []) visit('comment', text, at, end);
+    ahead = null;
+  };
   for (const m of movetext.matchAll(TOKEN)) {
     const [token, brace, line, nag, bracket, sign, symbol] = m, end = (m.index || 0) + token.length;
     if (bracket === '(') {
       outer.push([at, before]);
-      at = before;
-    } else if (bracket === ')') [at, before] = outer.pop() || [at, before];
-    else if (nag || sign) visit('nag', nag || SIGNS[sign] || '', at, end);
-    else if (brace !== undefined || line !== undefined) visit('comment', oneLine(brace ?? line), at, end);
-    else if (symbol && SIGNS[symbol]) visit('nag', SIGNS[symbol], at, end);
+      [at, ahead] = [before, []];
+    } else if (bracket === ')') {
+      [at, before] = outer.pop() || [at, before];
+      flush(end);
+    } else if (nag || sign) visit('nag', nag || SIGNS[sign] || '', at, end);
+    else if (brace !== undefined || line !== undefined) {
+      if (ahead) ahead.push(oneLine(brace ?? line));
+      else visit('comment', oneLine(brace ?? line), at, end);
+    } else if (symbol && SIGNS[symbol]) visit('nag', SIGNS[symbol], at, end);
     else if (symbol && RESULT.test(symbol)) {
       if (!outer.length) return;
     } else if (symbol && (NULL_MOVE.test(symbol) || /[a-hO0]/.test(plain(symbol)))) {
       [before, at] = [at, [...at, NULL_MOVE.test(symbol) ? '--' : plain(symbol)]];
       visit('move', symbol, at, end);
+      flush(end);
     }
   }
 }
@@ -158,11 +168,13 @@ const isOwn = movetext => VERDICT.test(oneLine((/\{([^}]*)\}/.exec(movetext) || 
  * @param {string[]} lines
  * @param {Study} study
  * @param {(moves: string) => string} to      the moves that lead to a note from now on
+ * @param {(squares: string) => string} [marked]      the squares that its arrows and circles have from now on
  */
-export const notesMoved = (lines, study, to) =>
-  lines.map((line, at) => (at >= study.head && at < study.from
-                ? line.replace(/^# note (\w[^:]*)/, (_, moves) => `# note ${to(moves)}`)
-                : line));
+export const notesMoved = (lines, study, to, marked = squares => squares) => lines.map((line, at) => {
+  if (at < study.head || at >= study.from || !line.startsWith('# note ')) return line;
+  return line.replace(/^# note (\w[^:]*)/, (_, moves) => `# note ${to(moves)}`)
+    .replace(/(\[%c[as]l)( [^\]]*)/g, (_, mark, squares) => mark + marked(squares));
+});
 /**
  * A game as the program writes it, with the tags and notes of remarks put in, each behind what the program says there.
  * @param {string} game

@@ -63,7 +63,7 @@ async function takeOverOnce(how) {
   const done = await change(now => {
     const s = now.studies[now.at];
     const turned = (/** @type {string} */ moves) => d.turns.reduce((text, turn) => turnedSan(turn, text), moves);
-    return how === 'keep' && s ? withMoves(notesMoved(now.lines, s, turned), s, fen, d.aim, kept.lines)
+    return how === 'keep' && s ? withMoves(notesMoved(now.lines, s, turned, turned), s, fen, d.aim, kept.lines)
                                : anew(d, now, fen);
   }, 'fen');
   if (!done) return;

@@ -79,6 +79,17 @@ test('notes follow their moves', () => {
   assert.deepEqual(notesMoved(lines, {head: 2, from: 4}, moves => 'Kg2 Kg5 ' + moves),
     ['# note Kb2: of another study', '', '# note -: all', '# note Kg2 Kg5 Kg3 Kf5: here', 'position x']);
 });
+test('arrows and circles follow their squares', () => {
+  const lines = ['# note -: to b2 [%csl Gb2] [%cal Gb2a3,Re5d5]', '# note Kb2: b2', 'position x'],
+        mirror = text => text.replace(/[a-h]/g, c => 'hgfedcba'['abcdefgh'.indexOf(c)]);
+  assert.deepEqual(notesMoved(lines, {head: 0, from: 2}, mirror, mirror),
+    ['# note -: to b2 [%csl Gg2] [%cal Gg2h3,Rd5e5]', '# note Kg2: b2', 'position x']);
+});
+test('a comment before the first move of a variation is one of that move', () => {
+  const game = GAME.replace('(1. b4? $4', '({A try:} 1. b4? $4 {v}').replace('1... Kf5', '{on} 1... Kf5');
+  assert.deepEqual(
+    remarksOf(game).filter(line => /try|v$|on$/.test(line)), ['# note b4: A try:', '# note b4: v', '# note Kg3: on']);
+});
 test('games are cut as the program cuts them', () => {
   assert.equal(gamesIn(GAME + '\n' + OURS).length, 2);
   assert.equal(gamesIn('[Event "a"]\n[Event "b"]\n\n1. e4 *\n').length, 2);
