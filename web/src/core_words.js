@@ -43,6 +43,8 @@ export const REASONS = /** @type {Record<string, string>} */ ({
 export const LOST = [', which loses time alone', ', which lose time alone'];
 /** The stamp of a study all of whose faults lose time alone. */
 export const TIME_STAMP = 'sound but for loss of time';
+/** The stamp of a study that holds, and of which no move of the hero was given. */
+export const HOLDS_STAMP = 'holds';
 /** How another move mates that mates no later, later, or earlier. */
 export const LATER = ['as quick', 'longer', 'quicker'];
 /** What the value of the start follows. */

@@ -1,6 +1,6 @@
 // @ts-check
 // The entries of a script, one a row: its studies with what is said of them, and those that were left out.
-import {TIME_STAMP} from './core_words.js';
+import {HOLDS_STAMP, TIME_STAMP} from './core_words.js';
 import {isKnown} from './edits.js';
 import {control, sideOf} from './fen.js';
 import {leftOutBy, originalsIn, whyLeftOut} from './imported.js';
@@ -13,8 +13,8 @@ import {aimText, reason} from './words.js';
 /**
  * `kind` is what the list is filtered by; `at` the place of a study, -1 of an entry that was left out; `number` that of
  * its game and page.
- * @typedef {{line: number, at: number, number: string, kind: string, title: string, author: string, fen: string, aim: string,
- *   stamp: string, review: Review | null}} Entry
+ * @typedef {{line: number, at: number, number: string, kind: string, title: string, author: string, fen: string,
+ *   aim: string, stamp: string, review: Review | null}} Entry
  */
 
 /**
@@ -105,7 +105,7 @@ export function stampOf(doc, s, review) {
   const unread = unreadIn(doc, s), [kind] = s.verdict.split(' ');
   if (unread) return {kind: 'not read', text: unread};
   if (!kind) return {kind: 'not judged', text: 'not judged'};
-  if (kind === 'sound' && !hasSolution(doc.lines, s, review)) return {kind: 'holds', text: 'holds'};
+  if (kind === 'sound' && !hasSolution(doc.lines, s, review)) return {kind: 'holds', text: HOLDS_STAMP};
   if (review && review.waste.startsWith('sound')) return {kind: 'time', text: review.waste};
   return {kind, text: (review && review.waste) || s.verdict};
 }
@@ -200,8 +200,8 @@ const missing = (line, title, author, why) => ({
   review: null
 });
 /**
- * The numbers of each study, as the saved PGN counts its games and the report its pages: `3`; `3\u20134` of a study with
- * two games, and nothing without a stipulation.
+ * The numbers of each study, as the saved PGN counts its games and the report its pages: `3`; `3\u20134` of a study
+ * with two games, and nothing without a stipulation.
  * @param {Study[]} studies
  */
 export function numbersOf(studies) {

@@ -248,7 +248,8 @@ def test_a_study_begins_earlier(user):
     user.settle()
     user.click("beginOne")
     user.settle()
-    assert "position 8/3P4/8/8/8/2k5/8/K7 w - - 0 1" in script(user) and "insert root d8=Q" in script(user), script(user)
+    lines = script(user).split("\n")
+    assert "position 8/3P4/8/8/8/2k5/8/K7 w - - 0 1" in lines and "insert root d8=Q" in lines, lines
 
 
 def test_a_mate_begins_earlier(user):
