@@ -113,6 +113,35 @@ def test_ten_entries_are_ten_rows(user):
         assert len(rows(user)) == number and sum("left out" in row[4] for row in rows(user)) == 4, rows(user)
 
 
+def test_numbers_and_what_is_carried(user):
+    """A study has one number on the board, in report and list; lines have theirs; what is carried is said."""
+    user.open_tables(TABLES, SMALL)
+    one = f"position {FEN}\n\n# why\nstipulate white win\ntag Event One\ntag White Adam\ninsert root Kg3\npgn\n\n"
+    two = one.replace("Kg3", "Kg3\ninsert 0 Kh9\nmark 5").replace("One", "Two").replace("Adam", "Berta")
+    three = f"position {FEN}\ntag Event Three\ninsert root Kg3\n"
+    opened(user, "numbers.script", "# first\n" + one.replace("8/1P5K", "9/1P5K") + one + two + three)
+    assert [row[0] for row in rows(user)] == ["\u2013", "1", "2", "3"], rows(user)
+    assert rows(user)[3][2:4] == ["Berta (set for an earlier study)", "White to win (set for an earlier study)"]
+    cells = "document.querySelectorAll('#refused + .scroll td:first-child')"
+    refused = user.js(f"return [...{cells}].map(e => +e.innerText)")
+    _, report = user.download("saveReport")
+    assert refused == [2, 27, 28] and all(f"Line {n} was refused" in report for n in refused), refused
+    listed = re.findall(r"<tr><td>(\d*)</td>", report[report.index("Entries and verdicts"):])
+    assert listed[-3:] == ["1", "2", "3"], listed
+    options = user.js("return [...document.getElementById('studies').options].map(o => o.innerText)")
+    assert options[2].startswith("3. Three:") and "Berta" not in options[2], options
+    user.choose("studies", "2")
+    user.click("keepAim")
+    user.settle()
+    assert script(user).count("stipulate white win") == 4 and not user.has("keepAim")
+    user.fill("tagWhite", "Cecil")
+    user.fill("tagWhite", "")
+    assert "tag White ?" in script(user) and rows(user)[3][2] == "", rows(user)
+    user.choose("studies", "0")
+    user.fill("tagSite", "Riga")
+    assert "stipulate white win\ntag Site Riga" in script(user)
+
+
 def test_letters_of_another_code(user):
     user.open_tables(TABLES, SMALL)
     path = os.path.join(tempfile.mkdtemp(), "latin1.pgn")
