@@ -106,7 +106,9 @@ def written():
     as_quick, longer, quicker = later()
     stamp = words_in(body(source("study_facts/src/words.rt"), "add_time_verdict"))[0]
     at_start = words_in(body(source("study_head/src/verdict.rt"), "at_start"))[0]
-    holds = re.search(r'Stamp::Holds => text.add\(b"([^"]*)"', source("study_head/src/verdict.rt"))[1]
+    verdict = source("study_head/src/verdict.rt")
+    holds = re.search(r'Stamp::Holds => text.add\(b"([^"]*)"', verdict)[1]
+    unread = re.search(r'Stamp::NotRead\(_\) => b"([^"]*)"', verdict)[1]
     values = source("study_pgn/src/value_text.rt")
     stalemate, hold = words_in(body(source("study_page/src/defence_groups.rt"), "add_several"))
     return FRONT + f"""/** Why a line is refused, by the name of the refusal, as the printed page has it. */
@@ -118,6 +120,9 @@ export const LOST = [{quoted(one)}, {quoted(several)}];
 export const TIME_STAMP = {quoted(stamp)};
 /** The stamp of a study that holds, and of which no move of the hero was given. */
 export const HOLDS_STAMP = {quoted(holds)};
+/** The stamp of a study that was not read, before the number of the refused line; and the sentence of its verdict. */
+export const NOT_READ = {quoted(said("study_head/src/verdict.rt", "not_read"))};
+export const UNREAD = {quoted(unread)};
 /** How another move mates that mates no later, later, or earlier. */
 export const LATER = [{quoted(as_quick)}, {quoted(longer)}, {quoted(quicker)}];
 /** What the value of the start follows. */

@@ -45,6 +45,9 @@ export const LOST = [', which loses time alone', ', which lose time alone'];
 export const TIME_STAMP = 'sound but for loss of time';
 /** The stamp of a study that holds, and of which no move of the hero was given. */
 export const HOLDS_STAMP = 'holds';
+/** The stamp of a study that was not read, before the number of the refused line; and the sentence of its verdict. */
+export const NOT_READ = 'not read: line ';
+export const UNREAD = 'A line of this study was refused, so it is not stamped.';
 /** How another move mates that mates no later, later, or earlier. */
 export const LATER = ['as quick', 'longer', 'quicker'];
 /** What the value of the start follows. */

@@ -1,6 +1,6 @@
 // @ts-check
 // The entries of a script, one a row: its studies with what is said of them, and those that were left out.
-import {HOLDS_STAMP, TIME_STAMP} from './core_words.js';
+import {HOLDS_STAMP, NOT_READ, TIME_STAMP} from './core_words.js';
 import {isKnown} from './edits.js';
 import {control, sideOf} from './fen.js';
 import {leftOutBy, originalsIn, whyLeftOut} from './imported.js';
@@ -83,15 +83,20 @@ export function hasSolution(lines, s, review) {
  * @param {(line: string) => any} wanted
  */
 const refusedIn = (doc, s, wanted) => doc.refused.find(r => s.from < r.line && r.line < s.end && wanted(r.text));
+/** @param {import('./types.js').Refused} r */
+function refusedText({text}) {
+  const words = wordsOf(text);
+  return words.slice(words[0] === 'insert' ? 2 : 0).join(' ').slice(0, 40);
+}
 /**
- * What is said of a study of which a line was refused, by the first such line: its verdict is not that of the entry
- * then.
+ * What is said in a game of a study of which a line was refused, by the first such line: its verdict is not that of the
+ * entry then.
  * @param {{refused: import('./types.js').Refused[]}} doc
  * @param {Study} s
  */
 export function unreadIn(doc, s) {
-  const unread = refusedIn(doc, s, isEdit), words = unread ? wordsOf(unread.text) : [];
-  return unread ? `not read: ${words.slice(words[0] === 'insert' ? 2 : 0).join(' ').slice(0, 40)}` : '';
+  const unread = refusedIn(doc, s, isEdit);
+  return unread ? `not read: ${refusedText(unread)}` : '';
 }
 /**
  * What is said of a study by one word and more: its verdict, but where a line of it was not read, where no move of the
@@ -102,8 +107,8 @@ export function unreadIn(doc, s) {
  * @returns {{kind: string, text: string}}
  */
 export function stampOf(doc, s, review) {
-  const unread = unreadIn(doc, s), [kind] = s.verdict.split(' ');
-  if (unread) return {kind: 'not read', text: unread};
+  const unread = refusedIn(doc, s, isEdit), [kind] = s.verdict.split(' ');
+  if (unread) return {kind: 'not read', text: `${NOT_READ}${unread.line + 1}, ${refusedText(unread)}`};
   if (!kind) return {kind: 'not judged', text: 'not judged'};
   if (kind === 'sound' && !hasSolution(doc.lines, s, review)) return {kind: 'holds', text: HOLDS_STAMP};
   if (review && review.waste.startsWith('sound')) return {kind: 'time', text: review.waste};

@@ -124,16 +124,18 @@ on('saveScript', () => work(async () => {
   const classes = await services.tables.classesOf(fensOf(doc().lines)).catch(() => []);
   download(fileName('.script'), savedScript(doc(), classes));
 }));
-/** What is saved of a study with a refused line has the verdict of what was read of it. */
-function sayUnread() {
+/**
+ * Studies with a refused line are saved as far as they were read.
+ * @param {string} how
+ */
+function sayUnread(how) {
   const n = doc().studies.filter(s => unreadIn(doc(), s)).length;
-  if (n)
-    say('board', `${counted(n, 'study', 'studies')} not read to the end: what was read is saved, with its verdict.`);
+  if (n) say('board', `${counted(n, 'study', 'studies')} not read to the end: what was read is saved, ${how}.`);
   services.show();
 }
 on('savePgn', () => {
   download(fileName('.pgn'), savedGames(doc()));
-  sayUnread();
+  sayUnread('with its verdict');
 });
 addEventListener('beforeprint', () => {
   for (const more of /** @type {NodeListOf<HTMLElement>} */ (document.querySelectorAll('button.more'))) more.click();
@@ -153,7 +155,7 @@ const saveReport = () => work(async () => {
   const answer = await services.facts.answer('report', toText(reportedLines(doc())), PAGES);
   if (answer.ended === 'done') {
     download(fileName('.html'), answer.text);
-    return sayUnread();
+    return sayUnread('without a verdict');
   }
   say('board', `No report: ${reason(refusalIn(answer))}.`);
   show();

@@ -13,6 +13,7 @@ import {
   REASONS,
   STALEMATE,
   THE_START,
+  UNREAD,
   ZUGZWANGS
 } from './core_words.js';
 import {moveNumber, other, sideOf} from './fen.js';
@@ -104,10 +105,9 @@ export function numberedLine(fen, sans) {
  */
 export function verdictSentence(view, kind) {
   const [, faults] = view.verdict.split(' ');
-  if (kind === 'not read') return `${NOT_READ} ${AT_START}${view.start}.`;
+  if (kind === 'not read') return `${UNREAD} ${AT_START}${view.start}.`;
   return kind === 'time' ? view.sentence.replace('.', `${LOST[faults === '1' ? 0 : 1]}.`) : view.sentence;
 }
-const NOT_READ = 'A line of this study was refused, so it is not stamped; the refused lines are listed below.';
 /** @param {{mark: string}} move */
 export const markSign = ({mark}) => (mark === 'only' ? '!' : mark === 'mistake' ? '?' : '');
 /**

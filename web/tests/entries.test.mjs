@@ -46,7 +46,7 @@ test('each entry has a row and a stamp', () => {
     ['holds', 'B', 'Reti (set for an earlier study)', 'holds'],
     ['left out', '', 'Kasparyan, G.', 'left out: not six fields, and not four'],
     ['left out', 'game 9 of the PGN, line 3', '', 'left out: 7 men'],
-    ['not read', 'Kh8 Pc6 / Ka6 Ph5', '', 'not read: Kz9']
+    ['not read', 'Kh8 Pc6 / Ka6 Ph5', '', 'not read: line 18, Kz9']
   ]);
   assert.deepEqual(countsOf(rows), [['time', 1], ['holds', 1], ['not read', 1], ['left out', 2]]);
   assert.equal(stampOf(d, d.studies[0], null).text, 'unsound 1');
@@ -87,7 +87,7 @@ test('a name that was refused is not that of the study before, and facts of a pa
     lines, sent, ['position ' + FEN, 'stipulate White to win', 'tag White', 'position ' + FEN, 'error BadByte']);
   const [, row] =
     entriesOf({...script, at: 0, path: 'root', name: '', id: 'x', note: '', judged: true}, [null, readReview(REVIEW)]);
-  assert.deepEqual([row.author, row.stamp, row.review], ['Prokeš', 'not read: tag White Prokeš', null]);
+  assert.deepEqual([row.author, row.stamp, row.review], ['Prokeš', 'not read: line 6, tag White Prokeš', null]);
   const {lines: mended} = setTag(lines, script.studies[1], 'White', 'Prokes', 'Prokeš');
   assert.deepEqual(mended.slice(4), ['# White was: Prokeš', 'position ' + FEN, 'tag White Prokes']);
 });

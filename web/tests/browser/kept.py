@@ -232,7 +232,7 @@ def test_studybench_takes_what_is_saved(user):
     )
     user.open_tables(TABLES, SMALL)
     user.promise("studyboard.open(a[0])", text)
-    user.until("document.getElementById('stamp').innerText === 'not read: Kz9'", 20)
+    user.until("document.getElementById('stamp').innerText === 'not read: line 8, Kz9'", 20)
     user.until("document.getElementById('refused').innerText === '2 lines of the script were refused'", 20)
     name, saved = user.download("saveScript")
     assert name == "A.script" and remark in saved and saved.startswith("build KK\n")
