@@ -139,7 +139,8 @@ const looseMove = san => NOTATIONS.reduce((text, [from, to]) => text.replace(fro
  */
 const loose = path => path.split(' ').map(looseMove).join(' ');
 /**
- * What a game says beside its moves, as remarks: `# tag NAME TEXT`, `# note MOVES: TEXT`.
+ * What a game says beside its moves, as remarks: `# tag NAME TEXT`, `# note MOVES: TEXT`, and `# note+ MOVES: TEXT`
+ * for what is more of a long comment.
  * @param {string} game
  */
 export function remarksOf(game) {
@@ -152,7 +153,8 @@ export function remarksOf(game) {
     last = kind;
     if (kind === 'move' || !text) return;
     if (own && (kind === 'nag' ? behindMove && /^\$[14]$/.test(text) : isOurs(text))) return;
-    for (const part of partsOf(withoutBraces(text))) out.push(`# note ${path.join(' ') || '-'}: ${part}`);
+    for (const [i, part] of partsOf(withoutBraces(text)).entries())
+      out.push(`# note${i ? '+' : ''} ${path.join(' ') || '-'}: ${part}`);
   });
   return out.map(short);
 }
@@ -171,8 +173,8 @@ const isOwn = movetext => VERDICT.test(oneLine((/\{([^}]*)\}/.exec(movetext) || 
  * @param {(squares: string) => string} [marked]      the squares that its arrows and circles have from now on
  */
 export const notesMoved = (lines, study, to, marked = squares => squares) => lines.map((line, at) => {
-  if (at < study.head || at >= study.from || !line.startsWith('# note ')) return line;
-  return line.replace(/^# note (\w[^:]*)/, (_, moves) => `# note ${to(moves)}`)
+  if (at < study.head || at >= study.from || !/^# note\+? /.test(line)) return line;
+  return line.replace(/^(# note\+? )(\w[^:]*)/, (_, note, moves) => note + to(moves))
     .replace(/(\[%c[as]l)( [^\]]*)/g, (_, mark, squares) => mark + marked(squares));
 });
 /**
@@ -184,8 +186,12 @@ export function withNotes(game, remarks) {
   const tags = remarks.map(line => /^# tag (\w+) (.*)$/.exec(line)).filter(Boolean),
         notes = /** @type {Map<string, string[]>} */ (new Map());
   for (const line of remarks) {
-    const m = /^# note ([^:]*): (.*)$/.exec(line), key = m && (m[1] === '-' ? '' : m[1]);
-    if (m && key !== null) notes.set(key, [...(notes.get(key) || []), /^\$\d+$/.test(m[2]) ? m[2] : `{${m[2]}}`]);
+    const [, more, moves, text] = /^# note(\+?) ([^:]*): (.*)$/.exec(line) || [];
+    if (!text) continue;
+    const key = moves === '-' ? '' : moves, list = notes.get(key) || [], last = list[list.length - 1];
+    if (more && last) list[list.length - 1] = `${last.slice(0, -1)} ${text}}`;
+    else list.push(/^\$\d+$/.test(text) ? text : `{${text}}`);
+    notes.set(key, list);
   }
   if (!tags.length && !notes.size) return game;
   const cut = game.indexOf('\n\n') + 1, head = game.slice(0, cut), movetext = game.slice(cut),

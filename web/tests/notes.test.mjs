@@ -59,6 +59,14 @@ test('they are written behind what the program says there', () => {
   assert.equal(withNotes(OURS, []), OURS);
   assert.equal(withNotes(OURS, ['# note Kh1: gone']).replace(/\s+/g, ' '), OURS.replace(/\s+/g, ' '));
 });
+test('a long comment is one comment again', () => {
+  for (const word of ['plain', 'größer']) {
+    const long = Array(90).fill(word).join(' '), lines = remarksOf(GAME.replace('The only move', long));
+    assert.ok(lines.length > 8 && lines.every(line => new TextEncoder().encode(line).length < 1024), lines);
+    const text = withNotes(OURS, lines).replace(/\s+/g, ' ');
+    assert.ok(text.includes(`{${long}}`), text);
+  }
+});
 test('what is written is read and written again the same', () => {
   const dual = OURS.replace('2. Kf3 $1 {White mates in 27}', '2. Kf3 {White mates in 27; dual 2}'),
         text = withNotes(dual, remarksOf(GAME));
