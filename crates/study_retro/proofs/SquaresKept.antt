@@ -1,6 +1,6 @@
 -- Of the squares of a set, taken one by one, some are kept, or others are gathered for them.
-use Rattle.std.proofs.Common.{◌≡◌, ℕ, ◌<◌, ◌==◌, ◌||◌, Bool, true, false, ◌∷◌, inl, inr, refl, sym, ◌∙◌, ap, subst}
-use Rattle.std.proofs.lemmas.Bool.{cases_Bool, eq-eqb, eqb-true, false≢true, or_cases}
+use Rattle.std.proofs.Common.{◌≡◌, ℕ, ◌<◌, ◌==◌, ◌&&◌, ◌||◌, Bool, true, false, ◌∷◌, inl, inr, refl, sym, ◌∙◌, ap, subst}
+use Rattle.std.proofs.lemmas.Bool.{and_parts, eq-eqb, eqb-true, false≢true, or_cases}
 use Rattle.study_board.specs.Sets.{has}
 use Rattle.study_board.specs.Squares.{squares_of}
 use Rattle.study_board.proofs.SetBits.{has-zero}
@@ -11,24 +11,32 @@ use Rattle.study_levels.proofs.SquaresLeft.{still-among, taken-too}
 pub first-as : (set t rest s : ℕ) → squares_of set ≡ t ∷ squares_of rest → s ≡ t → IsFirstOf set s rest
 first-as set t rest s steps same = subst (λ (x : ℕ). IsFirstOf set x rest) (sym same) (first-of set t rest steps)
 
-left_true : (a b : Bool) → (a || b) ≡ true → b ≡ false → a ≡ true
-left_true true b e f = refl
-left_true false b e f = absurd (false≢true (sym f ∙ e))
-
 left_false : (a b : Bool) → (a || b) ≡ false → a ≡ false
 left_false true b e = e
 left_false false b e = refl
+
+right_false : (a b : Bool) → (a || b) ≡ false → b ≡ false
+right_false true b e = absurd (false≢true (sym e))
+right_false false b e = e
 
 right_true : (a b : Bool) → b ≡ true → (a || b) ≡ true
 right_true true b e = refl
 right_true false b e = e
 
--- a set with one more square, or one more set
-pub has-one_more : (kept t one more : ℕ) → ((x : ℕ) → x < 64 → has one x ≡ (t == x)) → ((x : ℕ) → has more x ≡ (has kept x || has one x))
-    → (Q : ℕ → Type 0) → ((x : ℕ) → x < 64 → has kept x ≡ true → Q x) → Q t → (x : ℕ) → x < 64 → has more x ≡ true → Q x
-has-one_more kept t one more single union Q before here x on e = elim (cases_Bool (t == x)) [
-  | inl same ↦ subst Q (eqb-true t x same) here
-  | inr other ↦ before x on (left_true (has kept x) (has one x) (sym (union x) ∙ e) (single x on ∙ other))
+left_and : (a b : Bool) → b ≡ true → (a && b) ≡ false → a ≡ false
+left_and true b e f = absurd (false≢true (sym f ∙ e))
+left_and false b e f = refl
+
+or_none : (a : Bool) → a ≡ (a || false)
+or_none true = refl
+or_none false = refl
+
+-- what holds of the squares of a set, and of one more if it is added
+pub has-if : (kept t more : ℕ) (b : Bool) → ((x : ℕ) → x < 64 → has more x ≡ (has kept x || (b && (t == x))))
+    → (Q : ℕ → Type 0) → ((x : ℕ) → x < 64 → has kept x ≡ true → Q x) → (b ≡ true → Q t) → (x : ℕ) → x < 64 → has more x ≡ true → Q x
+has-if kept t more b word Q before here x on e = elim (or_cases (has kept x) (b && (t == x)) (sym (word x on) ∙ e)) [
+  | inl there ↦ before x on there
+  | inr new ↦ let both = and_parts b (t == x) new in subst Q (eqb-true t x both.1) (here both.0)
 ]
 
 module _ (all : ℕ) (Yes Not : ℕ → Type 0) where
@@ -45,26 +53,27 @@ module _ (all : ℕ) (Yes Not : ℕ → Type 0) where
     others = λ y on e out. absurd (false≢true (sym out ∙ subst (λ (s : ℕ). has s y ≡ true) (sym is) e));
   }
 
-  -- s is the first of the remaining squares, and it is kept
+  -- s is the first of the remaining squares
   module _ (set kept : ℕ) (h : AreKeptExcept set kept) (t rest : ℕ) (f : IsFirstOf set t rest) (s : ℕ) (same : s ≡ t) where
-    pub kept-with : (one more : ℕ) → ((x : ℕ) → x < 64 → has one x ≡ (t == x)) → ((x : ℕ) → has more x ≡ (has kept x || has one x)) → Yes s
+    -- it is kept if the test holds
+    pub kept-if : (b : Bool) (more : ℕ) → ((x : ℕ) → x < 64 → has more x ≡ (has kept x || (b && (t == x)))) → (b ≡ true → Yes s) → (b ≡ false → Not s)
         → AreKeptExcept rest more
-    kept-with one more single union here = record {
+    kept-if b more word holds fails = record {
       among = still-among all set t rest f h.among;
-      keeps = has-one_more kept t one more single union (λ (y : ℕ). (has all y ≡ true) × Yes y) h.keeps
-          (h.among t f.inside f.there, subst Yes same here);
+      keeps = has-if kept t more b word (λ (y : ℕ). (has all y ≡ true) × Yes y) h.keeps (λ e. (h.among t f.inside f.there, subst Yes same (holds e)));
       others = taken-too all set t rest f (λ (y : ℕ). has more y ≡ false → Not y)
-          (λ y on e gone n. h.others y on e gone (left_false (has kept y) (has one y) (sym (union y) ∙ n)))
-          (λ n. absurd (false≢true (sym n ∙ (union t ∙ right_true (has kept t) (has one t) (single t f.inside ∙ eq-eqb t t refl)))));
+          (λ y on e gone n. h.others y on e gone (left_false (has kept y) (b && (t == y)) (sym (word y on) ∙ n)))
+          (λ n. subst Not same (fails (left_and b (t == t) (eq-eqb t t refl)
+          (right_false (has kept t) (b && (t == t)) (sym (word t f.inside) ∙ n)))));
     }
 
-    -- or it is not
+    pub kept-with : (one more : ℕ) → ((x : ℕ) → x < 64 → has one x ≡ (t == x)) → ((x : ℕ) → has more x ≡ (has kept x || has one x)) → Yes s
+        → AreKeptExcept rest more
+    kept-with one more single union here =
+        kept-if true more (λ x on. union x ∙ ap (λ (b : Bool). has kept x || b) (single x on)) (λ e. here) (λ e. absurd (false≢true (sym e)))
+
     pub kept-without : Not s → AreKeptExcept rest kept
-    kept-without here = record {
-      among = still-among all set t rest f h.among;
-      keeps = h.keeps;
-      others = taken-too all set t rest f (λ (y : ℕ). has kept y ≡ false → Not y) h.others (λ n. subst Not same here);
-    }
+    kept-without here = kept-if false kept (λ x on. or_none (has kept x)) (λ e. absurd (false≢true e)) (λ e. here)
 
 module _ (all : ℕ) (finds : ℕ → ℕ → Bool) where
   -- the squares that are found from one of the set

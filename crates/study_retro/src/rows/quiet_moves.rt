@@ -1,5 +1,6 @@
 //! The lost positions of a row of numbers, if no capture in passing is legal: each man except the last is moved in all of them at once.
-ghost use Rattle.std.specs.Prelude.{◌≡◌, ◌≤◌, ◌<◌, ◌+◌, ◌*◌, ◌==◌, ◌⊎◌, ◌++◌, ◌∷◌, [], ℕ, true, false, length, slice_index, IsTrue, Some, Contains};
+ghost use Rattle.std.specs.Prelude.{◌≡◌, ◌≤◌, ◌<◌, ◌+◌, ◌*◌, ◌==◌, ◌&&◌, ◌||◌, ◌⊎◌, ◌++◌, ◌∷◌, [], ℕ};
+ghost use Rattle.std.specs.Prelude.{not, true, false, length, slice_index, IsTrue, Some, Contains};
 ghost use Rattle.study_board.specs.Men.{same_side};
 ghost use Rattle.study_board.specs.Geometry.{rank_of};
 ghost use Rattle.study_board.specs.Position.{Position as Seen, in_check};
@@ -20,7 +21,7 @@ ghost use Rattle.study_values.specs.declared.value.Value.TheVariants.{Win};
 use crate::class_game::ClassGame;
 use crate::mover::Mover;
 use crate::numbers::en_passant::{has_both_pawns, may_allow_en_passant};
-use crate::numbers::moves::{has_move, loses_after, quiet_moves_of, reaches_last_rank};
+use crate::numbers::moves::{QuietMoves, has_move, loses_after, quiet_moves_of, reaches_last_rank};
 use crate::numbers::quiet::stays;
 use crate::rows::checks::{CheckInfo, squares_of_check};
 use crate::rows::levels::lost_plainly_each;
@@ -175,6 +176,34 @@ struct RowMoves {
     some: SquareSet,
 }
 
+/// The set, with the square if `more`.
+#[inline]
+fn with_square_if(set: SquareSet, square: Square, more: bool) -> SquareSet
+    ensures { (x : ℕ) → x < 64 → has result x ≡ (has set x || (more && (square == x))) }
+{
+    if more {
+        set.union(SquareSet::of(square))
+    } else {
+        set
+    }
+}
+
+impl RowMoves {
+    /// The result with the moves seen at one more square.
+    #[inline]
+    fn with(self, square: Square, moves: QuietMoves) -> RowMoves
+        ensures losing { (x : ℕ) → x < 64 → has result.losing x
+            ≡ (has self.losing x || (not moves.escape && (square == x))) }
+        ensures some { (x : ℕ) → x < 64 → has result.some x
+            ≡ (has self.some x || (moves.some && (square == x))) }
+    {
+        RowMoves {
+            losing: with_square_if(self.losing, square, !moves.escape),
+            some: with_square_if(self.some, square, moves.some),
+        }
+    }
+}
+
 /// The result with the moves of one of the other men added: number by number.
 fn quiet_moves_of_man_each<A: Allocator>(
     game: &ClassGame<A>,
@@ -199,21 +228,18 @@ fn quiet_moves_of_man_each<A: Allocator>(
         row.now.number result.losing man.now }
     ensures some { HaveMoves game.now.class row.now.number result.some }
 {
-    let mut losing = SquareSet::empty();
-    let mut some = so_far.some;
+    let mut seen = RowMoves {
+        losing: SquareSet::empty(),
+        some: so_far.some,
+    };
     for square in so_far.losing {
         let number = 64 * row.number + u32::from(square.number());
         let setup = decode_men(game.class, number);
         let mover = Mover { setup: &setup, man };
         let moves = quiet_moves_of(game, cells, number, mover, slot, level);
-        if !moves.escape {
-            losing = losing.union(SquareSet::of(square));
-        }
-        if moves.some {
-            some = some.union(SquareSet::of(square));
-        }
+        seen = seen.with(square, moves);
     }
-    RowMoves { losing, some }
+    seen
 }
 
 /// `quiet_moves_of_man_each` with the common part of the numbers computed once.
@@ -320,8 +346,10 @@ fn quiet_moves_of_last_each<A: Allocator>(
     ensures some { HaveMoves game.now.class row.now.number result.some }
 {
     let slot = row.others.len() as u32;
-    let mut losing = SquareSet::empty();
-    let mut some = so_far.some;
+    let mut seen = RowMoves {
+        losing: SquareSet::empty(),
+        some: so_far.some,
+    };
     for square in so_far.losing {
         let number = 64 * row.number + u32::from(square.number());
         let last = Man {
@@ -335,14 +363,9 @@ fn quiet_moves_of_last_each<A: Allocator>(
             man: &last,
         };
         let moves = quiet_moves_of(game, cells, number, mover, slot, level);
-        if !moves.escape {
-            losing = losing.union(SquareSet::of(square));
-        }
-        if moves.some {
-            some = some.union(SquareSet::of(square));
-        }
+        seen = seen.with(square, moves);
     }
-    RowMoves { losing, some }
+    seen
 }
 
 /// The last rank of the side.
@@ -433,20 +456,19 @@ fn moves_of_last(row: &Row, so_far: RowMoves, check: SquareSet, lost: SquareSet)
         × Goes row.now.others.items row.now.last row.now.to_move y }
 {
     let others = row.others.as_slice();
-    let mut losing = SquareSet::empty();
-    let mut some = so_far.some;
+    let mut seen = RowMoves {
+        losing: SquareSet::empty(),
+        some: so_far.some,
+    };
     for square in so_far.losing {
         let targets = targets_of_last(others, &row.last, square, check);
-        let escapes = has_any(targets.without(lost));
-        if !escapes {
-            losing = losing.union(SquareSet::of(square));
-        }
-        let goes = has_any(targets);
-        if goes {
-            some = some.union(SquareSet::of(square));
-        }
+        let moves = QuietMoves {
+            escape: has_any(targets.without(lost)),
+            some: has_any(targets),
+        };
+        seen = seen.with(square, moves);
     }
-    RowMoves { losing, some }
+    seen
 }
 
 /// The result with the moves of the last man added: at once if the numbers after are a row and no move leaves a capture in passing.

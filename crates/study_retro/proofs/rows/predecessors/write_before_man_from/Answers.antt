@@ -109,7 +109,8 @@ pub returns-clause-done : goal.returns-clause-done
 returns-clause-done c = λ n y on e b.
     let row = c.args.row.now in
     let q = c.requires.numbered y on e in
-    let came = row_came row.class (64 * row.number + y) y q.0 q.1 row.others.items row.last row.to_move (row.encoded y on) c.args.man.now c.requires.man b.0 n b.1 b.2 in
+    let came = row_came row.class (64 * row.number + y) y q.0 q.1 row.others.items row.last row.to_move (row.encoded y on)
+    c.args.man.now c.requires.man b.0 n b.1 b.2 in
     let there = ap (λ (set : ℕ). has set b.0) c.into_iter-origin-iterator.ensures.into_iter_gives ∙ c.origins_among-origin-items.ensures b.0 b.1
     ∙ ap (λ (xs : List Man). comes xs c.args.man.now b.0) c.as_slice-others.ensures.value ∙ came.2 in
     c.loop-origin.invariant.set.done n b.0 b.1 there (none-of-empty _ c.in-None.ensures.steps.0 b.0 b.1) (y, on, e, b.2)

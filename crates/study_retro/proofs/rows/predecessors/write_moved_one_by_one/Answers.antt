@@ -63,7 +63,8 @@ loop-square-preserved c =
       size = c.write_with_twin.auto.cells ∙ inv.size;
       set = set-more _ _ _ _ _ _ _ f c.requires.cell _ _ _ inv.set
           (set-why c.args.change.cell c.args.change.over (IsItOrTwin class k) (IsBeforeFrom class number man a) c.loop-square.cells c.write_with_twin.new.cells
-          (λ n w. fit_before class number q.0 q.1 low man a k c.requires.passes fits (c.requires.led y q.0 f.inside into q.1) n w) c.write_with_twin.ensures.rise)
+          (λ n w. fit_before class number q.0 q.1 low man a k c.requires.passes fits (c.requires.led y q.0 f.inside into q.1) n w)
+          c.write_with_twin.ensures.rise)
           (λ n w. c.write_with_twin.ensures.done n (before_is class number q.0 q.1 man a k fits n w));
     }
 

@@ -12,6 +12,6 @@ abbrev pub invariant-loop-square : goal.invariant-loop-square
 invariant-loop-square g l = record {
   kept : AreKeptExcept l.fn.so_far.losing (λ y. (q : Position) → position_numbered l.game.class (64 * l.row.number + y) ≡ Some q
       → QuietMovesLoseBy (class_game l.game.class l.game.tables.now) l.cells l.level q (on_square l.row.last y))
-      (λ y. NoLossBy (class_game l.game.class l.game.tables.now) l.cells l.level (64 * l.row.number + y)) l.square-iterator l.losing;
-  some : HaveMoves l.game.class l.row.number l.some;
+      (λ y. NoLossBy (class_game l.game.class l.game.tables.now) l.cells l.level (64 * l.row.number + y)) l.square-iterator l.seen.losing;
+  some : HaveMoves l.game.class l.row.number l.seen.some;
 }

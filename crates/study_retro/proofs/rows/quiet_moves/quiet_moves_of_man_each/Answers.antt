@@ -6,14 +6,15 @@ use Rattle.study_board.proofs.SquareLists.{first-of, none-of-empty}
 use Rattle.study_material.specs.declared.class.Class.{Class}
 use Rattle.study_index.specs.Computed.{position_numbered}
 use Rattle.study_retro.specs.Predecessors.{AreTold}
+use Rattle.study_retro.specs.ClassGame.{class_game}
+use Rattle.study_levels.specs.Numbered.{NoLossBy}
 use Rattle.study_retro.specs.Still.{HasMove, on_square}
-use Rattle.study_retro.proofs.SquaresKept.{first-as, has-one_more, kept-none, kept-with, kept-without}
+use Rattle.study_retro.proofs.SquaresKept.{first-as, has-if, kept-none, kept-if}
 use Rattle.study_retro.proofs.rows.quiet_moves.quiet_moves_of_man_each.Goals as goal
-use Rattle.study_retro.proofs.rows.quiet_moves.quiet_moves_of_man_each.Goals.{then-not-moves, else-not-moves}
 
 pub loop-square-init : goal.loop-square-init
 loop-square-init g c = record {
-  kept = kept-none _ _ _ _ _ c.into_iter-square-iterator.ensures.into_iter_gives c.empty-losing.ensures;
+  kept = kept-none _ _ _ _ _ c.into_iter-square-iterator.ensures.into_iter_gives c.empty.ensures;
   some = c.requires.some;
 }
 
@@ -33,52 +34,24 @@ quiet_moves_of-moves-requires-clause-man g c =
     subst (λ (xs : List Man). Contains xs c.args.man.now) (told.0 ∙ sym c.decode_men-setup.ensures.men)
     (Contains-append_left row.others.items (on_square row.last y ∷ []) c.args.man.now c.requires.man)
 
-pub loop-square-preserved-then-moves : goal.loop-square-preserved-then-moves
-loop-square-preserved-then-moves g c =
-    let f = first-of _ _ _ c.in-Some.ensures.steps in
-    let t = c.in-Some.square in
-    let same : c.from.result ≡ t = c.from.ensures ∙ c.number.ensures.value in
-    let inv = c.loop-square.invariant in
-    let class = c.args.game.now.class in
-    let row = c.args.row.now in
-    let number : 64 * row.number + c.from.result ≡ 64 * row.number + t = ap (λ (n : ℕ). 64 * row.number + n) same in
-    record {
-      kept = elim c.if-not-moves.branch [
-        | then-not-moves w ↦
-            rw w.losing-is
-            (kept-with _ _ _ _ _ inv.kept _ _ f t refl _ _ w.of.ensures w.union-losing.ensures
-            (λ q at. c.quiet_moves_of-moves.ensures.no (not-true _ w.if-not-moves.true) q
-            (ap (λ (n : ℕ). position_numbered class n) number ∙ at)))
-        | else-not-moves w ↦
-            rw w.losing-is
-            (kept-without _ _ _ _ _ inv.kept _ _ f c.from.result same (c.quiet_moves_of-moves.ensures.yes (not-false _ w.if-not-moves.false)))
-      ];
-      some = λ y q on e at. has-one_more c.loop-square.some t _ _ c.of-then-moves.ensures c.union-some.ensures
-          (λ (x : ℕ). position_numbered class (64 * row.number + x) ≡ Some q → HasMove q) (λ x in64 there. inv.some x q in64 there)
-          (λ here. c.quiet_moves_of-moves.ensures.some c.if-moves.true q (ap (λ (n : ℕ). position_numbered class n) number ∙ here)) y on e at;
-    }
-
 pub loop-square-preserved : goal.loop-square-preserved
 loop-square-preserved g c =
     let f = first-of _ _ _ c.in-Some.ensures.steps in
     let t = c.in-Some.square in
     let same : c.from.result ≡ t = c.from.ensures ∙ c.number.ensures.value in
     let inv = c.loop-square.invariant in
+    let moves = c.quiet_moves_of-moves.ensures in
     let class = c.args.game.now.class in
     let row = c.args.row.now in
     let number : 64 * row.number + c.from.result ≡ 64 * row.number + t = ap (λ (n : ℕ). 64 * row.number + n) same in
     record {
-      kept = elim c.if-not-moves.branch [
-        | then-not-moves w ↦
-            rw w.losing-is
-            (kept-with _ _ _ _ _ inv.kept _ _ f t refl _ _ w.of.ensures w.union-losing.ensures
-            (λ q at. c.quiet_moves_of-moves.ensures.no (not-true _ w.if-not-moves.true) q
-            (ap (λ (n : ℕ). position_numbered class n) number ∙ at)))
-        | else-not-moves w ↦
-            rw w.losing-is
-            (kept-without _ _ _ _ _ inv.kept _ _ f c.from.result same (c.quiet_moves_of-moves.ensures.yes (not-false _ w.if-not-moves.false)))
-      ];
-      some = inv.some;
+      kept = kept-if _ _ _ _ _ inv.kept _ _ f t refl _ _ c.with-seen.ensures.losing
+          (λ e q at. moves.no (not-true _ e) q (ap (λ (n : ℕ). position_numbered class n) number ∙ at))
+          (λ e. subst (λ (n : ℕ). NoLossBy (class_game class c.args.game.now.tables.now) c.args.cells.now c.args.level n) number
+          (moves.yes (not-false _ e)));
+      some = λ y q on e at. has-if c.loop-square.seen.some t _ _ c.with-seen.ensures.some
+          (λ (x : ℕ). position_numbered class (64 * row.number + x) ≡ Some q → HasMove q) (λ x in64 there. inv.some x q in64 there)
+          (λ some here. moves.some some q (ap (λ (n : ℕ). position_numbered class n) number ∙ here)) y on e at;
     }
 
 pub returns-clause-only : goal.returns-clause-only

@@ -133,8 +133,8 @@ loop-target-preserved g c =
             c.requires.class (row.encoded y on) in
             let plain : 64 * row.number + y < 16777216 = omega (arith, small, on) in
             go_some class (64 * row.number + y) q at plain man a f.inside
-            (row_can class (64 * row.number + y) y q at plain row.others.items row.last row.to_move told man c.requires.man his a c.squares_allowing_move.result
-            (word y on) both.1)
+            (row_can class (64 * row.number + y) y q at plain row.others.items row.last row.to_move told man c.requires.man his a
+            c.squares_allowing_move.result (word y on) both.1)
       ];
     }
 
