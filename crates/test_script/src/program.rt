@@ -57,7 +57,7 @@ fn help_and_version_are_told_and_words_refused(rt: HostRuntime) -> Result<(), Fa
     check_words(
         &rt,
         &["--version"],
-        Err((0, "studybench 1.5.0 (kit rattle-kit-13b)\n")),
+        Err((0, "studybench 1.6.0 (kit rattle-kit-13f)\n")),
     )?;
     for words in [
         ["--pages", "0"],
