@@ -21,7 +21,7 @@ use Rattle.study_import.specs.declared.aims.Aim.{Aim}
 use Rattle.study_import.specs.declared.aims.AimSource.{AimSource}
 use Rattle.study_import.specs.declared.aims.AimSource.TheVariants.{Comment, StipulationTag, ResultTag, Result as EndResult, Given}
 use Rattle.study_import.specs.declared.notes.Notes.{Notes}
-use Rattle.study_import.specs.Aims.{Found, last_of_phrase, hero_of, goal_named, moves_named, moves_in, moves_behind_in, mate_goal, goal_or_mate, goal_in, goal_behind_and, goal_behind_play, or_goal, goal_behind_to, aimed, aim_by, aim_in, mate_by, mate_tag, or_words, says_win, says_draw, aim_of_text, aim_of_tag, aim_of_outcome, from_source, or_aim, aim_of_result}
+use Rattle.study_import.specs.Aims.{Found, last_of_phrase, hero_of, goal_named, moves_named, moves_in, moves_behind_in, mate_goal, goal_or_mate, goal_in, goal_behind_and, goal_behind_play, or_goal, goal_after_to, goal_behind_to, aimed, aim_by, aim_in, mate_by, mate_tag, or_words, says_win, says_draw, aim_of_text, aim_of_tag, aim_of_outcome, from_source, or_aim, aim_of_result}
 use Rattle.study_import.specs.Notes.{with_said, with_sign, noted}
 use Rattle.study_import.specs.Blocks.{tag_aim, result_of, aim_of_game}
 use Rattle.study_import.specs.Laws.{IsCounted, IsGiven}
@@ -105,7 +105,7 @@ counted_either None p h k = k
 counted_to : (x : Found) → Counted (goal_behind_to x)
 counted_to None = tt
 counted_to (Some x) =
-    counted_if (bytes_eq x.0 (codes "to")) (or_goal (goal_in (first_word x.1)) (goal_behind_play (first_word x.1))) None
+    counted_if (bytes_eq x.0 (codes "to")) (goal_after_to (first_word x.1)) None
     (counted_either (goal_in (first_word x.1)) (goal_behind_play (first_word x.1)) (counted_in (first_word x.1)) (counted_play (first_word x.1))) tt
 
 -- ---- stipulations

@@ -80,11 +80,14 @@ abbrev pub or_goal : Option Goal → Option Goal → Option Goal
 or_goal (Some goal) later = Some goal
 or_goal None later = later
 
+-- after `to`
+abbrev pub goal_after_to : Found → Option Goal
+goal_after_to x = or_goal (goal_in x) (goal_behind_play x)
+
 -- after the hero
 abbrev pub goal_behind_to : Found → Option Goal
 goal_behind_to None = None
-goal_behind_to (Some x) =
-    if bytes_eq x.0 (codes "to") then or_goal (goal_in (first_word x.1)) (goal_behind_play (first_word x.1)) else None
+goal_behind_to (Some x) = if bytes_eq x.0 (codes "to") then goal_after_to (first_word x.1) else None
 
 abbrev pub aimed : Option Side → Option Goal → Option Stipulation
 aimed (Some hero) (Some goal) = Some (record { hero = hero; goal = goal })

@@ -4,7 +4,7 @@ ghost use Rattle.std.specs.Option.{option_map};
 ghost use Rattle.study_games.specs.Words.{first_word};
 ghost use Rattle.study_command.specs.Parser.{mate_moves_of};
 ghost use Rattle.study_import.specs.Aims.{ends_phrase, last_of_phrase, hero_of, goal_named, moves_in, moves_behind_in, mate_goal, goal_in};
-ghost use Rattle.study_import.specs.Aims.{goal_behind_and, goal_behind_play, goal_behind_to, aim_in};
+ghost use Rattle.study_import.specs.Aims.{goal_behind_and, goal_behind_play, goal_after_to, goal_behind_to, aim_in};
 ghost use Rattle.study_import.specs.Aims.{mate_tag, says_win, says_draw, aim_of_text, aim_of_tag, aim_of_outcome, outcome_of_text, outcome_of_tag};
 ghost use Rattle.study_import.specs.Aims.{source_words};
 
@@ -164,17 +164,25 @@ fn goal_behind_play(text: &[u8]) -> Option<Goal>
     }
 }
 
+/// After `to`.
+fn goal_after_to(text: &[u8]) -> Option<Goal>
+    ensures { result ≡ goal_after_to (first_word text.now) }
+{
+    match goal_in(text) {
+        Some(goal) => Some(goal),
+        None => goal_behind_play(text),
+    }
+}
+
 /// After the hero.
 fn goal_behind_to(text: &[u8]) -> Option<Goal>
     ensures { result ≡ goal_behind_to (first_word text.now) }
 {
     let (word, behind) = next_word(text)?;
-    if word != b"to".as_slice() {
-        return None;
-    }
-    match goal_in(behind) {
-        Some(goal) => Some(goal),
-        None => goal_behind_play(behind),
+    if word == b"to".as_slice() {
+        goal_after_to(behind)
+    } else {
+        None
     }
 }
 
