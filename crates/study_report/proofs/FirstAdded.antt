@@ -25,6 +25,7 @@ use Rattle.study_report.specs.declared.line_kind.LineKind.TheVariants.{Remark, P
 use Rattle.study_report.specs.Told.{Point, Added, IsAdded, IsAddedAs, IsPgnAfter, IsCheckedAfter, line_kind, refusal_count, study_count}
 use Rattle.study_facts.specs.declared.entry.EntryInfo.{EntryInfo}
 use Rattle.study_report.specs.Unread.{unread_after}
+use Rattle.study_report.proofs.LineAdds.{entry}
 use Rattle.study_report.specs.Told.{nothing_added, refusal_added, Entry, last_entry, studies_on, listed_in, entries_in}
 use Rattle.study_report.specs.Outcome.{begun, AreAdded, report_text, refusals, point_after, IsFollowed, AreListed, StoppedAfter, AreListedBefore, Outcome}
 use Rattle.study_report.specs.Outcome.{Shape}
@@ -416,9 +417,6 @@ module _ (tells : PlainStudy → EntryInfo → List ℕ → Type 0) (refusal : �
   study-unread old number line Nothing e = absurd cc
   study-unread old number line AStudy e = refl
   study-unread old number line ARefusal e = absurd cc
-
-  entry : ℕ → Option ℕ → EntryInfo
-  entry i u = record { number = i; unread = u }
 
   same-entry : (i j : ℕ) (u v : Option ℕ) → i ≡ j → u ≡ v → entry i u ≡ entry j v
   same-entry i j u v e f = ap (λ (x : ℕ). entry x u) e ∙ ap (λ (x : Option ℕ). entry j x) f

@@ -1,5 +1,5 @@
 -- The contribution of a line, from what was written for it.
-use Rattle.std.proofs.Common.{◌≡◌, ℕ, suc, Bool, true, false, List, [], ◌++◌, Option, Some, Result, Ok, Err, refl, sym, ap, subst, ◌∙◌, inl, inr}
+use Rattle.std.proofs.Common.{◌≡◌, ℕ, ◌+◌, suc, Bool, true, false, List, [], ◌++◌, Option, Some, Result, Ok, Err, refl, sym, ap, subst, ◌∙◌, inl, inr, arith}
 use Rattle.std.specs.Prelude.{IfOk, IfErr}
 use Rattle.std.specs.Io.KnownBytes.{Appends}
 use Rattle.std.proofs.KnownBytes.{Appends-nil}
@@ -22,9 +22,14 @@ use Rattle.study_report.specs.Told.{Point, Added, IsLeftOut, IsStudyTold, IsAdde
 use Rattle.study_report.specs.Told.{nothing_added, study_added, refusal_added, remark_added}
 use Rattle.study_report.specs.Written.{Adds, Stops, StopsIn, IsSection, IsSectionPart, IsReplied}
 
+abbrev pub entry : ℕ → Option ℕ → EntryInfo
+entry number unread = record { number = number; unread = unread }
+
 -- the next study is the entry of the next line
 pub at-next : (p : Point) (at : ReportPosition) → IsAt p at → entry_at at ≡ next_entry p
-at-next p at (lines, studies, unread) = let n : at.studies + 1 ≡ suc p.studies = omega (arith, studies) in cc
+at-next p at (lines, studies, unread) =
+    let n : at.studies + 1 ≡ suc p.studies = omega (arith, studies) in
+    ap (λ (i : ℕ). entry i at.unread) n ∙ ap (λ (u : Option ℕ). entry (suc p.studies) u) unread
 
 -- what holds of every text written for a refusal
 abbrev pub RefusalWritten : List ℕ → Option (List ℕ) → Option (List ℕ) → LineOutcome → Type 0

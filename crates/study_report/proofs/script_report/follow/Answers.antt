@@ -242,7 +242,7 @@ loop-n-preserved g c =
           (g.R.Read.remaining c.args.script.now) (g.R.Read.remaining c.loop-n.script) (g.R.Read.remaining c.read.new.script)
           (g.W.Write.contents c.args.out.now) mid new first line c.loop-n.n c.loop-n.refused _ c.loop-n.studies _ c.loop-n.unread _ told on some
           c.in-Ok-true.ensures.short said (ap (λ i. c.loop-n.refused + i) counted) (ap (λ i. c.loop-n.studies + i) numbered)
-          (rw c.as_slice-unread.ensures at c.unread_after.ensures)
+          (rw c.as_slice-in-Ok.ensures at c.unread_after-unread.ensures)
           (λ s after. after.held.document)
           (λ more kept before have.
           subst (λ (l : List Entry). g.T.Report.lists c.add_line.new.report l)
