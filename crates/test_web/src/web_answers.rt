@@ -230,7 +230,7 @@ fn pages_over_tables(rt: HostRuntime) -> Result<(), Fail> {
             "<article id=\"e1\"><header><h1>Found with the tables</h1>"
         )
     );
-    assert!(rt; has(text, ">sound</span>"));
+    assert!(rt; has(text, ">not read: line 15</span>"));
     assert!(rt; !has(text, "<article id=\"e2\">") && !has(text, "Entries and verdicts"));
     assert!(rt;
         report.ended
