@@ -1,5 +1,5 @@
 //! The moves of a game.
-ghost use Rattle.std.specs.Prelude.{◌≡◌, true, [], length};
+ghost use Rattle.std.specs.Prelude.{◌≡◌, true, length};
 ghost use Rattle.study_marks.specs.Study.{plain_study};
 ghost use Rattle.study_marks.specs.BenchState.{marked};
 ghost use Rattle.study_games.specs.Tokens.{token_seen};

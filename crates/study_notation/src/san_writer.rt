@@ -1,7 +1,6 @@
 //! Writing a SAN text.
 ghost use Rattle.std.specs.Prelude.{◌≡◌, ◌<◌, ◌≤◌, ◌+◌, ◌++◌, [], true, Some, IfSome};
 ghost use Rattle.arrayvec.specs.ArrayString.{array_string_len};
-ghost use Rattle.study_board.specs.Position.{man_at};
 ghost use Rattle.study_moves.specs.Rules.{is_legal};
 ghost use Rattle.study_notation.specs.San.{kind_text, file_text, rank_text, takes_text, promotion_text, san_text};
 ghost use Rattle.study_moves.specs.LegalList.{is_mate};

@@ -1,7 +1,7 @@
 //! Why a line is refused, in words.
 ghost use Rattle.std.specs.Prelude.{◌≡◌, ◌≤◌, length};
 ghost use Rattle.study_reply.specs.Reasons.{form_reason, fen_reason, san_reason, refusal_reason};
-ghost use Rattle.study_reply.specs.Reasons.{word_length, first_word, shift_reason, explained, reason_among, reason_of};
+ghost use Rattle.study_reply.specs.Reasons.{word_length, first_word, explained, reason_among, reason_of};
 
 use crate::refusal::Refusal;
 use study_command::SyntaxFault;

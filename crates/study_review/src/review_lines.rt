@@ -1,7 +1,6 @@
 //! The lines of a review before it is whole.
 ghost use Rattle.std.specs.Prelude.{◌≡◌, [], OnOk};
 ghost use Rattle.study_marks.specs.BenchState.{marked};
-ghost use Rattle.study_marks.specs.Goals.{aim_of};
 ghost use Rattle.study_facts.specs.Asked.{within};
 ghost use Rattle.study_facts.specs.Made.{Grew, Rose, HasAsked};
 ghost use Rattle.study_facts.specs.Nodes.{FaultLines, NodeLines};
