@@ -3,7 +3,7 @@ use Rattle.std.proofs.Common.{◌≡◌, true, false, [], ◌∷◌, ◌++◌, S
 use Rattle.std.specs.Prelude.{codes}
 use Rattle.study_games.specs.declared.token.TokenFault.TheVariants.{OpenComment, OpenString, Byte}
 use Rattle.study_games.specs.declared.symbols.Said.TheVariants.{Number, Result, NullMove, Aside, Move}
-use Rattle.study_games.specs.declared.symbols.Outcome.TheVariants.{Drawn}
+use Rattle.study_games.specs.declared.symbols.Outcome.TheVariants.{WhiteWins, BlackWins, Drawn}
 use Rattle.study_games.specs.Tokens.{token_at, lexed, tag_at, comment_at, ends_tag, behind_value, tag, comment, symbol, sign, blank, aside}
 use Rattle.study_games.specs.Symbols.{said_of, san_in, without_passing}
 
@@ -32,6 +32,25 @@ move_with_signs = refl
 two_dashes : token_at false (codes "-- Kf4") ≡ Some (Ok (sign (codes "--"), codes " Kf4"))
 unfolding lexed
 two_dashes = refl
+
+-- `1…Kf5`: the number ends before the dots
+number_and_dots : token_at false (49 ∷ 226 ∷ 128 ∷ 166 ∷ codes "Kf5") ≡ Some (Ok (symbol (codes "1"), 226 ∷ 128 ∷ 166 ∷ codes "Kf5"))
+unfolding lexed
+number_and_dots = refl
+
+dots_and_move : token_at false (226 ∷ 128 ∷ 166 ∷ codes "Kf5") ≡ Some (Ok (blank, codes "Kf5"))
+unfolding lexed
+dots_and_move = refl
+
+-- `Kd3…`
+dots_behind_move : token_at false (codes "Kd3" ++ (226 ∷ 128 ∷ 166 ∷ codes " x")) ≡ Some (Ok (symbol (codes "Kd3" ++ (226 ∷ 128 ∷ 166 ∷ [])), codes " x"))
+unfolding lexed
+dots_behind_move = refl
+
+-- `+–` with an en dash
+judgement_with_dash : token_at false (43 ∷ 226 ∷ 128 ∷ 147 ∷ codes " x") ≡ Some (Ok (sign (43 ∷ 226 ∷ 128 ∷ 147 ∷ []), codes " x"))
+unfolding lexed
+judgement_with_dash = refl
 
 escape_line : token_at true (codes "%( {") ≡ Some (Ok (blank, []))
 unfolding lexed
@@ -62,6 +81,28 @@ dash : said_of (226 ∷ 128 ∷ 147 ∷ []) ≡ NullMove
 unfolding said_of
 dash = refl
 
+-- results with en dashes: `1–0`, `0–1`, `1/2–1/2`, `½–½`
+won : said_of (49 ∷ 226 ∷ 128 ∷ 147 ∷ 48 ∷ []) ≡ Result WhiteWins
+unfolding said_of
+won = refl
+
+lost : said_of (48 ∷ 226 ∷ 128 ∷ 147 ∷ 49 ∷ []) ≡ Result BlackWins
+unfolding said_of
+lost = refl
+
+shared : said_of (codes "1/2" ++ (226 ∷ 128 ∷ 147 ∷ codes "1/2")) ≡ Result Drawn
+unfolding said_of
+shared = refl
+
+halves : said_of (194 ∷ 189 ∷ 226 ∷ 128 ∷ 147 ∷ 194 ∷ 189 ∷ []) ≡ Result Drawn
+unfolding said_of
+halves = refl
+
+-- `–+` with an en dash
+dash_and_sign : said_of (226 ∷ 128 ∷ 147 ∷ 43 ∷ []) ≡ Aside
+unfolding said_of
+dash_and_sign = refl
+
 glued : said_of (codes "1Kd3") ≡ Move
 unfolding said_of
 glued = refl
@@ -78,6 +119,16 @@ in_passing = refl
 long : san_in (codes "Ke3-d3") ≡ codes "Ke3d3"
 unfolding san_in without_passing
 long = refl
+
+-- `Kg3–f3+–` with en dashes
+long_dash : san_in (codes "Kg3" ++ (226 ∷ 128 ∷ 147 ∷ (codes "f3+" ++ (226 ∷ 128 ∷ 147 ∷ [])))) ≡ codes "Kg3f3"
+unfolding san_in without_passing
+long_dash = refl
+
+-- `0−0` with a minus sign
+castling_dash : san_in (48 ∷ 226 ∷ 136 ∷ 146 ∷ 48 ∷ []) ≡ codes "0-0"
+unfolding san_in without_passing
+castling_dash = refl
 
 castling : san_in (codes "0-0+") ≡ codes "0-0"
 unfolding san_in without_passing

@@ -1,9 +1,10 @@
--- Figurines, step by step.
-use Rattle.std.proofs.Common.{◌≡◌, ℕ, ◌-◌, ◌<◌, ◌≤◌, true, false, List, [], ◌∷◌, length, take, drop, Option, Some, None, refl, sym, ap, ◌∙◌, arith, inl, inr}
-use Rattle.std.specs.Prelude.{◌||◌}
-use Rattle.std.proofs.lemmas.Bool.{cases_Bool}
+-- Figurines and dashes, step by step.
+use Rattle.std.proofs.Common.{◌≡◌, ℕ, ◌-◌, ◌<◌, ◌≤◌, true, false, List, [], ◌∷◌, length, take, drop, get_or, Option, Some, None, refl, sym, ap, ◌∙◌, arith, inl, inr}
+use Rattle.std.specs.Prelude.{◌&&◌, ◌||◌}
+use Rattle.std.specs.Str.{bytes_eq}
+use Rattle.std.proofs.lemmas.Bool.{cases_Bool, eq-eqb}
 use Rattle.std.proofs.lemmas.List.{take_all}
-use Rattle.study_games.specs.Symbols.{is_figurine, figurine_kind, kind_letter, begins_figurine, has_figurine, letter_at, lettered}
+use Rattle.study_games.specs.Symbols.{begins_figurine, has_figurine, has_letter, letter_of as letter_in, letter_at, lettered}
 
 one_more : (b : ℕ) (bs : List ℕ) → has_figurine (b ∷ bs) ≡ (begins_figurine (b ∷ bs) || has_figurine bs)
 one_more b [] = refl
@@ -49,7 +50,15 @@ module _ (letter : ℕ) (behind : List ℕ) where
   letter_read (x ∷ []) e = lettered_by x [] (x ∷ []) e refl (omega arith)
   letter_read (x ∷ y ∷ []) e = lettered_by x (y ∷ []) (x ∷ y ∷ []) e refl (omega arith)
   letter_read (x ∷ y ∷ z ∷ zs) e =
-      elim (cases_Bool (is_figurine x y z)) [
-        | inl is ↦ lettered_by (kind_letter (figurine_kind z)) zs (x ∷ y ∷ z ∷ zs) (rw is at e) (rw is refl) (omega arith)
+      elim (cases_Bool (has_letter x y z)) [
+        | inl is ↦ lettered_by (letter_in x y z) zs (x ∷ y ∷ z ∷ zs) (rw is at e) (rw is refl) (omega arith)
         | inr other ↦ lettered_by x (y ∷ z ∷ zs) (x ∷ y ∷ z ∷ zs) (rw other at e) (rw other refl) (omega arith)
       ]
+
+  -- if it is the first of another text as well, the rest of both is compared
+  pub letter_met : (text left : List ℕ) → found letter behind ≡ letter_at text → 1 ≤ length left → get_or left 0 0 ≡ letter
+      → bytes_eq (lettered behind) (take (length left - 1) (drop 1 left)) ≡ bytes_eq (lettered text) left
+  letter_met text [] e some is = absurd (omega (arith, some))
+  letter_met text (x ∷ xs) e some is =
+      ap (bytes_eq (lettered behind)) (take_all (length (x ∷ xs) - 1) xs (omega arith))
+      ∙ sym (ap (λ (t : List ℕ). bytes_eq t (x ∷ xs)) (sym (letter_read text e).same) ∙ ap (λ b. b && bytes_eq (lettered behind) xs) (eq-eqb letter x (sym is)))

@@ -3,9 +3,9 @@ use Rattle.std.proofs.Common.{◌≡◌, ℕ, suc, ◌+◌, ◌<◌, ◌≤◌, 
 use Rattle.std.proofs.Common.{arith, ◌⊎◌, inl, inr}
 use Rattle.std.specs.Prelude.{◌&&◌, ◌||◌, ◌==◌, nat_le}
 use Rattle.std.specs.List.{list_all, prefix_len}
-use Rattle.std.proofs.lemmas.Bool.{and_parts, and_right, ne_eqb, leb-true, lt-leb, or_cases, or_from}
+use Rattle.std.proofs.lemmas.Bool.{cases_Bool, and_parts, and_right, false≢true, ne_eqb, leb-true, lt-leb, or_cases, or_from}
 use Rattle.study_games.specs.Bytes.{is_letter, is_digit, is_high, is_sign, begins_symbol, is_symbol_byte, is_blank, is_glyph}
-use Rattle.study_games.specs.Tokens.{Lexed, token_at, lexed, run_of, front, behind, symbol}
+use Rattle.study_games.specs.Tokens.{Lexed, token_at, lexed, run_of, begins_ellipsis, begins_number, front, behind, symbol}
 
 -- a run ends at the end of the text, or before a byte of another kind
 abbrev pub Stops : (ℕ → Bool) → List ℕ → Type 0
@@ -121,18 +121,68 @@ module _ (b : ℕ) (f : IsFirst b) where
       (top 126 (omega arith) (omega arith))) (upper 94 (omega arith) (omega arith))) (upper 95 (omega arith) (omega arith)))
       (middle 58 (omega arith) (omega arith))
 
-symbol_token : (fresh : Bool) (b : ℕ) (bs : List ℕ) → IsFirst b → begins_symbol b ≡ true → lexed fresh b bs ≡ run_of symbol is_symbol_byte (b ∷ bs)
+-- ---- no `…` in ASCII
+
+-- bytes of a symbol in ASCII
+abbrev pub is_plain_symbol : ℕ → Bool
+is_plain_symbol b = is_symbol_byte b && nat_le b 127
+
+plain_symbols : (w : List ℕ) → list_all is_plain_symbol w ≡ true → list_all is_symbol_byte w ≡ true
+plain_symbols [] h = refl
+plain_symbols (x ∷ xs) h =
+    let a = and_parts (is_plain_symbol x) (list_all is_plain_symbol xs) h in rw (and_parts (is_symbol_byte x) (nat_le x 127) a.0).0 (plain_symbols xs a.1)
+
+plain_low : (b : ℕ) → is_plain_symbol b ≡ true → b ≡ 226 → ⊥
+plain_low b h e = let le = leb-true b 127 (and_parts (is_symbol_byte b) (nat_le b 127) h).1 in absurd (omega (arith, le, e))
+
+pub no_ellipsis : (b : ℕ) (bs : List ℕ) → (b ≡ 226 → ⊥) → begins_ellipsis (b ∷ bs) ≡ false
+no_ellipsis b [] other = refl
+no_ellipsis b (c ∷ []) other = refl
+no_ellipsis b (c ∷ d ∷ ds) other = rw (ne_eqb b 226 other) refl
+
+behind_more : (p : ℕ → Bool) (b : ℕ) (bs : List ℕ) → p b ≡ true → behind p (b ∷ bs) ≡ behind p bs
+behind_more p b bs h = rw h (ap (λ n. drop n (b ∷ bs)) (sym (one_more (prefix_len p bs))))
+
+behind_stop : (p : ℕ → Bool) (b : ℕ) (bs : List ℕ) → p b ≡ false → behind p (b ∷ bs) ≡ b ∷ bs
+behind_stop p b bs h = rw h refl
+
+pub symbol_digit : (d : ℕ) → is_digit d ≡ true → is_symbol_byte d ≡ true
+symbol_digit d h = rw h (any_true (is_letter d) (is_high d) (is_sign d))
+  where
+    any_true : (a b c : Bool) → (((a || true) || b) || c) ≡ true
+    any_true true b c = refl
+    any_true false b c = refl
+
+-- digits in ASCII, or before anything that ends a symbol, are not followed by `…`
+number_ends : (w rest : List ℕ) → list_all is_plain_symbol w ≡ true → Stops is_symbol_byte rest → begins_ellipsis (behind is_digit (w ++ rest)) ≡ false
+number_ends [] [] all stops = refl
+number_ends [] (b ∷ bs) all stops =
+    elim (cases_Bool (is_digit b)) [
+      | inl is ↦ absurd (false≢true (sym stops ∙ symbol_digit b is))
+      | inr other ↦ ap begins_ellipsis (behind_stop is_digit b bs other) ∙ no_ellipsis b bs (λ e. absurd (false≢true (sym stops ∙ ap is_symbol_byte e)))
+    ]
+number_ends (x ∷ xs) rest all stops =
+    let a = and_parts (is_plain_symbol x) (list_all is_plain_symbol xs) all in
+    elim (cases_Bool (is_digit x)) [
+      | inl is ↦ ap begins_ellipsis (behind_more is_digit x (xs ++ rest) is) ∙ number_ends xs rest a.1 stops
+      | inr other ↦ ap begins_ellipsis (behind_stop is_digit x (xs ++ rest) other) ∙ no_ellipsis x (xs ++ rest) (plain_low x a.0)
+    ]
+
+symbol_token : (fresh : Bool) (b : ℕ) (bs : List ℕ) → IsFirst b → begins_symbol b ≡ true → begins_ellipsis (b ∷ bs) ≡ false → begins_number (b ∷ bs) ≡ false
+    → lexed fresh b bs ≡ run_of symbol is_symbol_byte (b ∷ bs)
 unfolding lexed
-symbol_token fresh b bs f begins =
+symbol_token fresh b bs f begins ellipsis number =
     rw (and_right fresh (b == 37) (low b f 37 (omega arith))) (rw (no_blank b f) (rw (top b f 123 (omega arith) (omega arith))
     (rw (middle b f 59 (omega arith) (omega arith)) (rw (upper b f 91 (omega arith) (omega arith)) (rw (low b f 40 (omega arith))
-    (rw (low b f 41 (omega arith)) (rw (low b f 42 (omega arith)) (rw (low b f 36 (omega arith)) (rw (no_glyph b f) (rw (no_sign b f) (rw begins refl)))))))))))
+    (rw (low b f 41 (omega arith)) (rw (low b f 42 (omega arith)) (rw (low b f 36 (omega arith)) (rw (no_glyph b f) (rw (no_sign b f) (rw ellipsis (rw begins (rw number refl)))))))))))))
 
--- a symbol before anything that ends it
-pub symbol_read : (fresh : Bool) (b : ℕ) (w rest : List ℕ) → begins_symbol b ≡ true → list_all is_symbol_byte (b ∷ w) ≡ true
+-- a symbol in ASCII before anything that ends it
+pub symbol_read : (fresh : Bool) (b : ℕ) (w rest : List ℕ) → begins_symbol b ≡ true → list_all is_plain_symbol (b ∷ w) ≡ true
     → Stops is_symbol_byte rest → token_at fresh (b ∷ (w ++ rest)) ≡ Some (Ok (symbol (b ∷ w), rest))
 symbol_read fresh b w rest begins all stops =
-    let cut = run_cut is_symbol_byte (b ∷ w) rest all stops in
-    ap (λ (x : Lexed). Some x) (symbol_token fresh b (w ++ rest) (firsts b begins) begins)
+    let cut = run_cut is_symbol_byte (b ∷ w) rest (plain_symbols (b ∷ w) all) stops in
+    let low = plain_low b (and_parts (is_plain_symbol b) (list_all is_plain_symbol w) all).0 in
+    let number = and_right (is_digit b) (begins_ellipsis (behind is_digit (b ∷ (w ++ rest)))) (number_ends (b ∷ w) rest all stops) in
+    ap (λ (x : Lexed). Some x) (symbol_token fresh b (w ++ rest) (firsts b begins) begins (no_ellipsis b (w ++ rest) low) number)
     ∙ ap (λ (x : List ℕ). Some (Ok (symbol x, behind is_symbol_byte (b ∷ (w ++ rest))))) cut.0
     ∙ ap (λ (x : List ℕ). Some (Ok (symbol (b ∷ w), x))) cut.1

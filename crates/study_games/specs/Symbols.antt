@@ -1,9 +1,9 @@
 -- The meaning of a symbol, and the SAN of a symbol for a move.
-use Rattle.std.specs.Prelude.{ℕ, ◌-◌, Bool, false, not, ◌&&◌, ◌||◌, ◌==◌, nat_le, List, [], ◌∷◌, length, take, slice_index, codes, Option, Some, None}
+use Rattle.std.specs.Prelude.{ℕ, ◌-◌, Bool, false, not, ◌&&◌, ◌||◌, ◌==◌, nat_le, List, [], ◌∷◌, ◌++◌, length, take, slice_index, codes, Option, Some, None}
 use Rattle.std.specs.Prelude.{if◌then◌else◌}
 use Rattle.std.specs.List.{list_all, flat_map}
 use Rattle.std.specs.Str.{bytes_eq}
-use Rattle.study_games.specs.Bytes.{is_digit, is_sign, is_high}
+use Rattle.study_games.specs.Bytes.{is_digit, is_tail}
 use Rattle.study_games.specs.declared.symbols.Outcome.TheVariants.{WhiteWins, BlackWins, Drawn}
 use Rattle.study_games.specs.declared.symbols.Said.{Said}
 use Rattle.study_games.specs.declared.symbols.Said.TheVariants.{Number, Result, NullMove, Aside, Move}
@@ -28,21 +28,43 @@ abbrev pub has_figurine : List ℕ → Bool
 has_figurine (a ∷ b ∷ c ∷ bs) = is_figurine a b c || has_figurine (b ∷ c ∷ bs)
 has_figurine _ = false
 
--- letters in place of figurines
+-- ---- dashes: E2 80, and 90 to 93 for a hyphen, one that does not break, a figure dash and an en dash; E2 88 92 for a minus sign
+
+abbrev pub is_hyphen : ℕ → ℕ → ℕ → Bool
+is_hyphen a b c = a == 226 && ((b == 128 && (nat_le 144 c && nat_le c 147)) || (b == 136 && c == 146))
+
+-- ---- letters of characters of three bytes: those of figurines, and `-` for dashes
+
+abbrev pub has_letter : ℕ → ℕ → ℕ → Bool
+has_letter a b c = is_hyphen a b c || is_figurine a b c
+
+abbrev pub letter_of : ℕ → ℕ → ℕ → ℕ
+letter_of a b c = if is_hyphen a b c then 45 else kind_letter (figurine_kind c)
+
+-- letters in place of these characters
 abbrev pub lettered : List ℕ → List ℕ
-lettered (a ∷ b ∷ c ∷ bs) = if is_figurine a b c then kind_letter (figurine_kind c) ∷ lettered bs else a ∷ lettered (b ∷ c ∷ bs)
+lettered (a ∷ b ∷ c ∷ bs) = if has_letter a b c then letter_of a b c ∷ lettered bs else a ∷ lettered (b ∷ c ∷ bs)
 lettered bs = bs
 
--- the first byte, or the letter of a figurine at the front, and the rest
+-- the first byte, or the letter of a character at the front, and the rest
 abbrev pub letter_at : List ℕ → Option (ℕ × List ℕ)
-letter_at (a ∷ b ∷ c ∷ bs) = if is_figurine a b c then Some (kind_letter (figurine_kind c), bs) else Some (a, b ∷ c ∷ bs)
+letter_at (a ∷ b ∷ c ∷ bs) = if has_letter a b c then Some (letter_of a b c, bs) else Some (a, b ∷ c ∷ bs)
 letter_at (a ∷ bs) = Some (a, bs)
 letter_at [] = None
 
 -- ---- the meaning
 
+-- the symbol is this text, with any dash for `-`
+abbrev pub spells : List ℕ → List ℕ → Bool
+spells symbol text = bytes_eq (lettered symbol) text
+
+-- `½`, half a point as one character in UTF-8
+abbrev pub half : List ℕ
+half = 194 ∷ 189 ∷ []
+
 abbrev pub is_drawn : List ℕ → Bool
-is_drawn symbol = bytes_eq symbol (codes "1/2-1/2") || bytes_eq symbol (codes "1/2")
+is_drawn symbol =
+    (spells symbol (codes "1/2-1/2") || bytes_eq symbol (codes "1/2")) || (spells symbol (half ++ 45 ∷ half) || bytes_eq symbol half)
 
 -- an en dash or an em dash, in UTF-8
 abbrev pub is_dash : List ℕ → Bool
@@ -55,15 +77,15 @@ is_null_move symbol = bytes_eq symbol (codes "Z0") || (bytes_eq symbol (codes "n
 abbrev pub is_passing : List ℕ → Bool
 is_passing symbol = bytes_eq symbol (codes "e") || (bytes_eq symbol (codes "p") || bytes_eq symbol (codes "ep"))
 
--- a sign of judgement
+-- a sign of judgement, as `±` or `–+`
 abbrev pub is_judgement : List ℕ → Bool
-is_judgement symbol = list_all is_high symbol && not (has_figurine symbol)
+is_judgement symbol = list_all is_tail symbol && not (has_figurine symbol)
 
 unfoldable pub said_of : List ℕ → Said
 said_of symbol =
     if list_all is_digit symbol then Number
-    else (if bytes_eq symbol (codes "1-0") then Result WhiteWins
-    else (if bytes_eq symbol (codes "0-1") then Result BlackWins
+    else (if spells symbol (codes "1-0") then Result WhiteWins
+    else (if spells symbol (codes "0-1") then Result BlackWins
     else (if is_drawn symbol then Result Drawn
     else (if is_null_move symbol then NullMove
     else (if is_passing symbol then Aside
@@ -71,10 +93,6 @@ said_of symbol =
     else Move))))))
 
 -- ---- the SAN
-
--- bytes that a SAN text does not end with
-abbrev pub is_tail : ℕ → Bool
-is_tail b = is_sign b || is_high b
 
 -- without such bytes at the end
 abbrev pub without_end : (ℕ → Bool) → List ℕ → List ℕ

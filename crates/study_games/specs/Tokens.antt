@@ -7,10 +7,10 @@ use Rattle.study_games.specs.declared.token.TokenFault.TheVariants.{OpenComment,
 use Rattle.study_games.specs.declared.token.Cut.{Cut}
 use Rattle.study_games.specs.declared.token.Token.{Token as Read}
 use Rattle.study_games.specs.declared.token.Token.TheVariants as read
-use Rattle.study_games.specs.Bytes.{is_blank, is_gap, is_letter, is_digit, is_name_byte, is_sign, begins_symbol, is_symbol_byte, is_glyph, is_feed}
+use Rattle.study_games.specs.Bytes.{is_blank, is_gap, is_letter, is_digit, is_name_byte, is_sign, is_tail, begins_symbol, is_symbol_byte, is_glyph, is_feed}
 use Rattle.study_games.specs.Bytes.{is_brace_end}
 
--- blank: blanks, dots and escape lines, which are ignored; aside: a NAG or a glyph
+-- blank: blanks, dots, `…` and escape lines, which are ignored; aside: a NAG or a glyph
 pub data Token : Type 0 where
   blank aside opening closing star : Token
   tag : (name value : List ℕ) → Token
@@ -90,10 +90,39 @@ named (b ∷ bs) =
 unfoldable pub tag_at : List ℕ → Lexed
 tag_at text = named (behind is_gap text)
 
--- ---- the whole
+-- ---- signs and symbols
 
 abbrev pub run_of : (List ℕ → Token) → (ℕ → Bool) → List ℕ → Lexed
 run_of token p text = Ok (token (front p text), behind p text)
+
+-- `…`, the three dots as one character in UTF-8
+abbrev pub begins_ellipsis : List ℕ → Bool
+begins_ellipsis (a ∷ b ∷ c ∷ bs) = a == 226 && (b == 128 && c == 166)
+begins_ellipsis other = false
+
+abbrev pub behind_ellipsis : List ℕ → List ℕ
+behind_ellipsis (a ∷ b ∷ c ∷ bs) = bs
+behind_ellipsis other = []
+
+-- digits with `…` right behind them: the number of a move of Black
+abbrev pub begins_number : List ℕ → Bool
+begins_number [] = false
+begins_number (b ∷ bs) = is_digit b && begins_ellipsis (behind is_digit (b ∷ bs))
+
+-- such a number ends before `…`
+abbrev pub symbol_at : List ℕ → Lexed
+symbol_at text = if begins_number text then run_of symbol is_digit text else run_of symbol is_symbol_byte text
+
+-- signs, with any judgement that they begin, as `+–`; a symbol; or `…` by itself, which is blank like dots
+abbrev pub ink_at : List ℕ → Lexed
+ink_at [] = Err Byte
+ink_at (b ∷ bs) =
+    if is_sign b then run_of sign is_tail (b ∷ bs)
+    else (if begins_ellipsis (b ∷ bs) then Ok (blank, behind_ellipsis (b ∷ bs))
+    else (if begins_symbol b then symbol_at (b ∷ bs)
+    else Err Byte))
+
+-- ---- the whole
 
 -- the token that begins with b; fresh: b is the first byte of its line
 unfoldable pub lexed : Bool → ℕ → List ℕ → Lexed
@@ -108,9 +137,7 @@ lexed fresh b bs =
     else (if b == 42 then Ok (star, bs)
     else (if b == 36 then Ok (aside, behind is_digit bs)
     else (if is_glyph b then Ok (aside, behind is_glyph bs)
-    else (if is_sign b then run_of sign is_sign (b ∷ bs)
-    else (if begins_symbol b then run_of symbol is_symbol_byte (b ∷ bs)
-    else Err Byte)))))))))))
+    else ink_at (b ∷ bs))))))))))
 
 -- a text that is not empty
 abbrev pub token_at : Bool → List ℕ → Option Lexed

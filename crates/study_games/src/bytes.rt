@@ -1,6 +1,6 @@
 //! Kinds of bytes in a PGN text.
 ghost use Rattle.std.specs.Prelude.{◌≡◌};
-ghost use Rattle.study_games.specs.Bytes.{is_blank, is_gap, is_letter, is_digit, is_name_byte, is_sign, is_high, begins_symbol, is_symbol_byte, is_glyph};
+ghost use Rattle.study_games.specs.Bytes.{is_blank, is_gap, is_letter, is_digit, is_name_byte, is_sign, is_high, is_tail, begins_symbol, is_symbol_byte, is_glyph};
 
 /// A space, or one of the five ASCII codes that move on: tab, line feed, vertical tab, form feed, carriage return.
 pub fn is_blank(b: u8) -> bool
@@ -54,6 +54,13 @@ pub fn is_high(b: u8) -> bool
     ensures { result ≡ is_high b }
 {
     128 <= b
+}
+
+/// A sign, or not ASCII: a move does not end with the byte.
+pub fn is_tail(b: u8) -> bool
+    ensures { result ≡ is_tail b }
+{
+    is_sign(b) || is_high(b)
 }
 
 /// Whether a symbol can begin with the byte.

@@ -4,7 +4,7 @@ ghost use Rattle.std.specs.List.{prefix_len};
 ghost use Rattle.study_games.specs.Tokens.{front, behind};
 ghost use Rattle.study_games.specs.Runs.{is_in};
 
-use crate::bytes::{is_blank, is_digit, is_gap, is_glyph, is_name_byte, is_sign, is_symbol_byte};
+use crate::bytes::{is_blank, is_digit, is_gap, is_glyph, is_name_byte, is_symbol_byte, is_tail};
 
 /// The bytes of a run.
 #[derive(Clone, Copy)]
@@ -18,6 +18,7 @@ pub enum Run {
     Name,
     Digits,
     Glyphs,
+    /// Signs, and what is not ASCII.
     Signs,
     Symbol,
     /// A line without its line feed.
@@ -37,7 +38,7 @@ fn is_in(run: Run, b: u8) -> bool
         Run::Name => is_name_byte(b),
         Run::Digits => is_digit(b),
         Run::Glyphs => is_glyph(b),
-        Run::Signs => is_sign(b),
+        Run::Signs => is_tail(b),
         Run::Symbol => is_symbol_byte(b),
         Run::Line => b != b'\n',
         Run::Comment => b != b'}',

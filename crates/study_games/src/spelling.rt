@@ -1,49 +1,16 @@
 //! The SAN of a symbol for a move.
 ghost use Rattle.std.specs.Prelude.{◌≡◌, ◌≤◌, length, take};
-ghost use Rattle.std.specs.Option.{option_map};
-ghost use Rattle.study_games.specs.Symbols.{figurine_kind, kind_letter, letter_at, lettered, is_tail, without_tail, without_passing, without_pawn};
+ghost use Rattle.study_games.specs.Symbols.{lettered, without_tail, without_passing, without_pawn};
 ghost use Rattle.study_games.specs.Symbols.{begins_castling, plain_byte, spelled, san_in};
 
-use crate::bytes::{is_high, is_sign};
-use crate::symbols::is_figurine;
+use crate::bytes::is_tail;
+use crate::letters::read_letter;
 use arrayvec::ArrayVec;
 
 /// The longest symbol that is read as a move.
 pub const LONGEST_SYMBOL: usize = 32;
 
-/// The letter of a figurine's kind, by the last byte of the figurine.
-fn kind_letter(c: u8) -> u8
-    requires { 148 ≤ c }
-    ensures { result ≡ kind_letter (figurine_kind c) }
-{
-    let kind = if c >= 154 { c - 154 } else { c - 148 };
-    if kind == 0 {
-        b'K'
-    } else if kind == 1 {
-        b'Q'
-    } else if kind == 2 {
-        b'R'
-    } else if kind == 3 {
-        b'B'
-    } else if kind == 4 {
-        b'N'
-    } else {
-        b'P'
-    }
-}
-
-/// The first byte, or the letter of a figurine at the front, and the rest.
-fn read_letter(text: &[u8]) -> Option<(u8, &[u8])>
-    ensures { option_map (λ found. (found.0, found.1.now)) result ≡ letter_at text.now }
-{
-    match text {
-        [a, b, c, rest @ ..] if is_figurine(*a, *b, *c) => Some((kind_letter(*c), rest)),
-        [b, rest @ ..] => Some((*b, rest)),
-        [] => None,
-    }
-}
-
-/// Letters in place of figurines.
+/// Letters in place of figurines, and `-` for dashes.
 fn lettered(symbol: &[u8]) -> ArrayVec<u8, 32>
     requires { length symbol.now ≤ 32 }
     ensures { result.items ≡ lettered symbol.now }
@@ -55,13 +22,6 @@ fn lettered(symbol: &[u8]) -> ArrayVec<u8, 32>
         rest = behind;
     }
     out
-}
-
-/// Whether a SAN text does not end with the byte.
-fn is_tail(b: u8) -> bool
-    ensures { result ≡ is_tail b }
-{
-    is_sign(b) || is_high(b)
 }
 
 /// The length of a text without the signs and judgements at its end.

@@ -1,10 +1,11 @@
 //! The meaning of a symbol.
 ghost use Rattle.std.specs.Prelude.{◌≡◌};
 ghost use Rattle.std.specs.List.{list_all};
-ghost use Rattle.study_games.specs.Bytes.{is_digit, is_high};
-ghost use Rattle.study_games.specs.Symbols.{is_figurine, begins_figurine, has_figurine, is_drawn, is_dash, is_null_move, is_passing, is_judgement, said_of};
+ghost use Rattle.study_games.specs.Bytes.{is_digit, is_tail};
+ghost use Rattle.study_games.specs.Symbols.{begins_figurine, has_figurine, is_drawn, is_dash, is_null_move, is_passing, is_judgement, said_of};
 
 use crate::bytes;
+use crate::letters::{is_figurine, spells};
 
 /// How a game ends.
 #[derive(Clone, Copy, Debug, PartialEq, Eq)]
@@ -32,17 +33,10 @@ fn are_digits(text: &[u8]) -> bool
     text.iter().all(|b| bytes::is_digit(*b))
 }
 
-fn are_high(text: &[u8]) -> bool
-    ensures { result ≡ list_all is_high text.now }
+fn are_tail(text: &[u8]) -> bool
+    ensures { result ≡ list_all is_tail text.now }
 {
-    text.iter().all(|b| bytes::is_high(*b))
-}
-
-/// Whether three bytes are a king, queen, rook, bishop, knight or pawn in UTF-8.
-pub fn is_figurine(a: u8, b: u8, c: u8) -> bool
-    ensures { result ≡ is_figurine a b c }
-{
-    a == 0xe2 && b == 0x99 && 0x94 <= c && c <= 0x9f
+    text.iter().all(|b| bytes::is_tail(*b))
 }
 
 /// Whether the text begins with a figurine.
@@ -68,10 +62,14 @@ fn has_figurine(text: &[u8]) -> bool
     false
 }
 
+/// `1/2-1/2`, `½-½` with any dash, or half of it.
 fn is_drawn(symbol: &[u8]) -> bool
     ensures { result ≡ is_drawn symbol.now }
 {
-    symbol == b"1/2-1/2".as_slice() || symbol == b"1/2".as_slice()
+    spells(symbol, b"1/2-1/2")
+        || symbol == b"1/2".as_slice()
+        || spells(symbol, b"\xc2\xbd-\xc2\xbd")
+        || symbol == b"\xc2\xbd".as_slice()
 }
 
 /// An en dash or an em dash, in UTF-8.
@@ -97,11 +95,11 @@ fn is_passing(symbol: &[u8]) -> bool
     symbol == b"e".as_slice() || symbol == b"p".as_slice() || symbol == b"ep".as_slice()
 }
 
-/// A sign of judgement.
+/// A sign of judgement, as `±` or `–+`.
 fn is_judgement(symbol: &[u8]) -> bool
     ensures { result ≡ is_judgement symbol.now }
 {
-    are_high(symbol) && !has_figurine(symbol)
+    are_tail(symbol) && !has_figurine(symbol)
 }
 
 /// The meaning of the symbol.
@@ -111,9 +109,9 @@ pub fn say(symbol: &[u8]) -> Said
 {
     if are_digits(symbol) {
         Said::Number
-    } else if symbol == b"1-0".as_slice() {
+    } else if spells(symbol, b"1-0") {
         Said::Result(Outcome::WhiteWins)
-    } else if symbol == b"0-1".as_slice() {
+    } else if spells(symbol, b"0-1") {
         Said::Result(Outcome::BlackWins)
     } else if is_drawn(symbol) {
         Said::Result(Outcome::Drawn)

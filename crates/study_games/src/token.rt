@@ -2,18 +2,19 @@
 ghost use Rattle.std.specs.Prelude.{◌≡◌, ◌≤◌, ◌∷◌, Some, Ok, false, length, drop, IfSome};
 ghost use Rattle.std.specs.Option.{option_map};
 ghost use Rattle.std.specs.List.{prefix_len};
-ghost use Rattle.study_games.specs.Bytes.{is_digit, is_sign, is_symbol_byte, is_glyph};
+ghost use Rattle.study_games.specs.Bytes.{is_digit, is_tail, is_glyph};
 ghost use Rattle.study_games.specs.Tokens.{is_in_line, ends_tag, value_end, behind_value, comment_at, tag_at, lexed, token_seen, lexed_seen};
-ghost use Rattle.study_games.specs.Tokens.{valued, quoted, named, run_of, token_at, begins_feed, aside, sign, symbol, rest};
+ghost use Rattle.study_games.specs.Tokens.{valued, quoted, named, run_of, begins_ellipsis, behind_ellipsis, begins_number, symbol_at, ink_at};
+ghost use Rattle.study_games.specs.Tokens.{token_at, begins_feed, blank, aside, sign, rest};
 
-use crate::bytes::{begins_symbol, is_blank, is_glyph, is_letter, is_sign};
+use crate::bytes::{begins_symbol, is_blank, is_digit, is_glyph, is_letter, is_sign};
 use crate::runs::{Run, cut_run};
 use thiserror::Error;
 
 /// A token of a PGN text. Texts are parts of it.
 #[derive(Clone, Copy, Debug)]
 pub enum Token<'t> {
-    /// Blanks, a dot, or an escape line.
+    /// Blanks, a dot, `…`, or an escape line.
     Blank,
     /// A NAG or a glyph as `!?`.
     Aside,
@@ -177,15 +178,52 @@ fn read_rest(text: &[u8]) -> Result<Cut<'_>, TokenFault>
 }
 
 fn read_sign(text: &[u8]) -> Result<Cut<'_>, TokenFault>
-    ensures { lexed_seen result ≡ run_of sign is_sign text.now }
+    ensures { lexed_seen result ≡ run_of sign is_tail text.now }
 {
     let (signs, behind) = cut_run(Run::Signs, text);
     found(Token::Sign(signs), behind)
 }
 
-fn read_symbol(text: &[u8]) -> Result<Cut<'_>, TokenFault>
-    ensures { lexed_seen result ≡ run_of symbol is_symbol_byte text.now }
+/// Whether the text begins with `…`, the three dots as one character in UTF-8.
+pub fn begins_ellipsis(text: &[u8]) -> bool
+    ensures { result ≡ begins_ellipsis text.now }
 {
+    match text {
+        [a, b, c, ..] => *a == 0xe2 && *b == 0x80 && *c == 0xa6,
+        _ => false,
+    }
+}
+
+fn read_ellipsis(text: &[u8]) -> Result<Cut<'_>, TokenFault>
+    ensures { lexed_seen result ≡ Ok (blank, behind_ellipsis text.now) }
+{
+    match text {
+        [_, _, _, rest @ ..] => found(Token::Blank, rest),
+        _ => found(Token::Blank, b""),
+    }
+}
+
+/// Whether the text begins with digits that have `…` right behind them.
+fn begins_number(text: &[u8]) -> bool
+    ensures { result ≡ begins_number text.now }
+{
+    match text {
+        [first, ..] if is_digit(*first) => {
+            let (_, behind) = cut_run(Run::Digits, text);
+            begins_ellipsis(behind)
+        }
+        _ => false,
+    }
+}
+
+/// A symbol, or digits before `…`.
+fn read_symbol(text: &[u8]) -> Result<Cut<'_>, TokenFault>
+    ensures { lexed_seen result ≡ symbol_at text.now }
+{
+    if begins_number(text) {
+        let (digits, behind) = cut_run(Run::Digits, text);
+        return found(Token::Symbol(digits), behind);
+    }
     let (bytes, behind) = cut_run(Run::Symbol, text);
     found(Token::Symbol(bytes), behind)
 }
@@ -202,6 +240,18 @@ fn read_glyphs(text: &[u8]) -> Result<Cut<'_>, TokenFault>
 {
     let (_, behind) = cut_run(Run::Glyphs, text);
     found(Token::Aside, behind)
+}
+
+/// Signs, a symbol, or `…`.
+fn read_ink(text: &[u8]) -> Result<Cut<'_>, TokenFault>
+    ensures { lexed_seen result ≡ ink_at text.now }
+{
+    match text {
+        [first, ..] if is_sign(*first) => read_sign(text),
+        _ if begins_ellipsis(text) => read_ellipsis(text),
+        [first, ..] if begins_symbol(*first) => read_symbol(text),
+        _ => Err(TokenFault::Byte),
+    }
 }
 
 /// The first token of a text, and the rest; `fresh`: the text begins a line.
@@ -245,12 +295,8 @@ fn read_begun<'t>(
         read_nag(rest)
     } else if is_glyph(first) {
         read_glyphs(rest)
-    } else if is_sign(first) {
-        read_sign(text)
-    } else if begins_symbol(first) {
-        read_symbol(text)
     } else {
-        Err(TokenFault::Byte)
+        read_ink(text)
     }
 }
 

@@ -22,7 +22,8 @@ use Rattle.study_pgn.specs.Moves.{move_dots}
 use Rattle.study_games.specs.Bytes.{is_blank, begins_symbol}
 use Rattle.study_import.specs.declared.numbering.MoveNumber.{MoveNumber}
 use Rattle.study_import.specs.declared.numbering.Numbering.{Numbering}
-use Rattle.study_import.specs.Numbering.{begins_ellipsis, has_dot, has_dots, black_moves, is_black_to_move, fit, numbered, digits_numbered}
+use Rattle.study_games.proofs.Lexing.{no_ellipsis}
+use Rattle.study_import.specs.Numbering.{has_dot, has_dots, black_moves, is_black_to_move, fit, numbered, digits_numbered}
 use Rattle.study_import.proofs.Blanks.{IsGap}
 
 -- ---- digits
@@ -125,11 +126,6 @@ counted_on start d st m c legal lt =
     }
 
 -- ---- dots
-
-no_ellipsis : (b : ℕ) (bs : List ℕ) → (b ≡ 226 → ⊥) → begins_ellipsis (b ∷ bs) ≡ false
-no_ellipsis b [] other = refl
-no_ellipsis b (c ∷ []) other = refl
-no_ellipsis b (c ∷ d ∷ ds) other = rw (ne_eqb b 226 other) refl
 
 dot_is : (rest : List ℕ) → has_dot (46 ∷ rest) ≡ true
 unfolding has_dot

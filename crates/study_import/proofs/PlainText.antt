@@ -28,7 +28,8 @@ use Rattle.study_pgn.specs.Values.{side_name, mates_text, value_text, win_of, re
 use Rattle.study_pgn.specs.Moves.{move_dots, number_text, glyph_text, dual_text, comment_text, words_of_move, following, variations}
 use Rattle.study_pgn.specs.Pgn.{goal_text, stipulation_text, verdict_text, opening_words, opening_text, movetext}
 use Rattle.study_pgn.specs.Wrap.{lines_text}
-use Rattle.study_games.specs.Bytes.{is_digit, is_symbol_byte}
+use Rattle.study_games.specs.Bytes.{is_digit}
+use Rattle.study_games.proofs.Lexing.{is_plain_symbol}
 use Rattle.study_import.specs.Written.{plainly, CanBeMade}
 use Rattle.study_import.proofs.Ink.{decimal_few}
 use Rattle.study_import.proofs.Spelling.{move_short}
@@ -124,7 +125,7 @@ san_piece : (st : Start) (m : Move) → IsValid st.position → is_legal st.posi
 san_piece st m valid legal =
     let s = symbol_is st.position m valid legal in
     record {
-      plain = subst (λ (t : List ℕ). list_all is_plain t ≡ true) (sym s.text) (all_plain is_symbol_byte refl (s.first ∷ s.rest) s.all);
+      plain = subst (λ (t : List ℕ). list_all is_plain t ≡ true) (sym s.text) (all_plain is_plain_symbol refl (s.first ∷ s.rest) s.all);
       few = (move_short st.position m valid legal).few;
     }
 

@@ -18,7 +18,7 @@ use Rattle.study_games.specs.declared.symbols.Said.{Said}
 use Rattle.study_games.specs.declared.symbols.Said.TheVariants as say
 use Rattle.study_games.specs.Symbols.{said_of, san_in}
 use Rattle.study_games.specs.Tokens.{Token, Lexed, lexed, behind, is_inside, closed, comment_at, blank, aside, opening, closing, comment, symbol}
-use Rattle.study_games.proofs.Lexing.{Stops, run_cut, symbol_read}
+use Rattle.study_games.proofs.Lexing.{Stops, run_cut, is_plain_symbol, symbol_read}
 use Rattle.study_import.specs.declared.lines.Waiting.{Waiting}
 use Rattle.study_import.specs.declared.lines.LineFault.{LineFault}
 use Rattle.study_import.specs.declared.moves.MoveFault.{MoveFault}
@@ -149,7 +149,7 @@ module _ (s : PlainStudy) (path : List ℕ) (from : ℕ) (ws : List Waiting) (o 
 
   -- ---- numbers
 
-  symbol_lexed : (w : List ℕ) (b : ℕ) (bs rest : List ℕ) → begins_symbol b ≡ true → list_all is_symbol_byte (b ∷ bs) ≡ true → Stops is_symbol_byte rest
+  symbol_lexed : (w : List ℕ) (b : ℕ) (bs rest : List ℕ) → begins_symbol b ≡ true → list_all is_plain_symbol (b ∷ bs) ≡ true → Stops is_symbol_byte rest
       → (fresh : Bool) → lexed fresh b (bs ++ rest) ≡ Ok (symbol (b ∷ bs), rest)
   symbol_lexed w b bs rest begins all stops fresh =
       some_is (lexed fresh b (bs ++ rest)) (Ok (symbol (b ∷ bs), rest)) (symbol_read fresh b bs rest begins all stops)
@@ -160,7 +160,7 @@ module _ (s : PlainStudy) (path : List ℕ) (from : ℕ) (ws : List Waiting) (o 
       ∙ ap (λ (x : Lines). record { study = s; lines = x; inserts = g.reading.inserts }) at.lines
 
   -- a number that fits
-  pub number_step : (b : ℕ) (bs rest : List ℕ) → begins_symbol b ≡ true → list_all is_symbol_byte (b ∷ bs) ≡ true → said_of (b ∷ bs) ≡ say.Number → Stops is_symbol_byte rest
+  pub number_step : (b : ℕ) (bs rest : List ℕ) → begins_symbol b ≡ true → list_all is_plain_symbol (b ∷ bs) ≡ true → said_of (b ∷ bs) ≡ say.Number → Stops is_symbol_byte rest
       → (next : Numbering) → digits_numbered s.start.position.to_move (length path) g.notes.numbering (b ∷ bs) rest ≡ Some next → IsFirst s.start next.first
       → Reached ((b ∷ bs) ++ rest) rest s path from ws o g
   number_step b bs rest begins all said stops next is first =
@@ -231,7 +231,7 @@ module _ (s : PlainStudy) (path : List ℕ) (from : ℕ) (ws : List Waiting) (o 
       rw (le-ltb 32 (length text) h.few, h.prints, h.found, h.means, h.place, lt-leb 256 (length path) h.depth, lt-leb 4096 (size_of s.tree) h.room)
       (record { reading = _; is = refl; study = refl; lines = refl })
 
-  pub move_step : (b : ℕ) (bs rest : List ℕ) (m : Move) → begins_symbol b ≡ true → list_all is_symbol_byte (b ∷ bs) ≡ true → Stops is_symbol_byte rest → IsNew (b ∷ bs) m
+  pub move_step : (b : ℕ) (bs rest : List ℕ) (m : Move) → begins_symbol b ≡ true → list_all is_plain_symbol (b ∷ bs) ≡ true → Stops is_symbol_byte rest → IsNew (b ∷ bs) m
       → Reached ((b ∷ bs) ++ rest) rest (with_insertion s path m) (path ++ children_at s.tree.below path ∷ []) from ws o g
   move_step b bs rest m begins all stops h =
       let p = plays g.reading.inserts (b ∷ bs) m h in

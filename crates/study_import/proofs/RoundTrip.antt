@@ -44,7 +44,7 @@ use Rattle.study_games.specs.declared.symbols.Outcome.{Outcome}
 use Rattle.study_games.specs.declared.symbols.Outcome.TheVariants.{WhiteWins, BlackWins, Drawn}
 use Rattle.study_games.specs.declared.symbols.Said.{Said}
 use Rattle.study_games.specs.declared.symbols.Said.TheVariants as say
-use Rattle.study_games.proofs.Lexing.{Stops, symbol_read}
+use Rattle.study_games.proofs.Lexing.{Stops, is_plain_symbol, symbol_read}
 use Rattle.study_import.specs.declared.taking.Reason.{Reason}
 use Rattle.study_import.specs.declared.movetext.MovesFault.{MovesFault}
 use Rattle.study_import.specs.declared.aims.AimSource.TheVariants.{Comment}
@@ -290,7 +290,7 @@ record IsResult (w : List ℕ) : Type 0 where
   outcome : Outcome
   text : w ≡ first ∷ more
   begins : begins_symbol first ≡ true
-  all : list_all is_symbol_byte (first ∷ more) ≡ true
+  all : list_all is_plain_symbol (first ∷ more) ≡ true
   ink : Ink w
   said : said_of (first ∷ more) ≡ say.Result outcome
 
@@ -309,7 +309,7 @@ gap_stop : (b : ℕ) (rest : List ℕ) → IsGap b → Stops is_symbol_byte (b �
 gap_stop b rest (inl e) = rw e refl
 gap_stop b rest (inr e) = rw e refl
 
-symbol_lexed : (fresh : Bool) (b : ℕ) (w rest : List ℕ) → begins_symbol b ≡ true → list_all is_symbol_byte (b ∷ w) ≡ true → Stops is_symbol_byte rest
+symbol_lexed : (fresh : Bool) (b : ℕ) (w rest : List ℕ) → begins_symbol b ≡ true → list_all is_plain_symbol (b ∷ w) ≡ true → Stops is_symbol_byte rest
     → lexed fresh b (w ++ rest) ≡ Ok (symbol (b ∷ w), rest)
 symbol_lexed fresh b w rest begins all stops = lexed_is (lexed fresh b (w ++ rest)) (Ok (symbol (b ∷ w), rest)) (symbol_read fresh b w rest begins all stops)
   where
@@ -464,7 +464,7 @@ moves_end s c fresh =
 
 -- ---- no fault of the header
 
-symbol_fault : (fresh : Bool) (b : ℕ) (w rest : List ℕ) → begins_symbol b ≡ true → list_all is_symbol_byte (b ∷ w) ≡ true → Stops is_symbol_byte rest
+symbol_fault : (fresh : Bool) (b : ℕ) (w rest : List ℕ) → begins_symbol b ≡ true → list_all is_plain_symbol (b ∷ w) ≡ true → Stops is_symbol_byte rest
     → fault_from fresh (b ∷ (w ++ rest)) ≡ None
 symbol_fault fresh b w rest begins all stops = fault_step fresh b (w ++ rest) rest (symbol (b ∷ w)) header_ended (symbol_lexed fresh b w rest begins all stops) refl
 

@@ -25,9 +25,10 @@ use Rattle.study_notation.specs.Matching.{picked, meant, move_of}
 use Rattle.study_notation.specs.SanSpelling.{gives_file, gives_rank, san_for, check_text, move_text}
 use Rattle.study_notation.proofs.SanAgain.{san_again}
 use Rattle.study_notation.proofs.OneMoveAgrees.{alone_matches}
-use Rattle.study_games.specs.Bytes.{is_digit, is_high, begins_symbol, is_symbol_byte}
+use Rattle.study_games.specs.Bytes.{is_digit, is_tail, begins_symbol}
+use Rattle.study_games.proofs.Lexing.{is_plain_symbol}
 use Rattle.study_games.specs.declared.symbols.Said.TheVariants.{Move as MoveSaid}
-use Rattle.study_games.specs.Symbols.{has_figurine, lettered, said_of, is_tail, without_end, without_tail, without_passing, without_pawn, plain_bytes, spelled, san_in}
+use Rattle.study_games.specs.Symbols.{has_figurine, lettered, half, said_of, without_end, without_tail, without_passing, without_pawn, plain_bytes, spelled, san_in}
 use Rattle.study_marks.specs.Edits.{is_printable}
 
 -- ---- the bytes of a SAN text
@@ -474,8 +475,8 @@ longer : (t word : List ℕ) → length word < length t → bytes_eq t word ≡ 
 longer t word lt =
     false_from_ne_true (bytes_eq t word) (λ e. let same : t ≡ word = (bytes_eq-Decides t word).0 e in absurd (omega (arith, ap length same)))
 
-has_file : (xs ys : List ℕ) (b : ℕ) → is_digit b ≡ false → list_all is_digit (xs ++ (b ∷ ys)) ≡ false
-has_file xs ys b h = list_all-append is_digit xs (b ∷ ys) ∙ rw h (no (list_all is_digit xs))
+has_other : (q : ℕ → Bool) (xs ys : List ℕ) (b : ℕ) → q b ≡ false → list_all q (xs ++ (b ∷ ys)) ≡ false
+has_other q xs ys b h = list_all-append q xs (b ∷ ys) ∙ rw h (no (list_all q xs))
   where
     no : (b : Bool) → (b && false) ≡ false
     no true = refl
@@ -484,13 +485,26 @@ has_file xs ys b h = list_all-append is_digit xs (b ∷ ys) ∙ rw h (no (list_a
 file_no_digit : (f : ℕ) → is_digit (97 + f) ≡ false
 file_no_digit f = rw (le-leb 48 (97 + f) (omega arith), lt-leb (97 + f) 57 (omega arith)) refl
 
-not_number : (s : San) (check : List ℕ) → list_all is_digit (san_text s true ++ check) ≡ false
-not_number s check =
+is_file : ℕ → Bool
+is_file b = nat_le 97 b && nat_le b 104
+
+tail_table : agree_below (λ b. is_file b && is_tail b) (λ _. false) 128 ≡ true
+unfolding is_file
+tail_table = refl
+
+file_no_tail : (f : ℕ) → f < 8 → is_tail (97 + f) ≡ false
+unfolding is_file
+file_no_tail f lt = unlike is_file is_tail tail_table (λ b h. let high = leb-true b 104 (and_parts (nat_le 97 b) (nat_le b 104) h).1 in omega (arith, high)) (97 + f)
+    (and_from (nat_le 97 (97 + f)) (nat_le (97 + f) 104) (le-leb 97 (97 + f) (omega arith)) (le-leb (97 + f) 104 (omega (arith, lt))))
+
+-- not all of it are bytes of a kind that has no file
+not_all : (q : ℕ → Bool) → ((f : ℕ) → f < 8 → q (97 + f) ≡ false) → (s : San) (check : List ℕ) → list_all q (san_text s true ++ check) ≡ false
+not_all q none s check =
     let cut : san_text s true ++ check ≡ (kind_text s.kind ++ (file_text s.file ++ (rank_text s.rank ++ takes_text s.is_capture))) ++ (97 + s.target % 8) ∷ ((49 + s.target / 8) ∷ (promotion_text true s.promoted ++ check)) =
     regrouped (kind_text s.kind) (file_text s.file) (rank_text s.rank) (takes_text s.is_capture) (square_text s.target) (promotion_text true s.promoted) check in
-    ap (list_all is_digit) cut
-    ∙ has_file (kind_text s.kind ++ (file_text s.file ++ (rank_text s.rank ++ takes_text s.is_capture))) ((49 + s.target / 8) ∷ (promotion_text true s.promoted ++ check)) (97 + s.target % 8)
-    (file_no_digit (s.target % 8))
+    ap (list_all q) cut
+    ∙ has_other q (kind_text s.kind ++ (file_text s.file ++ (rank_text s.rank ++ takes_text s.is_capture))) ((49 + s.target / 8) ∷ (promotion_text true s.promoted ++ check)) (97 + s.target % 8)
+    (none (s.target % 8) (omega arith))
   where
     regrouped : (a b c d e f g : List ℕ) → (a ++ (b ++ (c ++ (d ++ (e ++ f))))) ++ g ≡ (a ++ (b ++ (c ++ d))) ++ (e ++ (f ++ g))
     regrouped a b c d e f g = simp append_assoc
@@ -506,29 +520,27 @@ two_bytes s check =
       length-append (takes_text s.is_capture) (square_text s.target ++ promotion_text true s.promoted),
     )
 
-low_first : (t : List ℕ) → list_all is_text_byte t ≡ true → 0 < length t → list_all is_high t ≡ false
-low_first [] h some = absurd (omega arith)
-low_first (b ∷ bs) h some =
-    let low = text_low b (and_parts (is_text_byte b) (list_all is_text_byte bs) h).0 in
-    rw (lt-leb 128 b low) refl
-
 words_none : (list_all is_text_byte (codes "1-0") ≡ false) × (list_all is_text_byte (codes "0-1") ≡ false) × (list_all is_text_byte (codes "1/2-1/2") ≡ false)
     × (list_all is_text_byte (codes "1/2") ≡ false) × (list_all is_text_byte (codes "Z0") ≡ false) × (list_all is_text_byte (codes "null") ≡ false)
     × (list_all is_text_byte (codes "pass") ≡ false) × (list_all is_text_byte (codes "p") ≡ false) × (list_all is_text_byte (codes "ep") ≡ false)
     × (list_all is_text_byte (226 ∷ 128 ∷ 147 ∷ []) ≡ false) × (list_all is_text_byte (226 ∷ 128 ∷ 148 ∷ []) ≡ false)
+    × (list_all is_text_byte (half ++ 45 ∷ half) ≡ false) × (list_all is_text_byte half ≡ false)
 unfolding is_text_byte is_san_byte is_start
-words_none = (refl, refl, refl, refl, refl, refl, refl, refl, refl, refl, refl)
+words_none = (refl, refl, refl, refl, refl, refl, refl, refl, refl, refl, refl, refl, refl)
 
-said_by : (t : List ℕ) → list_all is_text_byte t ≡ true → 1 < length t → list_all is_digit t ≡ false → said_of t ≡ MoveSaid
+said_by : (t : List ℕ) → list_all is_text_byte t ≡ true → 1 < length t → list_all is_digit t ≡ false → list_all is_tail t ≡ false → said_of t ≡ MoveSaid
 unfolding said_of
-said_by t h long digits =
+said_by t h long digits tails =
     let w = words_none in
     rw (
       digits,
+      lettered_same t h,
       unequal t (codes "1-0") h w.0,
       unequal t (codes "0-1") h w.1,
       unequal t (codes "1/2-1/2") h w.2,
       unequal t (codes "1/2") h w.3,
+      unequal t (half ++ 45 ∷ half) h w.11,
+      unequal t half h w.12,
       unequal t (codes "Z0") h w.4,
       unequal t (codes "null") h w.5,
       unequal t (codes "pass") h w.6,
@@ -537,7 +549,7 @@ said_by t h long digits =
       longer t (codes "e") long,
       unequal t (codes "p") h w.7,
       unequal t (codes "ep") h w.8,
-      low_first t h (omega arith),
+      tails,
     ) refl
 
 pub symbol_said : (p : Position) (m : Move) → IsValid p → is_legal p m ≡ true → said_of (move_text p m) ≡ MoveSaid
@@ -547,22 +559,22 @@ symbol_said p m valid e =
     let check = check_text (after p m) in
     let text = text_of p m h.man h.here in
     said_by (move_text p m) (whole_bytes p m valid e) (subst (λ (t : List ℕ). 1 < length t) (sym text) (two_bytes s check))
-    (ap (list_all is_digit) text ∙ not_number s check)
+    (ap (list_all is_digit) text ∙ not_all is_digit (λ f _. file_no_digit f) s check) (ap (list_all is_tail) text ∙ not_all is_tail file_no_tail s check)
 
 -- ---- its bytes as a symbol
 
-symbol_table : agree_below (λ b. is_text_byte b && not (is_symbol_byte b)) (λ _. false) 128 ≡ true
+symbol_table : agree_below (λ b. is_text_byte b && not (is_plain_symbol b)) (λ _. false) 128 ≡ true
 unfolding is_text_byte is_san_byte is_start
 symbol_table = refl
 
-symbol_byte : (b : ℕ) → is_text_byte b ≡ true → is_symbol_byte b ≡ true
-symbol_byte b h = not_false (is_symbol_byte b) (unlike is_text_byte (λ c. not (is_symbol_byte c)) symbol_table text_low b h)
+symbol_byte : (b : ℕ) → is_text_byte b ≡ true → is_plain_symbol b ≡ true
+symbol_byte b h = not_false (is_plain_symbol b) (unlike is_text_byte (λ c. not (is_plain_symbol c)) symbol_table text_low b h)
   where
     not_false : (b : Bool) → not b ≡ false → b ≡ true
     not_false true e = refl
     not_false false e = absurd (false≢true (sym e))
 
-symbol_all : (t : List ℕ) → list_all is_text_byte t ≡ true → list_all is_symbol_byte t ≡ true
+symbol_all : (t : List ℕ) → list_all is_text_byte t ≡ true → list_all is_plain_symbol t ≡ true
 symbol_all [] h = refl
 symbol_all (b ∷ bs) h = let a = and_parts (is_text_byte b) (list_all is_text_byte bs) h in rw (symbol_byte b a.0) (symbol_all bs a.1)
 
@@ -584,7 +596,7 @@ pub record IsSymbol (t : List ℕ) : Type 0 where
   pub rest : List ℕ
   pub text : t ≡ first ∷ rest
   pub begins : begins_symbol first ≡ true
-  pub all : list_all is_symbol_byte (first ∷ rest) ≡ true
+  pub all : list_all is_plain_symbol (first ∷ rest) ≡ true
 
 first_of : (xs ys t : List ℕ) → t ≡ xs ++ ys → AllStart xs → 0 < length xs → list_all is_text_byte t ≡ true → IsSymbol t
 first_of [] ys t e h some all = absurd (omega arith)

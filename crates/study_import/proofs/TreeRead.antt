@@ -2,7 +2,7 @@
 use Rattle.std.proofs.Common.{◌≡◌, ℕ, zero, suc, ◌+◌, ◌<◌, ◌≤◌, Bool, true, false, List, [], ◌∷◌, ◌++◌, length, take, Option, Some, None, refl, sym, ap, subst, ◌∙◌, inl, inr, arith, length-append, append_assoc}
 use Rattle.std.specs.Prelude.{◌==◌, ◌||◌, nat_le, ◌/◌, codes, decimal, if◌then◌else◌}
 use Rattle.std.specs.List.{list_all}
-use Rattle.std.proofs.lemmas.Bool.{false_from_ne_true, and_from, leb-true, ne_eqb, and_parts}
+use Rattle.std.proofs.lemmas.Bool.{false_from_ne_true, and_from, le-leb, leb-true, ne_eqb, and_parts}
 use Rattle.std.proofs.lemmas.List.{append-nil, take_at}
 use Rattle.std.proofs.lemmas.List.Folds.{list_all-append}
 use Rattle.study_board.specs.declared.men.Side.{Side}
@@ -29,11 +29,11 @@ use Rattle.study_marks.specs.Edits.{PlainStudy, with_insertion, is_printable}
 use Rattle.study_marks.proofs.DualCounts.{same_move-one}
 use Rattle.study_pgn.specs.Values.{side_name, mates_text, value_text}
 use Rattle.study_pgn.specs.Moves.{move_dots, number_text, glyph_text, dual_text, comment_text, words_of_move, following, variations}
-use Rattle.study_games.specs.Bytes.{is_letter, is_digit, is_high, is_sign, begins_symbol, is_symbol_byte}
+use Rattle.study_games.specs.Bytes.{is_letter, is_digit, is_high, begins_symbol, is_symbol_byte}
 use Rattle.study_games.specs.Symbols.{said_of, san_in}
 use Rattle.study_games.specs.declared.symbols.Said.TheVariants as say
 use Rattle.study_games.specs.Tokens.{is_inside}
-use Rattle.study_games.proofs.Lexing.{Stops}
+use Rattle.study_games.proofs.Lexing.{Stops, symbol_digit, is_plain_symbol}
 use Rattle.study_import.specs.declared.lines.Waiting.{Waiting}
 use Rattle.study_import.specs.Notes.{GameRead}
 use Rattle.study_import.specs.Written.{plainly}
@@ -92,16 +92,14 @@ dual_inside (Some (Dual k)) = inside_append (codes "; dual ") (decimal k) refl (
 
 -- ---- a word that is a number
 
-pub digits_symbol : (ds : List ℕ) → list_all is_digit ds ≡ true → list_all is_symbol_byte ds ≡ true
+pub digits_symbol : (ds : List ℕ) → list_all is_digit ds ≡ true → list_all is_plain_symbol ds ≡ true
 digits_symbol [] h = refl
-digits_symbol (d ∷ ds) h = let a = and_parts (is_digit d) (list_all is_digit ds) h in rw (symbol_digit d a.0) (digits_symbol ds a.1)
+digits_symbol (d ∷ ds) h = let a = and_parts (is_digit d) (list_all is_digit ds) h in rw (plain_digit d a.0) (digits_symbol ds a.1)
   where
-    any_true : (a b c : Bool) → (((a || true) || b) || c) ≡ true
-    any_true true b c = refl
-    any_true false b c = refl
-
-    symbol_digit : (d : ℕ) → is_digit d ≡ true → is_symbol_byte d ≡ true
-    symbol_digit d h = rw h (any_true (is_letter d) (is_high d) (is_sign d))
+    plain_digit : (d : ℕ) → is_digit d ≡ true → is_plain_symbol d ≡ true
+    plain_digit d h =
+        let high = leb-true d 57 (and_parts (nat_le 48 d) (nat_le d 57) h).1 in
+        and_from (is_symbol_byte d) (nat_le d 127) (symbol_digit d h) (le-leb d 127 (omega (arith, high)))
 
 pub begins_digit : (d : ℕ) → is_digit d ≡ true → begins_symbol d ≡ true
 begins_digit d h = rw h (any_true (is_letter d) (is_high d))

@@ -2,10 +2,11 @@
 use Rattle.std.proofs.Common.{◌≡◌, ℕ, zero, suc, ◌+◌, ◌≤◌, Bool, true, false, List, [], ◌∷◌, length, drop, Option, Some, None, Result, Ok, Err, refl, sym, ap, ◌∙◌, arith, length-drop}
 use Rattle.std.specs.Prelude.{◌==◌, ◌&&◌, ◌||◌, if◌then◌else◌}
 use Rattle.std.specs.List.{prefix_len}
+use Rattle.std.proofs.lemmas.Bool.{and_parts}
 use Rattle.study_games.specs.declared.token.TokenFault.TheVariants.{OpenComment, TagForm, OpenString, Byte}
 use Rattle.study_games.specs.declared.header.HeaderFault.{HeaderFault}
-use Rattle.study_games.specs.Bytes.{is_blank, is_gap, is_letter, is_digit, is_name_byte, is_sign, begins_symbol, is_symbol_byte, is_glyph}
-use Rattle.study_games.specs.Tokens.{Token, Lexed, front, behind, closed, is_inside, comment_at, is_in_line, value_end, without_first, behind_value, valued, quoted, named, tag_at, lexed, blank, aside, opening, closing, star, tag, comment, rest, sign, symbol}
+use Rattle.study_games.specs.Bytes.{is_blank, is_gap, is_letter, is_digit, is_name_byte, is_sign, is_tail, begins_symbol, is_symbol_byte, is_glyph}
+use Rattle.study_games.specs.Tokens.{Token, Lexed, front, behind, closed, is_inside, comment_at, is_in_line, value_end, without_first, behind_value, valued, quoted, named, tag_at, begins_ellipsis, behind_ellipsis, begins_number, symbol_at, ink_at, lexed, blank, aside, opening, closing, star, tag, comment, rest, sign, symbol}
 use Rattle.study_games.specs.Header.{Pair, Step, on, no_tag, ended, step_of, with_tags, tags_in, with_fault, fault_in}
 use Rattle.study_import.specs.declared.taking.Reason.{Reason}
 use Rattle.study_import.specs.declared.movetext.MovesFault.{MovesFault}
@@ -67,6 +68,25 @@ run_le p b bs h = rw h (omega (arith, length-drop (1 + prefix_len p bs) (b ∷ b
 symbol_begins : (b : ℕ) → begins_symbol b ≡ true → is_symbol_byte b ≡ true
 symbol_begins b h = rw h refl
 
+sign_ends : (b : ℕ) → is_sign b ≡ true → is_tail b ≡ true
+sign_ends b h = rw h refl
+
+ellipsis_le : (b : ℕ) (bs : List ℕ) → length (behind_ellipsis (b ∷ bs)) ≤ length bs
+ellipsis_le b [] = omega arith
+ellipsis_le b (c ∷ []) = omega arith
+ellipsis_le b (c ∷ d ∷ ds) = omega arith
+
+within_symbol : (b : ℕ) (bs : List ℕ) → begins_symbol b ≡ true → Within (length bs) (symbol_at (b ∷ bs))
+within_symbol b bs h =
+    within_if (begins_number (b ∷ bs)) (length bs) _ _ (λ e. run_le is_digit b bs (and_parts (is_digit b) (begins_ellipsis (behind is_digit (b ∷ bs))) e).0)
+    (run_le is_symbol_byte b bs (symbol_begins b h))
+
+within_ink : (b : ℕ) (bs : List ℕ) → Within (length bs) (ink_at (b ∷ bs))
+within_ink b bs =
+    within_if (is_sign b) (length bs) _ _ (λ e. run_le is_tail b bs (sign_ends b e))
+    (within_if (begins_ellipsis (b ∷ bs)) (length bs) _ _ (λ e. ellipsis_le b bs)
+    (within_if (begins_symbol b) (length bs) _ _ (λ e. within_symbol b bs e) tt))
+
 pub within_lexed : (fresh : Bool) (b : ℕ) (bs : List ℕ) → Within (length bs) (lexed fresh b bs)
 unfolding lexed
 within_lexed fresh b bs =
@@ -79,9 +99,7 @@ within_lexed fresh b bs =
     (within_if (b == 41) (length bs) _ _ (λ e. omega arith)
     (within_if (b == 42) (length bs) _ _ (λ e. omega arith)
     (within_if (b == 36) (length bs) _ _ (λ e. behind_le is_digit bs)
-    (within_if (is_glyph b) (length bs) _ _ (λ e. behind_le is_glyph bs)
-    (within_if (is_sign b) (length bs) _ _ (λ e. run_le is_sign b bs e)
-    (within_if (begins_symbol b) (length bs) _ _ (λ e. run_le is_symbol_byte b bs (symbol_begins b e)) tt)))))))))))
+    (within_if (is_glyph b) (length bs) _ _ (λ e. behind_le is_glyph bs) (within_ink b bs))))))))))
 
 -- ---- moves
 

@@ -7,16 +7,11 @@ use Rattle.study_games.specs.Bytes.{is_blank}
 use Rattle.study_games.specs.Symbols.{said_of}
 use Rattle.study_games.specs.declared.symbols.Said.{Said}
 use Rattle.study_games.specs.declared.symbols.Said.TheVariants as say
-use Rattle.study_games.specs.Tokens.{Token, behind, without_first, symbol}
+use Rattle.study_games.specs.Tokens.{Token, behind, without_first, begins_ellipsis, symbol}
 use Rattle.study_import.specs.declared.numbering.MoveNumber.{MoveNumber}
 use Rattle.study_import.specs.declared.numbering.Numbering.{Numbering}
 
 -- ---- dots
-
--- `…`, the three dots as one character in UTF-8
-abbrev pub begins_ellipsis : List ℕ → Bool
-begins_ellipsis (a ∷ b ∷ c ∷ bs) = a == 226 && (b == 128 && c == 166)
-begins_ellipsis other = false
 
 abbrev pub begins_dot : List ℕ → Bool
 begins_dot [] = false

@@ -2,12 +2,12 @@
 ghost use Rattle.std.specs.Prelude.{◌≡◌};
 ghost use Rattle.study_notation.specs.Fen.{digits_told};
 ghost use Rattle.study_games.specs.Tokens.{token_seen};
-ghost use Rattle.study_import.specs.Numbering.{begins_ellipsis, begins_dot, has_dot, has_dots, black_moves, is_black_to_move, fit, fits_first};
+ghost use Rattle.study_import.specs.Numbering.{begins_dot, has_dot, has_dots, black_moves, is_black_to_move, fit, fits_first};
 ghost use Rattle.study_import.specs.Numbering.{numbered, digits_numbered, token_numbered};
 
 use crate::behind::without_first;
 use study_board::Side;
-use study_games::{Run, Said, Token, cut_run, say};
+use study_games::{Run, Said, Token, begins_ellipsis, cut_run, say};
 
 /// The number of a move, and the number of half moves before it.
 #[derive(Clone, Copy)]
@@ -20,15 +20,6 @@ pub struct MoveNumber {
 #[derive(Clone, Copy)]
 pub struct Numbering {
     pub first: Option<MoveNumber>,
-}
-
-fn begins_ellipsis(text: &[u8]) -> bool
-    ensures { result ≡ begins_ellipsis text.now }
-{
-    match text {
-        [a, b, c, ..] => *a == 0xe2 && *b == 0x80 && *c == 0xa6,
-        _ => false,
-    }
 }
 
 fn begins_dot(text: &[u8]) -> bool

@@ -1,5 +1,5 @@
 use Rattle.std.proofs.Common.{sym, ◌∙◌, arith}
-use Rattle.study_games.specs.Symbols.{is_tail}
+use Rattle.study_games.specs.Bytes.{is_tail}
 use Rattle.study_games.proofs.Tails.{tail-cut, tail-stop}
 use Rattle.study_games.proofs.spelling.len_without_tail.Goals as goal
 
