@@ -21,7 +21,7 @@ use Rattle.study_import.specs.declared.aims.Aim.{Aim}
 use Rattle.study_import.specs.declared.aims.AimSource.{AimSource}
 use Rattle.study_import.specs.declared.aims.AimSource.TheVariants.{Comment, StipulationTag, ResultTag, Result as EndResult, Given}
 use Rattle.study_import.specs.declared.notes.Notes.{Notes}
-use Rattle.study_import.specs.Aims.{Found, last_of_phrase, hero_of, goal_named, moves_named, moves_in, moves_behind_in, mate_goal, goal_or_mate, goal_in, goal_behind_and, goal_behind_play, or_goal, goal_after_to, goal_behind_to, aimed, aim_by, aim_in, mate_by, mate_tag, or_words, says_win, says_draw, aim_of_text, aim_of_tag, aim_of_outcome, from_source, or_aim, aim_of_result}
+use Rattle.study_import.specs.Aims.{Found, last_of_phrase, hero_of, goal_named, moves_named, moves_in, moves_behind_in, mate_goal, goal_or_mate, goal_in, goal_behind_and, goal_behind_play, or_goal, goal_after_to, goal_behind_to, goal_of_verb, verb_or_mate, goal_by_verb, goal_behind_hero, aimed, aim_by, aim_in, mate_by, mate_tag, or_words, says_win, says_draw, aim_of_text, aim_of_tag, aim_of_outcome, from_source, or_aim, aim_of_result}
 use Rattle.study_import.specs.Notes.{with_said, with_sign, noted}
 use Rattle.study_import.specs.Blocks.{tag_aim, result_of, aim_of_game}
 use Rattle.study_import.specs.Laws.{IsCounted, IsGiven}
@@ -108,6 +108,22 @@ counted_to (Some x) =
     counted_if (bytes_eq x.0 (codes "to")) (goal_after_to (first_word x.1)) None
     (counted_either (goal_in (first_word x.1)) (goal_behind_play (first_word x.1)) (counted_in (first_word x.1)) (counted_play (first_word x.1))) tt
 
+counted_told : (o : Option (List ℕ)) → Counted (goal_of_verb o)
+counted_told None = tt
+counted_told (Some word) = named_by (bytes_eq word (codes "wins")) (bytes_eq word (codes "draws"))
+
+counted_mates : (o : Option Goal) (word behind : List ℕ) → Counted o → Counted (verb_or_mate o word behind)
+counted_mates (Some goal) word behind h = h
+counted_mates None word behind h =
+    counted_if (bytes_eq word (codes "mates")) (mate_goal (moves_behind_in (first_word behind))) None (counted_mate (moves_behind_in (first_word behind)) (few_mate (first_word behind))) tt
+
+counted_verb : (x : Found) → Counted (goal_by_verb x)
+counted_verb None = tt
+counted_verb (Some x) = counted_mates (goal_of_verb (last_of_phrase x.0 x.1)) x.0 x.1 (counted_told (last_of_phrase x.0 x.1))
+
+counted_hero : (x : Found) → Counted (goal_behind_hero x)
+counted_hero x = counted_either (goal_behind_to x) (goal_by_verb x) (counted_to x) (counted_verb x)
+
 -- ---- stipulations
 
 given_aimed : (side : Option Side) (goal : Option Goal) → Counted goal → IsGiven (aimed side goal)
@@ -118,7 +134,7 @@ given_aimed None None h = tt
 
 given_by : (x : Found) → IsGiven (aim_by x)
 given_by None = tt
-given_by (Some x) = given_aimed (hero_of x.0) (goal_behind_to (first_word x.1)) (counted_to (first_word x.1))
+given_by (Some x) = given_aimed (hero_of x.0) (goal_behind_hero (first_word x.1)) (counted_hero (first_word x.1))
 
 given_in : (text : List ℕ) → IsGiven (aim_in text)
 unfolding aim_in

@@ -9,6 +9,9 @@ use Rattle.study_marks.specs.declared.stipulation.Goal.TheVariants.{Win, Draw, M
 use Rattle.study_marks.specs.declared.stipulation.Stipulation.{Stipulation}
 use Rattle.study_command.specs.Parser.{mate_moves_of}
 use Rattle.study_games.specs.Words.{first_word, trimmed}
+use Rattle.study_games.specs.Symbols.{said_of}
+use Rattle.study_games.specs.declared.symbols.Said.{Said}
+use Rattle.study_games.specs.declared.symbols.Said.TheVariants as say
 use Rattle.study_games.specs.declared.symbols.Outcome.{Outcome}
 use Rattle.study_games.specs.declared.symbols.Outcome.TheVariants.{WhiteWins, BlackWins, Drawn}
 use Rattle.study_import.specs.declared.aims.AimSource.{AimSource}
@@ -19,7 +22,8 @@ use Rattle.study_import.specs.declared.aims.Aim.{Aim}
 abbrev pub Found : Type 0
 Found = Option (List ℕ × List ℕ)
 
--- ---- words: `White to win`, `Black to play and draw`, `White to mate in 3`, alone or up to a colon or a full stop
+-- ---- words: `White to win`, `Black to play and draw`, `White to mate in 3`, or as said of the solution `White wins`, `White mates in 3`, alone or up to a
+-- colon or a full stop
 
 abbrev pub ends_phrase : List ℕ → Bool
 ends_phrase word =
@@ -84,10 +88,27 @@ or_goal None later = later
 abbrev pub goal_after_to : Found → Option Goal
 goal_after_to x = or_goal (goal_in x) (goal_behind_play x)
 
--- after the hero
+-- `to win`, `to play and draw`
 abbrev pub goal_behind_to : Found → Option Goal
 goal_behind_to None = None
 goal_behind_to (Some x) = if bytes_eq x.0 (codes "to") then goal_after_to (first_word x.1) else None
+
+abbrev pub goal_of_verb : Option (List ℕ) → Option Goal
+goal_of_verb None = None
+goal_of_verb (Some word) = if bytes_eq word (codes "wins") then Some Win else (if bytes_eq word (codes "draws") then Some Draw else None)
+
+abbrev pub verb_or_mate : Option Goal → List ℕ → List ℕ → Option Goal
+verb_or_mate (Some goal) word behind = Some goal
+verb_or_mate None word behind = if bytes_eq word (codes "mates") then mate_goal (moves_behind_in (first_word behind)) else None
+
+-- `wins`, `draws`, `mates in 3`
+abbrev pub goal_by_verb : Found → Option Goal
+goal_by_verb None = None
+goal_by_verb (Some x) = verb_or_mate (goal_of_verb (last_of_phrase x.0 x.1)) x.0 x.1
+
+-- after the hero
+abbrev pub goal_behind_hero : Found → Option Goal
+goal_behind_hero x = or_goal (goal_behind_to x) (goal_by_verb x)
 
 abbrev pub aimed : Option Side → Option Goal → Option Stipulation
 aimed (Some hero) (Some goal) = Some (record { hero = hero; goal = goal })
@@ -95,7 +116,7 @@ aimed _ _ = None
 
 abbrev pub aim_by : Found → Option Stipulation
 aim_by None = None
-aim_by (Some x) = aimed (hero_of x.0) (goal_behind_to (first_word x.1))
+aim_by (Some x) = aimed (hero_of x.0) (goal_behind_hero (first_word x.1))
 
 -- the stipulation at the beginning of a comment
 unfoldable pub aim_in : List ℕ → Option Stipulation
@@ -139,16 +160,13 @@ aim_of_outcome WhiteWins = record { hero = White; goal = Win }
 aim_of_outcome BlackWins = record { hero = Black; goal = Win }
 aim_of_outcome Drawn = record { hero = White; goal = Draw }
 
-abbrev pub outcome_of_text : List ℕ → Option Outcome
-outcome_of_text text =
-    if bytes_eq text (codes "1-0") then Some WhiteWins
-    else (if bytes_eq text (codes "0-1") then Some BlackWins
-    else (if bytes_eq text (codes "1/2-1/2") then Some Drawn
-    else None))
+abbrev pub outcome_said : Said → Option Outcome
+outcome_said (say.Result outcome) = Some outcome
+outcome_said other = None
 
--- the value of the tag Result
+-- the value of the tag Result: a result as behind the moves
 unfoldable pub outcome_of_tag : List ℕ → Option Outcome
-outcome_of_tag value = outcome_of_text (trimmed value)
+outcome_of_tag value = outcome_said (said_of (trimmed value))
 
 -- ---- the first stipulation that is stated
 

@@ -4,13 +4,13 @@ ghost use Rattle.std.specs.Option.{option_map};
 ghost use Rattle.study_games.specs.Words.{first_word};
 ghost use Rattle.study_command.specs.Parser.{mate_moves_of};
 ghost use Rattle.study_import.specs.Aims.{ends_phrase, last_of_phrase, hero_of, goal_named, moves_in, moves_behind_in, mate_goal, goal_in};
-ghost use Rattle.study_import.specs.Aims.{goal_behind_and, goal_behind_play, goal_after_to, goal_behind_to, aim_in};
-ghost use Rattle.study_import.specs.Aims.{mate_tag, says_win, says_draw, aim_of_text, aim_of_tag, aim_of_outcome, outcome_of_text, outcome_of_tag};
+ghost use Rattle.study_import.specs.Aims.{goal_behind_and, goal_behind_play, goal_after_to, goal_behind_to, goal_of_verb, goal_by_verb, goal_behind_hero};
+ghost use Rattle.study_import.specs.Aims.{aim_in, mate_tag, says_win, says_draw, aim_of_text, aim_of_tag, aim_of_outcome, outcome_said, outcome_of_tag};
 ghost use Rattle.study_import.specs.Aims.{source_words};
 
 use study_board::Side;
 use study_command::read_place;
-use study_games::{Outcome, next_word, trim_end, trim_start};
+use study_games::{Outcome, Said, next_word, say, trim_end, trim_start};
 use study_marks::{Goal, MateMoves, Stipulation};
 
 /// The source of a stipulation.
@@ -174,7 +174,7 @@ fn goal_after_to(text: &[u8]) -> Option<Goal>
     }
 }
 
-/// After the hero.
+/// `to win`, `to play and draw`.
 fn goal_behind_to(text: &[u8]) -> Option<Goal>
     ensures { result ≡ goal_behind_to (first_word text.now) }
 {
@@ -186,13 +186,51 @@ fn goal_behind_to(text: &[u8]) -> Option<Goal>
     }
 }
 
-/// `White to win`, `Black to play and draw`, `White to mate in 3`: the whole text, or up to a colon or a full stop.
+fn goal_of_verb(word: Option<&[u8]>) -> Option<Goal>
+    ensures { result ≡ goal_of_verb (option_map (λ w. w.now) word.entry) }
+{
+    let word = word?;
+    if word == b"wins".as_slice() {
+        Some(Goal::Win)
+    } else if word == b"draws".as_slice() {
+        Some(Goal::Draw)
+    } else {
+        None
+    }
+}
+
+/// `wins`, `draws`, `mates in 3`.
+fn goal_by_verb(text: &[u8]) -> Option<Goal>
+    ensures { result ≡ goal_by_verb (first_word text.now) }
+{
+    let (word, behind) = next_word(text)?;
+    if let Some(goal) = goal_of_verb(last_of_phrase(word, behind)) {
+        return Some(goal);
+    }
+    if word == b"mates".as_slice() {
+        mate_goal(moves_behind_in(behind))
+    } else {
+        None
+    }
+}
+
+/// After the hero.
+fn goal_behind_hero(text: &[u8]) -> Option<Goal>
+    ensures { result ≡ goal_behind_hero (first_word text.now) }
+{
+    match goal_behind_to(text) {
+        Some(goal) => Some(goal),
+        None => goal_by_verb(text),
+    }
+}
+
+/// `White to win`, `Black to play and draw`, `White to mate in 3`, `White wins`: the whole text, or up to a colon or a full stop.
 #[tactic(auto, unfolding(crate::specs::Aims::aim_in))]
 pub fn aim_in(text: &[u8]) -> Option<Stipulation>
     ensures { result ≡ aim_in text.now }
 {
     let (word, behind) = next_word(text)?;
-    match (hero_of(word), goal_behind_to(behind)) {
+    match (hero_of(word), goal_behind_hero(behind)) {
         (Some(hero), Some(goal)) => Some(Stipulation { hero, goal }),
         _ => None,
     }
@@ -267,17 +305,12 @@ pub fn aim_of_outcome(outcome: Outcome) -> Stipulation
     Stipulation { hero, goal }
 }
 
-fn outcome_of_text(text: &[u8]) -> Option<Outcome>
-    ensures { result ≡ outcome_of_text text.now }
+fn outcome_said(said: Said) -> Option<Outcome>
+    ensures { result ≡ outcome_said said }
 {
-    if text == b"1-0".as_slice() {
-        Some(Outcome::WhiteWins)
-    } else if text == b"0-1".as_slice() {
-        Some(Outcome::BlackWins)
-    } else if text == b"1/2-1/2".as_slice() {
-        Some(Outcome::Drawn)
-    } else {
-        None
+    match said {
+        Said::Result(outcome) => Some(outcome),
+        _ => None,
     }
 }
 
@@ -286,7 +319,7 @@ fn outcome_of_text(text: &[u8]) -> Option<Outcome>
 pub fn outcome_of_tag(value: &[u8]) -> Option<Outcome>
     ensures { result ≡ outcome_of_tag value.now }
 {
-    outcome_of_text(trim_end(trim_start(value)))
+    outcome_said(say(trim_end(trim_start(value))))
 }
 
 /// The words for the source of a stipulation.
