@@ -61,7 +61,7 @@ test('games that were left out, and why', () => {
   assert.deepEqual(
     leftOut(['# game 7, line 66, column 17 (Kling, J.): BehindResult']).map(whyLeftOut), ['moves behind the result']);
   assert.deepEqual(
-    leftOut(['# game 8, line 70, column 8: Numbering']).map(whyLeftOut), ['a move number that does not fit']);
+    leftOut(['# game 8, line 70, column 8: Numbering at 3']).map(whyLeftOut), ['3: a move number that does not fit']);
   assert.equal(withoutAim(LINES), 1);
   assert.equal(importNote(LINES), '5 games, 2 studies. Left out: 3 games, each with its reason in the list.');
   assert.equal(importNote([...LINES.filter(line => !/^# games/.test(line)), '# games 3, studies 0']),

@@ -17,7 +17,7 @@ use Rattle.study_marks.specs.Edits.{is_printable}
 use Rattle.study_marks.specs.Study.{tag_name}
 use Rattle.study_command.specs.Parser.{Asks, command_of}
 use Rattle.study_reply.specs.Names.{fen_name, san_name}
-use Rattle.study_games.specs.Bytes.{is_blank, is_symbol_byte}
+use Rattle.study_games.specs.Bytes.{is_blank, is_digit, is_symbol_byte}
 use Rattle.study_games.specs.Tokens.{front, behind}
 use Rattle.study_games.specs.Words.{first_word, trimmed}
 use Rattle.study_games.specs.Header.{Pair, tags_of, value_of, unescaped}
@@ -38,7 +38,7 @@ use Rattle.study_import.specs.declared.aims.AimSource.TheVariants.{Comment, Stip
 use Rattle.study_import.specs.declared.notes.Notes.{Notes}
 use Rattle.study_import.specs.declared.places.Place.{Place}
 use Rattle.study_import.specs.Aims.{source_words}
-use Rattle.study_import.specs.Blocks.{Entry, Told, place_in, text_at, token_name, move_name, line_name, reason_name, stop_name, symbol_words, author_of, author_words, no_colon, left_out, place_words, fault_words, counts_words, counts_line, move_counts, counted_words, behind_line, six_names, shown, tag_text, was_of, was_line, head_line, remark_lines, other_tags, stopped_block, men_in, fen_words, at_most, last_line, tail_line}
+use Rattle.study_import.specs.Blocks.{Entry, Told, place_in, text_at, token_name, move_name, line_name, reason_name, stop_name, run_words, symbol_words, author_of, author_words, no_colon, left_out, place_words, fault_words, counts_words, counts_line, move_counts, counted_words, behind_line, six_names, shown, tag_text, was_of, was_line, head_line, remark_lines, other_tags, stopped_block, men_in, fen_words, at_most, last_line, tail_line}
 use Rattle.study_import.proofs.Ink.{Ink, decimal_ink, decimal_few}
 use Rattle.study_import.proofs.TagTexts.{short_prints, short_few}
 use Rattle.study_import.proofs.CommandLines.{remark_asked, empty_asked}
@@ -399,18 +399,22 @@ symbol_shows b e = elim (cases_lt b 32) [
   | inr high ↦ le-leb 32 b high
 ]
 
-front_shown : (text : List ℕ) → list_all shows (front is_symbol_byte text) ≡ true
-front_shown [] = refl
-front_shown (b ∷ bs) = elim (cases_Bool (is_symbol_byte b)) [
-  | inl is ↦ rw is (front_cons b bs (prefix_len is_symbol_byte bs) is (front_shown bs))
-  | inr other ↦ rw other refl
-]
-  where
-    one_up : (n : ℕ) → 1 + n ≡ suc n
-    one_up n = omega arith
+digit_shows : (b : ℕ) → is_digit b ≡ true → shows b ≡ true
+digit_shows b e = let low = leb-true 48 b (and_parts (nat_le 48 b) (nat_le b 57) e).0 in le-leb 32 b (omega (arith, low))
 
-    front_cons : (b : ℕ) (bs : List ℕ) (n : ℕ) → is_symbol_byte b ≡ true → list_all shows (take n bs) ≡ true → list_all shows (take (1 + n) (b ∷ bs)) ≡ true
-    front_cons b bs n is h = rw (one_up n) (and_from (shows b) (list_all shows (take n bs)) (symbol_shows b is) h)
+module _ (p : ℕ → Bool) (shown : (b : ℕ) → p b ≡ true → shows b ≡ true) where
+  front_shown : (text : List ℕ) → list_all shows (front p text) ≡ true
+  front_shown [] = refl
+  front_shown (b ∷ bs) = elim (cases_Bool (p b)) [
+    | inl is ↦ rw is (front_cons b bs (prefix_len p bs) is (front_shown bs))
+    | inr other ↦ rw other refl
+  ]
+    where
+      one_up : (n : ℕ) → 1 + n ≡ suc n
+      one_up n = omega arith
+
+      front_cons : (b : ℕ) (bs : List ℕ) (n : ℕ) → p b ≡ true → list_all shows (take n bs) ≡ true → list_all shows (take (1 + n) (b ∷ bs)) ≡ true
+      front_cons b bs n is h = rw (one_up n) (and_from (shows b) (list_all shows (take n bs)) (shown b is) h)
 
 shown_take : (n : ℕ) (xs : List ℕ) → list_all shows xs ≡ true → list_all shows (take n xs) ≡ true
 shown_take zero xs h = refl
@@ -422,16 +426,16 @@ few_taken zero xs = omega arith
 few_taken (suc n) [] = omega arith
 few_taken (suc n) (x ∷ xs) = omega (arith, few_taken n xs)
 
-at_symbol : (text : List ℕ) → IsPart 44 (codes " at " ++ take 40 (front is_symbol_byte text))
-at_symbol text =
-    joined 4 40 (codes " at ") (take 40 (front is_symbol_byte text)) (record { shown = refl; few = omega arith })
-    (record { shown = shown_take 40 (front is_symbol_byte text) (front_shown text); few = few_taken 40 (front is_symbol_byte text) })
+at_run : (p : ℕ → Bool) → ((b : ℕ) → p b ≡ true → shows b ≡ true) → (text : List ℕ) → IsPart 44 (run_words p text)
+at_run p shown text =
+    joined 4 40 (codes " at ") (take 40 (front p text)) (record { shown = refl; few = omega arith })
+    (record { shown = shown_take 40 (front p text) (front_shown p shown text); few = few_taken 40 (front p text) })
 
 none_part : IsPart 44 []
 none_part = record { shown = refl; few = omega arith }
 
 symbol_part : (why : Stop) (text : List ℕ) → IsPart 44 (symbol_words why text)
-symbol_part (stop.Taking (reason.Move (move_fault.San fault))) text = at_symbol text
+symbol_part (stop.Taking (reason.Move (move_fault.San fault))) text = at_run is_symbol_byte symbol_shows text
 symbol_part (stop.Taking (reason.Move move_fault.NoSuchNode)) text = none_part
 symbol_part (stop.Taking (reason.Move move_fault.TooDeep)) text = none_part
 symbol_part (stop.Taking (reason.Move move_fault.TreeFull)) text = none_part
@@ -441,7 +445,7 @@ symbol_part (stop.Taking reason.TagInMoves) text = none_part
 symbol_part (stop.Taking reason.NullMove) text = none_part
 symbol_part (stop.Token fault) text = none_part
 symbol_part stop.OpenVariation text = none_part
-symbol_part stop.Numbering text = none_part
+symbol_part stop.Numbering text = at_run is_digit digit_shows text
 symbol_part stop.BehindResult text = none_part
 
 pub stopped_lines : (e : Entry) (fault : MovesFault) → AreLines IsRemark (stopped_block e fault).text

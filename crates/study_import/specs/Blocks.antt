@@ -21,7 +21,7 @@ use Rattle.study_marks.specs.declared.tag.TagName.TheVariants as tag_named
 use Rattle.study_marks.specs.Study.{tag_name}
 use Rattle.study_marks.specs.Edits.{PlainStudy, is_printable}
 use Rattle.study_reply.specs.Names.{fen_name, san_name}
-use Rattle.study_games.specs.Bytes.{is_blank, is_letter, is_symbol_byte}
+use Rattle.study_games.specs.Bytes.{is_blank, is_letter, is_digit, is_symbol_byte}
 use Rattle.study_games.specs.Tokens.{front, behind}
 use Rattle.study_games.specs.Words.{first_word, trimmed}
 use Rattle.study_games.specs.Games.{Game, one_more}
@@ -116,9 +116,13 @@ stop_name stop.OpenVariation = codes "OpenVariation"
 stop_name stop.Numbering = codes "Numbering"
 stop_name stop.BehindResult = codes "BehindResult"
 
--- a move that cannot be read is reported with its symbol, 40 bytes at most
+abbrev pub run_words : (ℕ → Bool) → List ℕ → List ℕ
+run_words p text = codes " at " ++ take 40 (front p text)
+
+-- a move that cannot be read is reported with its symbol, and a number that does not fit with its digits, 40 bytes at most
 abbrev pub symbol_words : Stop → List ℕ → List ℕ
-symbol_words (stop.Taking (reason.Move (move_fault.San fault))) text = codes " at " ++ take 40 (front is_symbol_byte text)
+symbol_words (stop.Taking (reason.Move (move_fault.San fault))) text = run_words is_symbol_byte text
+symbol_words stop.Numbering text = run_words is_digit text
 symbol_words other text = []
 
 -- ---- lines of remarks

@@ -1,6 +1,7 @@
 //! The names of faults, and the lines that report them.
 ghost use Rattle.std.specs.Prelude.{◌≡◌, ◌++◌, OnOk};
-ghost use Rattle.study_import.specs.Blocks.{token_name, move_name, line_name, stop_name, symbol_words, left_out, no_study, fault_words, place_in};
+ghost use Rattle.study_games.specs.Runs.{is_in};
+ghost use Rattle.study_import.specs.Blocks.{token_name, move_name, line_name, stop_name, run_words, symbol_words, left_out, no_study, fault_words, place_in};
 ghost use Rattle.study_import.specs.Blocks.{text_at, entry_seen, stopped_block};
 ghost use Rattle.study_import.specs.BlocksRead.{is_of_memory, Adds};
 
@@ -16,7 +17,7 @@ use study_games::{Run, TokenFault, cut_run, shortened};
 use study_reply::Refusal;
 use study_text::Text;
 
-/// The number of bytes of a symbol that are printed.
+/// The number of bytes of a symbol or a number that are printed.
 const LONGEST_TOLD: usize = 40;
 
 pub fn token_name(fault: TokenFault) -> &'static [u8]
@@ -79,16 +80,22 @@ pub fn is_of_memory(why: Stop) -> bool
     }
 }
 
-/// Adds ` at SYMBOL`, if the fault is a move that cannot be read.
+/// Adds ` at RUN`, of the bytes of this kind at the front of the text.
+fn add_run<A: Allocator>(out: &mut Text<'_, A>, run: Run, text: &[u8]) -> Result<(), AllocError>
+    ensures { OnOk result (out.new ≡ out.old ++ run_words (is_in run) text.now) }
+{
+    let (bytes, _) = cut_run(run, text);
+    let told = shortened(bytes, LONGEST_TOLD);
+    add_pieces(out, &[Piece::Bytes(b" at "), Piece::Bytes(told)])
+}
+
+/// Adds ` at SYMBOL`, if the fault is a move that cannot be read or a number that does not fit.
 fn add_symbol<A: Allocator>(out: &mut Text<'_, A>, why: Stop, text: &[u8]) -> Result<(), AllocError>
     ensures { OnOk result (out.new ≡ out.old ++ symbol_words why text.now) }
 {
     match why {
-        Stop::Taking(Reason::Move(MoveFault::San(_))) => {
-            let (symbol, _) = cut_run(Run::Symbol, text);
-            let told = shortened(symbol, LONGEST_TOLD);
-            add_pieces(out, &[Piece::Bytes(b" at "), Piece::Bytes(told)])
-        }
+        Stop::Taking(Reason::Move(MoveFault::San(_))) => add_run(out, Run::Symbol, text),
+        Stop::Numbering => add_run(out, Run::Digits, text),
         _ => Ok(()),
     }
 }

@@ -48,21 +48,21 @@ const MISSING: &[u8] = b"[FEN \"8/8/8/4k3/8/4K3/4P3/8 w - - 0 1\"]
  . Kd5
 ";
 
-const MISSING_TOLD: &[u8] = b"# game 1, line 4, column 8: Numbering
+const MISSING_TOLD: &[u8] = b"# game 1, line 4, column 8: Numbering at 2
 
-# game 2, line 9, column 12: Numbering
+# game 2, line 9, column 12: Numbering at 2
 
-# game 3, line 14, column 1: Numbering
+# game 3, line 14, column 1: Numbering at 1
 
-# game 4, line 19, column 9: Numbering
+# game 4, line 19, column 9: Numbering at 2
 
-# game 5, line 24, column 17: Numbering
+# game 5, line 24, column 17: Numbering at 3
 
-# game 6, line 29, column 1: Numbering
+# game 6, line 29, column 1: Numbering at 1
 
-# game 7, line 34, column 1: Numbering
+# game 7, line 34, column 1: Numbering at 1234567890
 
-# game 8, line 39, column 8: Numbering
+# game 8, line 39, column 8: Numbering at 2
 
 # games 8, studies 0
 ";
