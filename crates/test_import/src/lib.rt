@@ -9,3 +9,5 @@ mod numbering;
 mod program;
 #[cfg(test)]
 mod tails;
+#[cfg(test)]
+mod typeset;
