@@ -112,7 +112,7 @@ export function promoteNode(lines, study, node, toFront = false) {
   };
 }
 /** @param {string} line */
-const isAimLine = line => /^ *stipulate +(white|black) +(win|draw|mate +\d+) *$/.test(line);
+export const isAimLine = line => /^ *stipulate +(white|black) +(win|draw|mate +\d+) *$/.test(line);
 /**
  * An earlier line of the study is changed in place; else one is added below the position and its stipulation, before
  * which there may be no study yet.
@@ -254,26 +254,6 @@ export function addStudy(lines, fen, aim, before) {
     ...lines, ...(lines.length && lines[lines.length - 1].trim() ? [''] : []), 'position ' + fen, 'stipulate ' + aim,
     ...anew
   ];
-}
-/**
- * Removes a study from the script, with the remarks above it, which are its own. What the next study takes over from it
- * becomes that one's own.
- * @param {string[]} lines
- * @param {Study[]} studies
- * @param {number} at
- * @returns {Change}
- */
-export function dropStudy(lines, studies, at) {
-  const study = studies[at], next = studies[at + 1], rest = {at: Math.max(at - 1, 0), path: 'root'};
-  const without = (/** @type {string[]} */ all) => splice(all, study.head, study.end - study.head);
-  if (!next) return {lines: without(lines), ...rest};
-  const isTaken = (/** @type {string} */ name) => next.place[name] === undefined && study.place[name] !== undefined;
-  const aim = next.aim && isTaken('aim') ? ['stipulate ' + aimWords(next.aim)] : [],
-        tags = TAGS.filter(name => next.tags[name] !== undefined && isTaken(name));
-  // tags come behind the stipulation, without which there can be no study yet
-  const behind = next.place.aim === undefined ? next.from + 1 : next.place.aim + 1,
-        tagged = splice(lines, behind, 0, ...tags.map(name => `tag ${name} ${next.tags[name]}`));
-  return {lines: without(splice(tagged, next.from + 1, 0, ...aim)), ...rest};
 }
 
 /**

@@ -1,10 +1,36 @@
 // @ts-check
-// Whole studies of a script: copied, moved up and down. Each is written so that it stands alone wherever it comes to.
-import {isKnown, unknown} from './edits.js';
-import {TAGS} from './script.js';
+// Whole studies of a script: copied, moved up and down, removed. Each is written so that it stands alone wherever it
+// comes to.
+import {isAimLine, isKnown, unknown} from './edits.js';
+import {TAGS, isEdit, isQuestion, wordsOf} from './script.js';
 import {aimWords} from './words.js';
 /** @typedef {import('./types.js').Study} Study @typedef {import('./types.js').Change} Change */
 
+/**
+ * The lines of a study from its position on, with a stipulation above all that needs one: the study's own, if only tags
+ * stand above it, else the one that it takes over.
+ * @param {string[]} lines
+ * @param {Study} study
+ */
+function stipulatedFirst(lines, study) {
+  const [position, ...own] = lines.slice(study.from, study.end), at = own.findIndex(isAimLine);
+  const above = own.slice(0, Math.max(at, 0)).filter(line => isEdit(line) || isQuestion(line));
+  const taken = study.place.aim === undefined ? study.aim && 'stipulate ' + aimWords(study.aim)
+                                              : above.length > 0 && study.carried.find(isAimLine);
+  if (!taken) return [position, ...own];
+  if (above.length && above.every(line => wordsOf(line)[0] === 'tag'))
+    return [position, own[at], ...own.slice(0, at), ...own.slice(at + 1)];
+  return [position, taken, ...own];
+}
+/**
+ * The same with these lines behind the stipulation, above which there may be no study yet.
+ * @param {string[]} own
+ * @param {string[]} more
+ */
+function withTags(own, more) {
+  const behind = own.findIndex(isAimLine) + 1 || 1;
+  return [...own.slice(0, behind), ...more, ...own.slice(behind)];
+}
 /**
  * The lines of a study with all that it takes over from earlier ones, and without what it would take over elsewhere.
  * @param {string[]} lines
@@ -12,13 +38,11 @@ import {aimWords} from './words.js';
  * @param {string[]} names      the tags that some study has
  */
 function selfContained(lines, study, names) {
-  const own = lines.slice(study.head, study.end), at = study.from - study.head + 1;
+  const own = stipulatedFirst(lines, study);
   while (own.length && !own[own.length - 1].trim()) own.pop();
-  const aim = study.aim && study.place.aim === undefined ? ['stipulate ' + aimWords(study.aim)] : [];
   const tags = names.filter(name => study.place[name] === undefined)
                  .map(name => `tag ${name} ${isKnown(study.tags[name]) ? study.tags[name] : unknown(name)}`);
-  const behind = study.place.aim === undefined ? at : study.place.aim - study.head + 1;
-  return [...own.slice(0, at), ...aim, ...own.slice(at, behind), ...tags, ...own.slice(behind)];
+  return [...lines.slice(study.head, study.from), ...withTags(own, tags)];
 }
 /**
  * The lines of entries behind a study whose positions were refused, which go with it.
@@ -63,4 +87,23 @@ export function moveStudy(lines, studies, at, by) {
   if (to < 0 || to >= studies.length) return null;
   [order[at], order[to]] = [order[to], order[at]];
   return {lines: inOrder(lines, studies, order), at: to};
+}
+/**
+ * Removes a study from the script, with the remarks above it, which are its own. What the next study takes over from it
+ * becomes that one's own.
+ * @param {string[]} lines
+ * @param {Study[]} studies
+ * @param {number} at
+ * @returns {Change}
+ */
+export function dropStudy(lines, studies, at) {
+  const study = studies[at], next = studies[at + 1], rest = {at: Math.max(at - 1, 0), path: 'root'};
+  const without = (/** @type {string[]} */ all) => [...all.slice(0, study.head), ...all.slice(study.end)];
+  if (!next) return {lines: without(lines), ...rest};
+  const tags = TAGS
+                 .filter(name => next.tags[name] !== undefined && next.place[name] === undefined &&
+                     study.place[name] !== undefined)
+                 .map(name => `tag ${name} ${next.tags[name]}`);
+  const own = study.place.aim === undefined ? lines.slice(next.from, next.end) : stipulatedFirst(lines, next);
+  return {lines: without([...lines.slice(0, next.from), ...withTags(own, tags), ...lines.slice(next.end)]), ...rest};
 }

@@ -3,8 +3,8 @@
 import {button, h, smallButton} from './dom.js';
 import {change, goStudy} from './actions.js';
 import {app, doc} from './state.js';
-import {dropStudy, tidy} from './edits.js';
-import {copyStudy, moveStudy} from './study_edits.js';
+import {tidy} from './edits.js';
+import {copyStudy, dropStudy, moveStudy} from './study_edits.js';
 import {byCause, numbersOf, unreadIn} from './entries.js';
 import {table} from './review_view.js';
 import {messageAt} from './head_view.js';

@@ -1,7 +1,7 @@
 // Entries, their stamps and the list as a file; whole studies copied and moved; diagrams turned with their moves.
 import test from 'node:test';
 import assert from 'node:assert/strict';
-import {dropStudy, setTag} from '../src/edits.js';
+import {setTag} from '../src/edits.js';
 import {
   byCause,
   countsOf,
@@ -15,8 +15,8 @@ import {
   studyName
 } from '../src/entries.js';
 import {readReview, readReviews} from '../src/parse_answers.js';
-import {readScript} from '../src/script.js';
-import {copyStudy, moveStudy} from '../src/study_edits.js';
+import {assumeAccepted, readScript} from '../src/script.js';
+import {copyStudy, dropStudy, moveStudy} from '../src/study_edits.js';
 import {insertions, isTurn, legalPart, turnedAim, turnedFen, turnedSan, turnedTree} from '../src/turning.js';
 
 const FEN = '7K/8/k1P5/7p/8/8/8/8 w - - 0 1',
@@ -164,6 +164,21 @@ test('a study that is moved takes its tags behind its stipulation', () => {
           ['position ' + FEN, 'stipulate White to win', 'tag White', 'position ' + FEN, 'stipulate White to draw']);
   const first = moveStudy(lines, [...script.studies.slice(0, 1), {...script.studies[1], tags: {White: 'B'}}], 1, -1);
   assert.deepEqual(first.lines.slice(0, 3), ['position ' + FEN, 'stipulate white draw', 'tag White B']);
+});
+test('a study whose tags stand above its stipulation can come first', () => {
+  const lines = [
+    'position ' + FEN, 'stipulate white win', 'tag White A', '', '# why', 'position ' + FEN, 'tag Event B', '# note',
+    'stipulate white draw', 'insert root Kg3', '', 'position ' + FEN, 'mark root', 'stipulate white mate 3'
+  ];
+  const {studies} = assumeAccepted(lines), second = ['tag White A', 'tag Event B', '# note', 'insert root Kg3'];
+  const moved = moveStudy(lines, studies, 1, -1).lines, dropped = dropStudy(lines, studies, 0).lines;
+  assert.deepEqual(moved.slice(0, 3), ['# why', 'position ' + FEN, 'stipulate white draw']);
+  assert.deepEqual(moved.slice(3, 7), second);
+  assert.deepEqual(dropped.slice(0, 7), ['# why', 'position ' + FEN, 'stipulate white draw', ...second]);
+  assert.deepEqual(moveStudy(lines, studies, 2, -1).lines.slice(5, 11),
+    ['position ' + FEN, 'stipulate white draw', 'tag Event B', 'tag White A', 'mark root', 'stipulate white mate 3']);
+  assert.deepEqual(dropStudy(lines, studies.slice(1), 0).lines.slice(-5),
+    ['position ' + FEN, 'stipulate white draw', 'tag Event B', 'mark root', 'stipulate white mate 3']);
 });
 test('a position that was refused ends the study before it, and what carries over', () => {
   const lines = [

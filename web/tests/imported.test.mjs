@@ -13,8 +13,7 @@ import {
   whyLeftOut,
   withoutAim
 } from '../src/imported.js';
-import {dropStudy} from '../src/edits.js';
-import {copyStudy} from '../src/study_edits.js';
+import {copyStudy, dropStudy} from '../src/study_edits.js';
 import {savedGames} from '../src/notes.js';
 import {readScript, assumeAccepted} from '../src/script.js';
 
