@@ -51,7 +51,7 @@ const CARRIED = ' (set for an earlier study)';
  */
 function listedName(doc, s, name) {
   const text = nameOf(s, name);
-  if (!isCarried(s, name)) return text;
+  if (text && !isCarried(s, name)) return text;
   const own = refusedIn(doc, s, line => (tagIn(line) || [])[1] === name), m = own && tagIn(own.text);
   return m ? m[2] : text && text + CARRIED;
 }

@@ -15,12 +15,12 @@ import {aimWords} from './words.js';
 function stipulatedFirst(lines, study) {
   const [position, ...own] = lines.slice(study.from, study.end), at = own.findIndex(isAimLine);
   const above = own.slice(0, Math.max(at, 0)).filter(line => isEdit(line) || isQuestion(line));
-  const taken = study.place.aim === undefined ? study.aim && 'stipulate ' + aimWords(study.aim)
-                                              : above.length > 0 && study.carried.find(isAimLine);
-  if (!taken) return [position, ...own];
+  const aim = study.place.aim === undefined ? study.aim && 'stipulate ' + aimWords(study.aim)
+                                            : above.length > 0 && study.carried.find(isAimLine);
+  if (!aim) return [position, ...own];
   if (above.length && above.every(line => wordsOf(line)[0] === 'tag'))
     return [position, own[at], ...own.slice(0, at), ...own.slice(at + 1)];
-  return [position, taken, ...own];
+  return [position, aim, ...own];
 }
 /**
  * The same with these lines behind the stipulation, above which there may be no study yet.
@@ -32,6 +32,16 @@ function withTags(own, more) {
   return [...own.slice(0, behind), ...more, ...own.slice(behind)];
 }
 /**
+ * A line that sets a tag to what an earlier study left; to nothing, where the study's own text was refused.
+ * @param {string[]} lines
+ * @param {Study} study
+ * @param {string} name
+ */
+function taken(lines, study, name) {
+  const isOwn = lines.slice(study.from, study.end).some(line => wordsOf(line).slice(0, 2).join(' ') === 'tag ' + name);
+  return `tag ${name} ${isKnown(study.tags[name]) && !isOwn ? study.tags[name] : unknown(name)}`;
+}
+/**
  * The lines of a study with all that it takes over from earlier ones, and without what it would take over elsewhere.
  * @param {string[]} lines
  * @param {Study} study
@@ -40,8 +50,7 @@ function withTags(own, more) {
 function selfContained(lines, study, names) {
   const own = stipulatedFirst(lines, study);
   while (own.length && !own[own.length - 1].trim()) own.pop();
-  const tags = names.filter(name => study.place[name] === undefined)
-                 .map(name => `tag ${name} ${isKnown(study.tags[name]) ? study.tags[name] : unknown(name)}`);
+  const tags = names.filter(name => study.place[name] === undefined).map(name => taken(lines, study, name));
   return [...lines.slice(study.head, study.from), ...withTags(own, tags)];
 }
 /**
@@ -67,14 +76,14 @@ function inOrder(lines, studies, order) {
   return [...lines.slice(0, studies[0].head), ...blocks.flatMap((block, i) => (i ? ['', ...block] : block))];
 }
 /**
- * One more of the same, behind it.
+ * One more of the same, behind it; its refused lines too.
  * @param {string[]} lines
  * @param {Study[]} studies
  * @param {number} at
  * @returns {Change}
  */
 export const copyStudy = (lines, studies, at) =>
-  ({lines: inOrder(lines, studies, [...studies.slice(0, at + 1), ...studies.slice(at)]), at: at + 1});
+  ({lines: inOrder(lines, studies, [...studies.slice(0, at + 1), ...studies.slice(at)]), at: at + 1, lenient: true});
 /**
  * @param {string[]} lines
  * @param {Study[]} studies
@@ -100,10 +109,14 @@ export function dropStudy(lines, studies, at) {
   const study = studies[at], next = studies[at + 1], rest = {at: Math.max(at - 1, 0), path: 'root'};
   const without = (/** @type {string[]} */ all) => [...all.slice(0, study.head), ...all.slice(study.end)];
   if (!next) return {lines: without(lines), ...rest};
-  const tags = TAGS
-                 .filter(name => next.tags[name] !== undefined && next.place[name] === undefined &&
-                     study.place[name] !== undefined)
-                 .map(name => `tag ${name} ${next.tags[name]}`);
+  const left = TAGS.filter(
+    name => next.tags[name] !== undefined && next.place[name] === undefined && study.place[name] !== undefined);
   const own = study.place.aim === undefined ? lines.slice(next.from, next.end) : stipulatedFirst(lines, next);
-  return {lines: without([...lines.slice(0, next.from), ...withTags(own, tags), ...lines.slice(next.end)]), ...rest};
+  return {
+    lines: without([
+      ...lines.slice(0, next.from), ...withTags(own, left.map(name => taken(lines, next, name))),
+      ...lines.slice(next.end)
+    ]),
+    ...rest
+  };
 }

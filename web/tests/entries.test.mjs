@@ -180,6 +180,22 @@ test('a study whose tags stand above its stipulation can come first', () => {
   assert.deepEqual(dropStudy(lines, studies.slice(1), 0).lines.slice(-5),
     ['position ' + FEN, 'stipulate white draw', 'tag Event B', 'mark root', 'stipulate white mate 3']);
 });
+test('a study whose own author was refused is signed by no other one where it comes to', () => {
+  const lines = [
+    'position ' + FEN, 'stipulate white win', 'tag White A', '', 'position ' + FEN, 'stipulate white draw',
+    'tag White R\u00e9ti'
+  ];
+  const read = texts => readScript(texts, texts.map((text, line) => ({text, line})),
+    texts.map(text => (/ti$/.test(text)          ? 'error BadByte'
+                  : text.startsWith('stipulate') ? text.replace('white', 'White to')
+                                                 : text)));
+  for (const edit of [moveStudy(lines, read(lines).studies, 1, -1), dropStudy(lines, read(lines).studies, 0)]) {
+    const script = read(edit.lines), [first] = script.studies;
+    assert.equal(first.tags.White, '?');
+    assert.equal(entriesOf({...script, at: 0}, [])[0].author, 'R\u00e9ti');
+  }
+  assert.equal(copyStudy(lines, read(lines).studies, 1).lenient, true);
+});
 test('a position that was refused ends the study before it, and what carries over', () => {
   const lines = [
     'position ' + FEN, 'stipulate white win', 'tag White Kling', 'insert root Kb2', '', '# White was: Léger',
