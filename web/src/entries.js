@@ -18,7 +18,7 @@ import {aimText, reason} from './words.js';
  */
 
 /**
- * A tag's text in its own letters, or nothing where it is not known.
+ * A tag's text in its own letters, also where its line was refused, or nothing where it is not known.
  * @param {Study} s
  * @param {string} name
  */
@@ -28,7 +28,7 @@ export const nameOf = (s, name) => s.originals[name] || (isKnown(s.tags[name]) ?
  * @param {Study} s
  * @param {string} name
  */
-const isCarried = (s, name) => s.place[name] === undefined && !s.originals[name];
+export const isCarried = (s, name) => s.place[name] === undefined && !s.originals[name];
 /**
  * Title and author, or the men; no other study's.
  * @param {Study} s
@@ -43,17 +43,13 @@ export const studyName =
 export const isAimCarried = s => s.aim !== null && s.place.aim === undefined;
 const CARRIED = ' (set for an earlier study)';
 /**
- * The text of a tag in the list: that of its own line, also where it was refused; one that an earlier study left is not
- * given as this one's.
- * @param {Doc} doc
+ * The text of a tag in the list; one that an earlier study left is said to be so.
  * @param {Study} s
  * @param {string} name
  */
-function listedName(doc, s, name) {
+function listedName(s, name) {
   const text = nameOf(s, name);
-  if (text && !isCarried(s, name)) return text;
-  const own = refusedIn(doc, s, line => (tagIn(line) || [])[1] === name), m = own && tagIn(own.text);
-  return m ? m[2] : text && text + CARRIED;
+  return text && isCarried(s, name) ? text + CARRIED : text;
 }
 /** @param {string} line */
 const tagIn = line => /^ *tag +(\w+) +(.*?) *$/.exec(line);
@@ -231,8 +227,8 @@ export function entriesOf(doc, reviews = []) {
       at,
       number: numbers[at],
       kind,
-      title: listedName(doc, s, 'Event') || control(s.fen),
-      author: listedName(doc, s, 'White'),
+      title: listedName(s, 'Event') || control(s.fen),
+      author: listedName(s, 'White'),
       fen: s.fen,
       aim: s.aim ? aimText(s.aim) + (isAimCarried(s) ? CARRIED : '') : '',
       stamp: text,

@@ -5,7 +5,7 @@ import {change} from './actions.js';
 import {UNTITLED} from './core_words.js';
 import {app, services, say} from './state.js';
 import {isDate, isKnown, setTag, stipulate, wholeDate} from './edits.js';
-import {isAimCarried, nameOf} from './entries.js';
+import {isAimCarried, isCarried, nameOf} from './entries.js';
 import {plainText} from './opening.js';
 import {guess} from './setup.js';
 import {typedOr} from './node_view.js';
@@ -29,16 +29,17 @@ export function headView(s) {
   const by = [nameOf(s, 'White'), nameOf(s, 'Site'), isKnown(year) && year, isKnown(t.Round) && 'entry ' + t.Round]
                .filter(Boolean)
                .join(' · ');
-  const old = Object.keys(t).filter(name => s.place[name] === undefined && isKnown(t[name]));
+  const old = Object.keys(t).filter(name => isCarried(s, name) && isKnown(t[name]));
   return [
-    h('h1', {}, isKnown(t.Event) ? nameOf(s, 'Event') : UNTITLED), by && h('p', {class: 'by'}, by),
+    h('h1', {}, nameOf(s, 'Event') || UNTITLED), by && h('p', {class: 'by'}, by),
     old.length > 0 &&
       h('p', {class: 'note'}, `Set for an earlier study and not since: ${old.map(name => LABELS[name]).join(', ')}. `,
         h('button',
           {class: 'chip act', id: 'clearOld', title: 'not known for this study', onclick: () => clearTags(old)},
           'Clear')),
     h('div', {class: 'row'}, aimView(s.aim, setAim, 'aim'), h('span', {class: 'note'}, app.counts)),
-    s.aim && isAimCarried(s) && carriedAim(s.aim), s.place.Date !== undefined && dateNote(t.Date), messageAt('head'),
+    s.aim && isAimCarried(s) && carriedAim(s.aim), s.place.Date !== undefined && dateNote(t.Date), lettersNote(s),
+    messageAt('head'),
     h('details', {
       id: 'tags',
       open: open.tags,
@@ -74,6 +75,18 @@ function dateNote(date) {
     h('button', {class: 'chip act', id: 'mendDate', onclick: write}, known ? `Write ${whole}` : 'Change it'));
 }
 /**
+ * A text that a script by hand has in other letters than it may have.
+ * @param {Study} s
+ */
+function lettersNote({originals, place, tags}) {
+  const isSet = (/** @type {string} */ name) => place[name] !== undefined && isKnown(tags[name]);
+  const name = TAGS.find(tag => /[^ -~]/.test(originals[tag] || '') && !isSet(tag));
+  return name &&
+    h('p', {class: 'note'}, `${originals[name]}: a script has plain letters alone. `,
+      h('button', {class: 'chip act', id: 'mendLetters', onclick: () => changeTag(name, originals[name])},
+        'Write it in plain letters'));
+}
+/**
  * Tags that an earlier study left are not known for this one.
  * @param {string[]} names
  */
@@ -105,7 +118,7 @@ async function changeTag(name, typed) {
     Object.assign(app.say || {}, {field: 'tagDate', typed});
     return services.show();
   }
-  const original = name !== 'Date' && plain !== typed ? typed.slice(0, 80) : '';
+  const original = name !== 'Date' && plain !== typed ? typed.slice(0, 200) : '';
   await change(
     now => (now.studies[now.at] ? setTag(now.lines, now.studies[now.at], name, text, original) : null), 'head');
   if (app.history === before && app.say) Object.assign(app.say, {field: 'tag' + name, typed});

@@ -140,3 +140,16 @@ export function originalsIn(remarks) {
   const found = /** @type {RegExpExecArray[]} */ (remarks.map(line => ORIGINAL.exec(line)).filter(Boolean));
   return Object.fromEntries(found.map(m => [m[1], m[2].trim()]));
 }
+/**
+ * A study has the text of its own tag line that was refused, and not what an earlier study left.
+ * @param {import('./types.js').Script} script
+ */
+export function withRefusedTags({studies, refused}) {
+  let at = 0;
+  for (const {line, text} of refused) {
+    while (at < studies.length && studies[at].end <= line) at++;
+    const study = studies[at], [, name, own] = /^ *tag +(Event|White|Black|Site|Date|Round) +(.*?) *$/.exec(text) || [];
+    if (name && study && study.from < line && (study.place[name] === undefined || study.tags[name] === '?'))
+      study.originals[name] = own.replace(/[\0-\x1f\x7f]/g, ' ');
+  }
+}

@@ -1,7 +1,7 @@
 // @ts-check
 // The script is the document: lines of edits, run from the first to the last. Here its replies become studies.
 import {aimText, aimWords} from './words.js';
-import {leftOutBy, originalsIn} from './imported.js';
+import {leftOutBy, originalsIn, withRefusedTags} from './imported.js';
 import {readStipulation} from './parse_answers.js';
 /** @typedef {import('./types.js').Script} Script @typedef {import('./types.js').Study} Study */
 /** @typedef {import('./types.js').Aim} Aim */
@@ -107,6 +107,7 @@ export function readScript(lines, sent, replies) {
   script.studies.forEach((study, i) => {
     study.end = endOf(script, study, script.studies[i + 1] ? script.studies[i + 1].head : lines.length);
   });
+  withRefusedTags(script);
   return script;
 }
 /**

@@ -112,7 +112,8 @@ export function show() {
   put('here', !app.setup && s && n && hereView(s, n));
   for (const id of ['head', 'verdict', 'mend']) $(id).hidden = Boolean(app.setup);
   for (const id of ['tree', 'review', 'texts']) $(id).hidden = Boolean(anew && s);
-  part('head', [s && JSON.stringify([s.fen, s.aim, s.tags, Object.keys(s.place)]), app.counts, ...saying()],
+  part('head',
+    [s && JSON.stringify([s.fen, s.aim, s.tags, s.originals, Object.keys(s.place)]), app.counts, ...saying()],
     () => s && headView(s));
   put('welcome', (!s || anew) && welcomeView());
   if (isNew('tree', [s, app.view !== null])) showTree(s);

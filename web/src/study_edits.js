@@ -33,14 +33,11 @@ function withTags(own, more) {
 }
 /**
  * A line that sets a tag to what an earlier study left; to nothing, where the study's own text was refused.
- * @param {string[]} lines
  * @param {Study} study
  * @param {string} name
  */
-function taken(lines, study, name) {
-  const isOwn = lines.slice(study.from, study.end).some(line => wordsOf(line).slice(0, 2).join(' ') === 'tag ' + name);
-  return `tag ${name} ${isKnown(study.tags[name]) && !isOwn ? study.tags[name] : unknown(name)}`;
-}
+const taken = ({tags, originals}, name) =>
+  `tag ${name} ${isKnown(tags[name]) && !originals[name] ? tags[name] : unknown(name)}`;
 /**
  * The lines of a study with all that it takes over from earlier ones, and without what it would take over elsewhere.
  * @param {string[]} lines
@@ -50,7 +47,7 @@ function taken(lines, study, name) {
 function selfContained(lines, study, names) {
   const own = stipulatedFirst(lines, study);
   while (own.length && !own[own.length - 1].trim()) own.pop();
-  const tags = names.filter(name => study.place[name] === undefined).map(name => taken(lines, study, name));
+  const tags = names.filter(name => study.place[name] === undefined).map(name => taken(study, name));
   return [...lines.slice(study.head, study.from), ...withTags(own, tags)];
 }
 /**
@@ -113,10 +110,8 @@ export function dropStudy(lines, studies, at) {
     name => next.tags[name] !== undefined && next.place[name] === undefined && study.place[name] !== undefined);
   const own = study.place.aim === undefined ? lines.slice(next.from, next.end) : stipulatedFirst(lines, next);
   return {
-    lines: without([
-      ...lines.slice(0, next.from), ...withTags(own, left.map(name => taken(lines, next, name))),
-      ...lines.slice(next.end)
-    ]),
+    lines: without(
+      [...lines.slice(0, next.from), ...withTags(own, left.map(name => taken(next, name))), ...lines.slice(next.end)]),
     ...rest
   };
 }

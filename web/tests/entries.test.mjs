@@ -189,6 +189,7 @@ test('a study whose own author was refused is signed by no other one where it co
     texts.map(text => (/ti$/.test(text)          ? 'error BadByte'
                   : text.startsWith('stipulate') ? text.replace('white', 'White to')
                                                  : text)));
+  assert.equal(read(lines).studies[1].originals.White, 'R\u00e9ti');
   for (const edit of [moveStudy(lines, read(lines).studies, 1, -1), dropStudy(lines, read(lines).studies, 0)]) {
     const script = read(edit.lines), [first] = script.studies;
     assert.equal(first.tags.White, '?');
