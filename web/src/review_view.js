@@ -184,7 +184,8 @@ function byWorth(s, n, list) {
 function missingView(s, n, list) {
   const sorted = byWorth(s, n, list),
         view = (/** @type {Missing} */ d) => [defenceView(s, n, d), ' ',
-          d.count === 1 ? h('i', {}, d.answer) : h('small', {}, answersText(d.count)), '; '];
+          d.count === 1 ? h('i', {}, d.answer) : h('small', {}, answersText(d.count)),
+          d === sorted[sorted.length - 1] ? '' : '; '];
   const rest = sorted.slice(FIRST),
         more =
           h('button', {class: 'chip act more', onclick: () => more.replaceWith(...rest.flatMap(d => view(d)).flat())},

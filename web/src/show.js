@@ -105,8 +105,8 @@ export function show() {
   $('sayBoard').hidden = !said;
   $('sayBoard').className = said && said.good ? 'say good' : 'say';
   $('sayBoard').textContent = said ? said.text : '';
-  put('import', importView());
   const anew = app.setup && app.setup.anew;
+  put('import', !anew && importView());
   put('setup', app.setup && setupView());
   put('nav', !app.setup && n && navView(n));
   put('here', !app.setup && s && n && hereView(s, n));
