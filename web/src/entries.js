@@ -178,8 +178,9 @@ function leftOutAt(lines, line) {
   if (!game) return [];
   const end = lines.findIndex((text, at) => at > line && !text.startsWith('#'));
   const {Event = '', White = ''} = originalsIn(lines.slice(line, end < 0 ? undefined : end));
-  const place = `game ${game.game} of the PGN, line ${game.line}`;
-  return [missing(line, Event ? `${Event} (${place})` : place, White || game.author, whyLeftOut(game))];
+  const place = `line ${game.line}`,
+        title = Event ? `${Event} (game ${game.game}, ${place})` : `game ${game.game} of the PGN, ${place}`;
+  return [missing(line, title, White || game.author, whyLeftOut(game))];
 }
 /**
  * @param {number} line

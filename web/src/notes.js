@@ -1,8 +1,9 @@
 // @ts-check
 // What a PGN says beside its moves - comments, NAGs, tags that a script has no place for - kept as remarks of the
 // script, each at the moves that lead to it, and written into the saved PGN again where these moves still stand there.
+import {HOLDS_STAMP} from './core_words.js';
 import {isKnown} from './edits.js';
-import {unreadIn} from './entries.js';
+import {hasSolution, unreadIn} from './entries.js';
 import {TAGS} from './script.js';
 /** @typedef {import('./types.js').Study} Study @typedef {import('./types.js').Script} Script */
 
@@ -160,8 +161,10 @@ export function remarksOf(game) {
 }
 const VERDICT = /^(White|Black) to (win|draw|mate in \d+): /,
       OURS = /^(draw|mate|(White|Black) mates in \d+)(; dual \d+)?$/;
+/** What is said in a game behind `sound`, which is no verdict on a solution then. */
+const NO_MOVE = `${HOLDS_STAMP}: no move of the solution is given`;
 /** @param {string} comment */
-const isOurs = comment => VERDICT.test(comment) || OURS.test(comment);
+const isOurs = comment => VERDICT.test(comment) || OURS.test(comment) || comment === NO_MOVE;
 /** @param {string} movetext */
 const isOwn = movetext => VERDICT.test(oneLine((/\{([^}]*)\}/.exec(movetext) || [])[1] || ''));
 
@@ -231,13 +234,15 @@ function wrap(text) {
 
 /**
  * A study's games as they are saved: names in their own letters, what a PGN said beside the moves, and that it was not
- * read to its end.
+ * read to its end, or has no solution.
  * @param {Script} script
  * @param {Study} study
  */
 function gamesOfStudy(script, study) {
   const unread = unreadIn(script, study).replace(/[{}]/g, ''),
-        remarks = script.lines.slice(study.head, study.from).concat(unread && `# note -: ${unread}`);
+        empty = study.verdict === 'sound' && !hasSolution(script.lines, study, null),
+        said = unread || (empty ? NO_MOVE : ''),
+        remarks = script.lines.slice(study.head, study.from).concat(said && `# note -: ${said}`);
   return study.games.map(game => withNotes(inOwnLetters(study, game), remarks));
 }
 /** @param {Script} script */

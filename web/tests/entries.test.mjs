@@ -61,7 +61,7 @@ test('a game that was left out has its title and its author, where remarks behin
   const rows =
     entriesOf({...readScript(lines, [], []), at: 0, path: 'root', name: '', id: 'x', note: '', judged: true});
   assert.deepEqual(rows.map(r => [r.title, r.author, r.stamp]), [
-    ['A "prize" (game 2 of the PGN, line 9)', 'Kasparyan, G.', 'left out: 7 men'],
+    ['A "prize" (game 2, line 9)', 'Kasparyan, G.', 'left out: 7 men'],
     ['game 3 of the PGN, line 20', 'Réti', 'left out: Kh9: no legal move of this position'],
     ['game 4 of the PGN, line 31', '', 'left out: 6 men']
   ]);

@@ -2,6 +2,7 @@
 import test from 'node:test';
 import assert from 'node:assert/strict';
 import {gamesIn, namesOf, notesMoved, remarksOf, savedGames, withNotes} from '../src/notes.js';
+import {readScript} from '../src/script.js';
 
 const GAME = `[Event "Rigaer Tageblatt"]
 [White "Reti"]
@@ -72,6 +73,13 @@ test('what is written is read and written again the same', () => {
         text = withNotes(dual, remarksOf(GAME));
   assert.ok(text.replace(/\s+/g, ' ').includes('2. Kf3 {White mates in 27; dual 2} $1 1-0'), text);
   assert.equal(withNotes(dual, remarksOf(text)), text);
+});
+test('a study without a move of the hero is not saved as sound alone', () => {
+  const position = 'position 8/8/8/6k1/8/8/1P5K/8 w - - 0 1', lines = [position, 'stipulate white win', 'pgn'],
+        replies = [position, 'stipulate White to win', '[Event "?"]\n\n{White to win: sound, draw} 1-0\n\n'];
+  const saved = savedGames(readScript(lines, lines.map((text, line) => ({text, line})), replies));
+  assert.ok(saved.includes('{White to win: sound, draw} {holds: no move of the solution is given} 1-0'), saved);
+  assert.deepEqual(remarksOf(saved), []);
 });
 test('a study that was not read to its end says so where it is saved', () => {
   const script = {

@@ -74,7 +74,7 @@ def test_ten_entries_are_ten_rows(user):
     ] == "sound sound left left holds left unsound left wrong sound".split(), list_
     assert list_[0][2] == "Réti, Richard" and list_[1][2] == "Троицкий"
     assert "Kh9" in list_[2][4] and "6 men" in list_[3][4] and "null move" in list_[5][4], list_
-    assert list_[2][2] == "A" and list_[2][1].startswith("Three (game 3 of") and list_[3][2] == "B", list_
+    assert list_[2][2] == "A" and list_[2][1].startswith("Three (game 3, line") and list_[3][2] == "B", list_
     note = user.text("import")
     assert (
         "10 games, 6 studies. Left out: 4 games" in note and "Not kept of this PGN: 1 null move." in note
