@@ -35,7 +35,7 @@ const closed = new Set();
 /**
  * @param {string} id
  * @param {string} title
- * @param {string | null} note
+ * @param {any} note      a text, or parts of one
  * @param {any} body
  */
 function section(id, title, note, body) {
@@ -136,8 +136,10 @@ function defencesView(s, review, root) {
     'lasts at least as long as the longest that is given. ';
   const draws = 'After a defence with = it stays a draw; after one with a small number ' +
     `${hero} even mates, in so many moves. `;
-  const note =
-    (aim ? (aim.goal === 'draw' ? draws : mates) : '') + 'A press adds it, with its answer where only one holds.';
+  const note = [
+    aim && (aim.goal === 'draw' ? draws : mates),
+    h('span', {class: 'act'}, 'A press adds it, with its answer where only one holds.')
+  ];
   const single = review.missing.filter(d => d.count === 1).length;
   return rows.length > 0 && section('defences', TITLES.defences, note, [
     single > 1 &&
